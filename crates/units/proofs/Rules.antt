@@ -1,0 +1,143 @@
+-- The statements of `specs/Rules.antt`. The two on the table rest on one computed test each. Assumes nothing.
+use mathlib.Core.Path.{_≡_, refl, sym, ap, subst, _∙_}
+use mathlib.Core.Bool.{Bool, true, false, _&&_, cond, true≢false, false≢true}
+use mathlib.Core.List.{List, [], _∷_, _++_}
+use Prim.Native.Nat.{ℕ, zero, suc, _+_, _*_, _/_, _≤_, _<_}
+use native.Mathlib.Nat.{not-suc-le-zero, le-of-suc-le-suc}
+use native.Mathlib.Omega.{arith}
+use lib.Dec.{eqb, leb, ltb}
+use lib.ListN.{length, getD, List·getD-eq-default, List·getD-append}
+use lib.Seq.{getD-append-add}
+use borrow.Author.Tests.{eqb-true, leb-true, ltb-true, ltb-false, eq-eqb, ne-eqb}
+use Rattle.units.specs.declared.Address.{Address}
+use Rattle.units.specs.declared.Sector.{Sector}
+use Rattle.units.specs.declared.Block.{Block}
+use Rattle.units.specs.declared.Range.{Range}
+use Rattle.units.specs.Kinds.{sectorOf, blockOf, pageStart, blockOfSector}
+use Rattle.units.specs.Models.{Part, models, kh25l512, kh25l2006e, find, partOf, modelOf, rangeOf, range}
+use Rattle.units.specs.Rules.{Whole, RowRules, Guards, RangeRules, PageInBlock, SectorInBlock, BlockOfSector, Inside, UnitsInside}
+use Rattle.units.proofs.Table.{both, every, at, found}
+
+-- the row's test
+rowTest : Part → Bool
+rowTest p =
+    eqb (p .row .length) (4096 * p .row .sectors)
+    && (eqb (p .row .length) (65536 * p .row .blocks) && (leb 65536 (p .row .length) && leb (p .row .length) 16777216))
+
+pub row-rules : RowRules
+unfolding partOf rowTest
+row-rules n =
+    let t = found rowTest n kh25l512 models refl refl in
+    let a = both (eqb (modelOf n .length) (4096 * modelOf n .sectors)) _ t in
+    let b = both (eqb (modelOf n .length) (65536 * modelOf n .blocks)) _ (a .1) in
+    let c = both (leb 65536 (modelOf n .length)) _ (b .1) in
+    record {
+      sectors = eqb-true _ _ (a .0);
+      blocks = eqb-true _ _ (b .0);
+      some = leb-true _ _ (c .0);
+      reach = leb-true _ _ (c .1);
+    }
+
+-- the test of a range at its BP, and of a part's whole list of them
+rangeTest : Part → ℕ → Range → Bool
+rangeTest p bp r =
+    eqb (r .0 + r .1) (p .row .blocks)
+    && (leb (r .1) (getD (p .ranges) (bp + 1) r .1) && cond (eqb bp 0) (eqb (r .1) 0) (ltb 0 (r .1)))
+
+rangesTest : Part → Bool
+rangesTest p = eqb (length (p .ranges)) (p .row .«highest_bp» + 1) && every (rangeTest p) 0 (p .ranges)
+
+-- a list's entry does not depend on what stands in for the entries that it lacks
+other-default : {A : Type 0} (xs : List A) (k : ℕ) (d e : A) → k < length xs → getD xs k d ≡ getD xs k e
+other-default [] k d e h = absurd (not-suc-le-zero h)
+other-default (x ∷ xs) zero d e h = refl
+other-default (x ∷ xs) (suc k) d e h = other-default xs k d e (le-of-suc-le-suc h)
+
+empty-at-none : (b : Bool) (x : ℕ) → cond b (eqb x 0) (ltb 0 x) ≡ true → b ≡ true → x ≡ 0
+empty-at-none true x t e = eqb-true x 0 t
+empty-at-none false x t e = absurd (false≢true e)
+
+some-above : (b : Bool) (x : ℕ) → cond b (eqb x 0) (ltb 0 x) ≡ true → b ≡ false → 0 < x
+some-above true x t e = absurd (true≢false e)
+some-above false x t e = ltb-true 0 x t
+
+pub range-rules : RangeRules
+unfolding partOf rangesTest rangeTest rangeOf
+range-rules n bp h =
+    let p : Part = partOf n in
+    let t = found rangesTest n kh25l512 models refl refl in
+    let a = both (eqb (length (p .ranges)) (p .row .«highest_bp» + 1)) _ t in
+    let l : length (p .ranges) ≡ p .row .«highest_bp» + 1 = eqb-true _ _ (a .0) in
+    let k = at (rangeTest p) (p .ranges) (range 0 0) (a .1) bp (omega arith) in
+    let r : Range = rangeOf n bp in
+    let b = both (eqb (r .0 + r .1) (p .row .blocks)) _ k in
+    let d = both (leb (r .1) (getD (p .ranges) (bp + 1) r .1)) _ (b .1) in
+    let top : r .0 + r .1 ≡ modelOf n .blocks = eqb-true _ _ (b .0) in
+    record {
+      inside = omega arith;
+      none = λ e. empty-at-none (eqb bp 0) (r .1) (d .1) (eq-eqb bp 0 e);
+      some = λ e. some-above (eqb bp 0) (r .1) (d .1) (ne-eqb bp 0 (λ z. omega arith));
+      top = top;
+      grows = λ e. subst (λ (x : Range). r .1 ≤ x .1) (other-default (p .ranges) (bp + 1) r (range 0 0) (omega arith)) (leb-true _ _ (d .0));
+    }
+
+-- no range reaches past 16,384 blocks, whatever the number and BP
+rangeSmall : Part → Bool
+rangeSmall p = every (λ (bp : ℕ) (r : Range). leb (r .0 + r .1) 16384) 0 (p .ranges)
+
+pub range-small : (n bp : ℕ) → rangeOf n bp .0 + rangeOf n bp .1 ≤ 16384
+unfolding partOf rangeSmall rangeOf
+range-small n bp = go (ltb bp (length (partOf n .ranges))) refl
+  where
+    go : (b : Bool) → ltb bp (length (partOf n .ranges)) ≡ b → rangeOf n bp .0 + rangeOf n bp .1 ≤ 16384
+    go true e =
+        leb-true (rangeOf n bp .0 + rangeOf n bp .1) 16384
+        (at (λ (bp : ℕ) (r : Range). leb (r .0 + r .1) 16384) (partOf n .ranges) (range 0 0) (found rangeSmall n kh25l512 models refl refl) bp (ltb-true bp _ e))
+    go false e = subst (λ (r : Range). r .0 + r .1 ≤ 16384) (sym (List·getD-eq-default (partOf n .ranges) (range 0 0) (ltb-false bp _ e))) (omega arith)
+
+pub page-in-block : PageInBlock
+page-in-block a b e = ap (λ (x : ℕ). record { 0 = x }) {x = a .0 / 65536} {y = b .0 / 65536} (omega arith)
+
+pub sector-in-block : SectorInBlock
+sector-in-block a b e =
+    let s : a .0 / 4096 ≡ b .0 / 4096 = ap (λ (x : Sector). x .0) e in
+    ap (λ (x : ℕ). record { 0 = x }) {x = a .0 / 65536} {y = b .0 / 65536} (omega arith)
+
+pub block-of-sector : BlockOfSector
+block-of-sector a = ap (λ (x : ℕ). record { 0 = x }) {x = a .0 / 65536} {y = a .0 / 4096 / 16} (omega arith)
+
+pub units-inside : UnitsInside
+units-inside n a h =
+    let w = row-rules n in
+    let s = w .sectors in
+    let b = w .blocks in
+    record { page = omega arith; sector = omega arith; block = omega arith }
+
+-- the row of a number: the second model's, and else the first's
+pub second-part : (n : ℕ) → n ≡ 2 → partOf n ≡ kh25l2006e
+unfolding partOf
+second-part n e = rw e
+
+pub first-part : (n : ℕ) → (n ≡ 2 → ⊥) → partOf n ≡ kh25l512
+unfolding partOf
+first-part n e = rw (ne-eqb n 2 e) (go (eqb n 1))
+  where
+    go : (b : Bool) → cond b kh25l512 kh25l512 ≡ kh25l512
+    go true = refl
+    go false = refl
+
+fourRanges : Part → Bool
+fourRanges p = eqb (length (p .ranges)) 4
+
+-- the code's table has the ranges of the parts one after the other
+pub first-range : (n bp : ℕ) → (n ≡ 2 → ⊥) → bp ≤ 3 → getD (kh25l512 .ranges ++ kh25l2006e .ranges) bp (range 0 0) ≡ rangeOf n bp
+unfolding rangeOf
+first-range n bp e h = List·getD-append (kh25l512 .ranges) (kh25l2006e .ranges) (range 0 0) bp (omega arith) ∙ ap (λ (p : Part). getD (p .ranges) bp (range 0 0)) (sym (first-part n e))
+
+pub second-range : (n bp : ℕ) → n ≡ 2 → getD (kh25l512 .ranges ++ kh25l2006e .ranges) (4 + bp) (range 0 0) ≡ rangeOf n bp
+unfolding rangeOf
+second-range n bp e = getD-append-add (kh25l512 .ranges) (kh25l2006e .ranges) bp (range 0 0) ∙ ap (λ (p : Part). getD (p .ranges) bp (range 0 0)) (sym (second-part n e))
+
+pub no-range : (n bp : ℕ) → 3 < bp → range 0 0 ≡ rangeOf n bp
+unfolding partOf rangeOf fourRanges
+no-range n bp h = sym (List·getD-eq-default (partOf n .ranges) (range 0 0) (omega (arith, eqb-true (length (partOf n .ranges)) 4 (found fourRanges n kh25l512 models refl refl))))

@@ -1,0 +1,27 @@
+-- `units::range_of` meets its contract. Assumes nothing.
+use borrow.Author.Needs.{needs}
+use Rattle.units.proofs.Rules.{first-range, second-range, no-range}
+use Rattle.units.proofs.range_of.Statement.{statement}
+use Rattle.units.proofs.range_of.Tie as tie
+
+returns : tie.Need-returns
+returns c = no-range _ _ (c .if1 .taken)
+
+returns-2 : tie.Need-returns-2
+returns-2 c = second-range _ _ (c .before .if2 .taken)
+
+returns-3 : tie.Need-returns-3
+returns-3 c = first-range _ _ (c .before .if2 .left) (c .before .before .if1 .left)
+
+pub range-of-spec : {M : Type 1} → statement M
+range-of-spec =
+    tie.close
+    (tie.spec
+    returns
+    (λ c. search needs)
+    (λ c. search needs)
+    (λ c. search needs)
+    returns-2
+    (λ c. search needs)
+    (λ c. search needs)
+    returns-3)
