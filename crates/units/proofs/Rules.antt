@@ -16,7 +16,8 @@ use Rattle.units.specs.declared.Range.{Range}
 use Rattle.units.specs.Kinds.{sectorOf, blockOf, pageStart, blockOfSector}
 use Rattle.units.specs.Models.{Part, models, kh25l512, kh25l2006e, find, partOf, modelOf, rangeOf, range}
 use Rattle.units.specs.Rules.{Whole, RowRules, Guards, RangeRules, PageInBlock, SectorInBlock, BlockOfSector, Inside, UnitsInside}
-use Rattle.units.proofs.Table.{both, every, at, found}
+use Rattle.units.proofs.Bools.{both}
+use Rattle.units.proofs.Table.{every, at, found}
 
 -- the row's test
 rowTest : Part → Bool

@@ -1,17 +1,13 @@
 -- A test that antt computes over a whole table, and what it says of each row. Assumes nothing.
 use mathlib.Core.Path.{_≡_, refl, sym, ap, subst, _∙_}
-use mathlib.Core.Bool.{Bool, true, false, _&&_, cond, false≢true}
+use mathlib.Core.Bool.{Bool, true, false, _&&_, cond}
 use mathlib.Core.List.{List, [], _∷_}
 use Prim.Native.Nat.{ℕ, zero, suc, _+_, _<_}
 use native.Mathlib.Nat.{add-zero, zero-add, add-suc, suc-add, le-of-suc-le-suc, not-suc-le-zero}
 use lib.Dec.{eqb}
 use lib.ListN.{length, getD}
 use Rattle.units.specs.Models.{Part, find}
-
--- two tests that both pass
-pub both : (a b : Bool) → (a && b) ≡ true → (a ≡ true) × (b ≡ true)
-both true b e = (refl, e)
-both false b e = absurd (false≢true e)
+use Rattle.units.proofs.Bools.{both}
 
 -- the test passes at each entry of the list and its place, counted from i
 abbrev pub every : {A : Type 0} → (ℕ → A → Bool) → ℕ → List A → Bool

@@ -1,0 +1,54 @@
+-- The refusals as one ordered table: 01, "Numbers returned, in order of checking". Assumes nothing.
+use mathlib.Core.Bool.{Bool, true, false, not, _&&_, _||_, cond}
+use mathlib.Core.List.{List, [], _∷_}
+use Prim.Native.Nat.{ℕ}
+use lib.Dec.{eqb, ltb}
+use Rattle.units.specs.Kinds.{blockOf}
+use Rattle.units.specs.Models.{modelOf, isProtected}
+use Rattle.rules.specs.Commands.{traitsOf, lengthOk}
+use Rattle.rules.specs.States.{recordOk, stateOk}
+use Rattle.rules.specs.declared.Record.{Record}
+use Rattle.rules.specs.declared.State.{State}
+use Rattle.rules.specs.declared.Traits.{Traits}
+use Rattle.rules.specs.declared.Answer.{Answer}
+use Rattle.rules.specs.declared.Answer.the-variants.{Done, BadRecord, BadArray, BadState, BadFrame, ShortOut, Empty, Busy, Asleep, NoCommand, BadLength, NotEnabled, Locked, Protected}
+use Rattle.ladder.specs.declared.Head.{Head}
+
+-- a row of the table: a test, and the answer where it holds
+pub record Rung : Type 0 where
+  pub bad : Bool
+  pub says : Answer
+
+infix 20 _gives_
+abbrev pub _gives_ : Bool → Answer → Rung
+bad gives says = record { bad = bad; says = says }
+
+-- the first that applies, and 0 otherwise
+abbrev pub firstOf : List Rung → Answer
+firstOf [] = Done
+firstOf (r ∷ rs) = cond (r .bad) (r .says) (firstOf rs)
+
+-- 60 and C7 run only with BP 0; 02, 20, 52 and D8 look at the addressed unit, which lies in one block
+abbrev pub guarded : Record → State → Traits → Head → Bool
+guarded rec s k h = (k .unit && isProtected (rec .model) (s .bp) (blockOf (h .address))) || (k .whole && not (eqb (s .bp) 0))
+
+-- the table, for a frame that is given an array of so many cells and an output of so much room
+abbrev pub ladder : Record → State → ℕ → Head → ℕ → Traits → List Rung
+ladder rec s cells h room k =
+    (not (recordOk rec) gives BadRecord)
+    ∷ (not (eqb cells (modelOf (rec .model) .length)) gives BadArray)
+    ∷ (not (stateOk rec s) gives BadState)
+    ∷ ((ltb 65541 (h .count) || ltb 7 (h .tail)) gives BadFrame)
+    ∷ (ltb room (h .count) gives ShortOut)
+    ∷ (eqb (h .count) 0 gives Empty)
+    ∷ ((not (eqb (s .busy) 0) && not (k .«while_busy»)) gives Busy)
+    ∷ ((s .asleep && not (k .«while_asleep»)) gives Asleep)
+    ∷ (not (k .known) gives NoCommand)
+    ∷ (not (lengthOk k (h .count) (h .tail)) gives BadLength)
+    ∷ ((k .latch && not (s .wel)) gives NotEnabled)
+    ∷ ((k .lock && (s .srwd && not (h .wp))) gives Locked)
+    ∷ (guarded rec s k h gives Protected)
+    ∷ []
+
+unfoldable pub refusalOf : Record → State → ℕ → Head → ℕ → Answer
+refusalOf rec s cells h room = firstOf (ladder rec s cells h room (traitsOf (h .command)))

@@ -1,0 +1,19 @@
+-- The table in three stages, for the code: rows 1 to 5, 10 to 14 and 15 to 17. proofs/Stages.antt shows that they are the one table.
+-- Assumes nothing.
+use Prim.Native.Nat.{ℕ}
+use lib.ListN.{take, drop}
+use Rattle.rules.specs.declared.Record.{Record}
+use Rattle.rules.specs.declared.State.{State}
+use Rattle.rules.specs.declared.Traits.{Traits}
+use Rattle.rules.specs.declared.Answer.{Answer}
+use Rattle.ladder.specs.declared.Head.{Head}
+use Rattle.ladder.specs.Ladder.{firstOf, ladder}
+
+unfoldable pub givenOf : Record → State → ℕ → Head → ℕ → Traits → Answer
+givenOf rec s cells h room k = firstOf (take 5 (ladder rec s cells h room k))
+
+unfoldable pub heardOf : Record → State → ℕ → Head → ℕ → Traits → Answer
+heardOf rec s cells h room k = firstOf (take 5 (drop 5 (ladder rec s cells h room k)))
+
+unfoldable pub allowedOf : Record → State → ℕ → Head → ℕ → Traits → Answer
+allowedOf rec s cells h room k = firstOf (drop 10 (ladder rec s cells h room k))

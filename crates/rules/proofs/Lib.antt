@@ -1,0 +1,2 @@
+-- `States`: a valid state in parts, and the times.
+pub mod States
