@@ -1,0 +1,6 @@
+pub mod Parts
+pub mod Cell
+pub mod Fold
+pub mod Ring
+pub mod Arrays
+pub mod Sheet

@@ -1,0 +1,135 @@
+-- What the refusals have shown is what the commands ask for. Assumes nothing.
+use mathlib.Core.Path.{_≡_, refl, sym, ap, subst, _∙_}
+use mathlib.Core.Bool.{Bool, true, false, _&&_, _||_, cond}
+use mathlib.Core.List.{List}
+use mathlib.Core.Logic.{_⊎_, inl, inr, ⊎-elim}
+use Prim.Native.Nat.{ℕ, _+_, _≤_, _<_}
+use native.Mathlib.Nat.{mod-lt, le-trans}
+use native.Mathlib.Omega.{arith}
+use lib.Dec.{eqb, leb, lit≤}
+use lib.ListN.{length, getD}
+use borrow.Author.Tests.{eqb-true, eqb-false, leb-true}
+use Rattle.units.specs.declared.Address.{Address}
+use Rattle.units.specs.Kinds.{sectorOf, blockOf, pageStart, sectorStart, blockStart}
+use Rattle.units.specs.Models.{modelOf, addressOf}
+use Rattle.units.proofs.Bools.{both, either}
+use Rattle.units.proofs.Rules.{row-rules, units-inside}
+use Rattle.rules.specs.Answers.{isDone}
+use Rattle.rules.specs.Commands.{traitsOf, lengthOk}
+use Rattle.rules.specs.declared.Record.{Record}
+use Rattle.rules.specs.declared.State.{State}
+use Rattle.rules.specs.declared.Traits.{Traits}
+use Rattle.rules.specs.declared.Command.{Command}
+use Rattle.rules.specs.declared.Command.the-variants.{WriteEnable, WriteDisable, ReadStatus, WriteStatus, Read, FastRead, EraseSector, EraseBlock, EraseChip, Program, ReadId, Wake, ReadMaker, Sleep, Unknown}
+use Rattle.rules.specs.declared.Answer.{Answer}
+use Rattle.rules.proofs.States.{sound, highest-bp}
+use Rattle.ladder.specs.Ladder.{refusalOf}
+use Rattle.ladder.specs.declared.Head.{Head}
+use Rattle.ladder.proofs.Passed.{Passed, passed}
+use Rattle.chip.specs.declared.Reply.{Reply}
+use Rattle.chip.specs.Effects.{Gives, quiet, stateOnly}
+use Rattle.chip.specs.Frames.{Room, Ready, fewest, headOf, acceptedOf, frameOf}
+
+-- the units of an address of the array lie in it
+module _ (rec : Record) (cells : List ℕ) (at : Address) (h : at .0 < length cells) (e : length cells ≡ modelOf (rec .model) .length) where
+  below : at .0 < modelOf (rec .model) .length
+  below = omega arith
+
+  pub page-fits : pageStart at + 256 ≤ length cells
+  page-fits = omega (arith, units-inside (rec .model) at below .page)
+
+  pub sector-fits : (sectorOf at .0 < 1048576) × (sectorStart (sectorOf at) + 4096 ≤ length cells)
+  sector-fits = (omega (arith, row-rules (rec .model) .reach), omega (arith, units-inside (rec .model) at below .sector))
+
+  pub block-fits : (blockOf at .0 < 65536) × (blockStart (blockOf at) + 65536 ≤ length cells)
+  block-fits = (omega (arith, row-rules (rec .model) .reach), omega (arith, units-inside (rec .model) at below .block))
+
+-- an arm of the dispatch: what its command asks for and gives is what the command in hand does
+pub room-at : {c k : Command} {bytes out : List ℕ} → c ≡ k → Room (fewest (traitsOf c)) bytes out → Room (fewest (traitsOf k)) bytes out
+room-at {c} {k} {bytes} {out} e r = subst (λ (x : Command). Room (fewest (traitsOf x)) bytes out) e r
+
+module _ (rec : Record) (s : State) (cells : List ℕ) (at : Address) (bytes out : List ℕ) where
+  pub at-command : {c k : Command} {r : Reply} {xs os : List ℕ} → c ≡ k
+      → Gives (acceptedOf rec s k cells at bytes out) r xs os
+      → Gives (acceptedOf rec s c cells at bytes out) r xs os
+  at-command {c} {k} {r} {xs} {os} e g = subst (λ (x : Command). Gives (acceptedOf rec s x cells at bytes out) r xs os) (sym e) g
+
+-- a length that is allowed is the exact one or at least the least
+length-cases : (k : Traits) (n tail : ℕ) → lengthOk k n tail ≡ true → (n ≡ k .exact) ⊎ (k .least ≤ n)
+unfolding lengthOk
+length-cases k n tail e =
+    ⊎-elim (λ p. inl (eqb-true _ _ (both _ _ p .0))) (λ p. inr (leb-true _ _ (both _ _ p .0)))
+    (either (eqb n (k .exact) && eqb tail 0) (leb (k .least) n && (eqb tail 0 || k .«any_tail»)) e)
+
+-- no command has an exact length above its least one
+exact-first : (c : Command) → traitsOf c .exact ≤ traitsOf c .least
+unfolding traitsOf
+exact-first WriteEnable = lit≤ tt
+exact-first WriteDisable = lit≤ tt
+exact-first ReadStatus = lit≤ tt
+exact-first WriteStatus = lit≤ tt
+exact-first Read = lit≤ tt
+exact-first FastRead = lit≤ tt
+exact-first EraseSector = lit≤ tt
+exact-first EraseBlock = lit≤ tt
+exact-first EraseChip = lit≤ tt
+exact-first Program = lit≤ tt
+exact-first ReadId = lit≤ tt
+exact-first Wake = lit≤ tt
+exact-first ReadMaker = lit≤ tt
+exact-first Sleep = lit≤ tt
+exact-first Unknown = lit≤ tt
+
+long-enough : (k : Traits) (n tail : ℕ) → k .exact ≤ k .least → 0 < n → lengthOk k n tail ≡ true → fewest k ≤ n
+long-enough k n tail m z e = go (eqb (k .exact) 0) refl (length-cases k n tail e)
+  where
+    go : (b : Bool) → eqb (k .exact) 0 ≡ b → (n ≡ k .exact) ⊎ (k .least ≤ n) → cond b (k .least) (k .exact) ≤ n
+    go true p q =
+        let o : k .exact ≡ 0 = eqb-true (k .exact) 0 p in
+        ⊎-elim (λ x. omega arith) (λ x. x) q
+    go false p q = ⊎-elim (λ x. omega arith) (λ x. le-trans m x) q
+
+module _ (rec : Record) (s : State) (cells bytes : List ℕ) (tail : ℕ) (wp : Bool) (out : List ℕ) where
+  arrived : Passed rec s (length cells) (headOf (rec .model) bytes tail wp) (length out)
+      → Ready rec s (headOf (rec .model) bytes tail wp .command) cells (headOf (rec .model) bytes tail wp .address) bytes out
+  unfolding headOf addressOf
+  arrived p =
+      record {
+        level = omega (arith, sound rec s (p .valid) .level, highest-bp (rec .model));
+        whole = p .whole;
+        inside = subst (λ (n : ℕ). addressOf (rec .model) (getD bytes 1 0) (getD bytes 2 0) (getD bytes 3 0) .0 < n) (sym (p .whole)) (mod-lt _ (omega (arith, row-rules (rec .model) .some)));
+        fits = record { long = long-enough _ _ _ (exact-first _) (p .some) (p .fits); short = p .short; room = p .roomy };
+      }
+
+  abbrev H : Head
+  H = headOf (rec .model) bytes tail wp
+
+  said : {h : Head} {a : Answer} → h ≡ H → a ≡ refusalOf rec s (length cells) h (length out) → a ≡ refusalOf rec s (length cells) H (length out)
+  said e f = f ∙ ap (λ (x : Head). refusalOf rec s (length cells) x (length out)) e
+
+  pub ready : {h : Head} {a : Answer} → h ≡ H → a ≡ refusalOf rec s (length cells) h (length out)
+      → isDone a ≡ true → Ready rec s (h .command) cells (h .address) bytes out
+  ready {h} {a} e f d =
+      subst (λ (x : Head). Ready rec s (x .command) cells (x .address) bytes out) (sym e)
+      (arrived (passed rec s (length cells) H (length out) (sym (ap isDone (said e f)) ∙ d)))
+
+  pub accept : {h : Head} {a : Answer} {r : Reply} {xs os : List ℕ} → h ≡ H
+      → a ≡ refusalOf rec s (length cells) h (length out) → isDone a ≡ true
+      → Gives (acceptedOf rec s (h .command) cells (h .address) bytes out) r xs os
+      → Gives (frameOf rec s cells bytes tail wp out) r xs os
+  unfolding frameOf
+  accept {h} {a} {r} {xs} {os} e f d g =
+      subst
+      (λ (b : Bool). Gives (cond b (acceptedOf rec s (H .command) cells (H .address) bytes out) (stateOnly (refusalOf rec s (length cells) H (length out)) s cells out)) r xs os)
+      (sym (sym (ap isDone (said e f)) ∙ d))
+      (subst (λ (z : Head). Gives (acceptedOf rec s (z .command) cells (z .address) bytes out) r xs os) e g)
+
+  pub refuse : {h : Head} {a : Answer} {r : Reply} → h ≡ H
+      → a ≡ refusalOf rec s (length cells) h (length out) → isDone a ≡ false → r ≡ quiet a s
+      → Gives (frameOf rec s cells bytes tail wp out) r cells out
+  unfolding frameOf
+  refuse {h} {a} {r} e f d g =
+      subst
+      (λ (b : Bool). Gives (cond b (acceptedOf rec s (H .command) cells (H .address) bytes out) (stateOnly (refusalOf rec s (length cells) H (length out)) s cells out)) r cells out)
+      (sym (sym (ap isDone (said e f)) ∙ d))
+      (record { reply = g ∙ ap (λ (z : Answer). quiet z s) (said e f); cells = refl; out = refl })

@@ -1,0 +1,12 @@
+-- `chip::cycle` meets its contract. Assumes nothing.
+use mathlib.Core.Path.{refl}
+use Rattle.chip.specs.Time.{cycled}
+use Rattle.chip.proofs.cycle.Statement.{statement}
+use Rattle.chip.proofs.cycle.Tie as tie
+
+returns : tie.Need-returns
+unfolding cycled
+returns c = refl
+
+pub cycle-spec : {M : Type 1} → statement M
+cycle-spec = tie.close (tie.spec returns)

@@ -1,0 +1,12 @@
+-- `chip::write` meets its contract. Assumes nothing.
+use mathlib.Core.Path.{refl}
+use Rattle.chip.specs.Effects.{written}
+use Rattle.chip.proofs.write.Statement.{statement}
+use Rattle.chip.proofs.write.Tie as tie
+
+returns : tie.Need-returns
+unfolding written
+returns c = refl
+
+pub write-spec : {M : Type 1} → statement M
+write-spec = tie.close (tie.spec returns)
