@@ -1,8 +1,8 @@
 -- Laws of the array after an erase and after a program, with the sheet's sentences on them. Assumes nothing.
 use mathlib.Core.Path.{_≡_, refl, sym, ap, _∙_}
 use mathlib.Core.Bool.{Bool, true, false}
-use mathlib.Core.List.{List, []}
-use Prim.Native.Nat.{ℕ, _+_, _-_, _*_, _/_, _%_, _≤_, _<_}
+use mathlib.Core.List.{List}
+use Prim.Native.Nat.{ℕ, _+_, _-_, _≤_}
 use native.Mathlib.Omega.{arith}
 use lib.Dec.{ltb}
 use lib.ListN.{length, getD, replicate, length-replicate, getD-replicate, List·getD-eq-default}
@@ -12,7 +12,7 @@ use borrow.Rule.Slice.PartMut.{putMid, midOf, mid-len}
 use Rattle.units.specs.declared.Address.{Address}
 use Rattle.units.specs.declared.Sector.{Sector}
 use Rattle.units.specs.declared.Block.{Block}
-use Rattle.units.specs.Kinds.{sectorOf, blockOf, sectorStart, blockStart, pageStart, pageOffset}
+use Rattle.units.specs.Kinds.{sectorStart, blockStart, pageStart, pageOffset}
 use Rattle.cells.specs.Cell.{Bytes, FF, erased}
 use Rattle.cells.specs.Fold.{cellAfter, pageAfter}
 use Rattle.cells.specs.Parts.{part, lay}

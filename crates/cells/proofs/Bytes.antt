@@ -1,16 +1,15 @@
 -- Lists of bytes: what is made of bytes is bytes. Assumes nothing.
-use mathlib.Core.Path.{_≡_, refl, sym, ap, _∙_, subst}
+use mathlib.Core.Path.{_≡_, refl}
 use mathlib.Core.Bool.{Bool, true, false}
 use mathlib.Core.List.{List, _++_}
-use Prim.Native.Nat.{ℕ, zero, suc, _+_, _-_, _%_, _≤_, _<_}
+use Prim.Native.Nat.{ℕ, _+_, _-_, _≤_, _<_}
 use native.Mathlib.Omega.{arith}
 use lib.Dec.{ltb}
 use lib.ListN.{length, take, drop, getD, replicate, length-take, length-replicate, getD-replicate, List·getD-append, List·getD-eq-default}
 use lib.Seq.{getD-take, getD-drop, getD-append-add}
 use borrow.Author.Tests.{ltb-true, ltb-false}
-use Rattle.cells.specs.Cell.{Bytes, erased}
+use Rattle.cells.specs.Cell.{Bytes}
 use Rattle.cells.specs.Parts.{part, lay}
-use Rattle.cells.specs.Ring.{ring}
 
 -- it is enough to look at the list's own indices
 pub bytes : {xs : List ℕ} → ((k : ℕ) → k < length xs → getD xs k 0 < 256) → Bytes xs

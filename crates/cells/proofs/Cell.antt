@@ -1,10 +1,11 @@
 -- Laws of one cell: AND and FF. They know nothing of how a chip is spoken to. Assumes nothing.
-use mathlib.Core.Path.{_≡_, refl, sym, ap, ap₂, _∙_, subst}
+-- `lib.Bits` has more: and-self (x AND x is x), and-le-l and and-le-r (the result is at most each operand), and-comm.
+use mathlib.Core.Path.{_≡_, refl, sym, ap, ap₂, _∙_}
 use Prim.Native.Nat.{ℕ, _+_, _*_, _/_, _%_, _^_, _≤_, _<_, min}
 use native.Mathlib.Nat.{mod-eq-of-lt}
 use native.Mathlib.Omega.{arith}
 use lib.Arith.{bin-ind}
-use lib.Bits.{bitAnd, and-step, and-mask, and-comm, and-self, and-le-l, and-le-r, and-shr, and-mod, and-lt}
+use lib.Bits.{bitAnd, and-step, and-mask, and-comm, and-self, and-le-l, and-shr, and-mod}
 use Rattle.cells.specs.Cell.{FF, bit}
 
 -- FF clears no bit

@@ -8,14 +8,14 @@ use native.Mathlib.Omega.{arith}
 use lib.Bits.{bitAnd}
 use lib.Dec.{eqb, ltb}
 use lib.ListN.{length, drop, getD, set, length-set, length-drop, getD-replicate}
-use lib.Seq.{ext-getD, getD-set-same, getD-set-other}
+use lib.Seq.{take-all, ext-getD, getD-set-same, getD-set-other}
 use borrow.Author.Tests.{eqb-true, eqb-false, ltb-true, ltb-false}
 use Rattle.cells.specs.Cell.{FF, erased, anded, Bytes}
-use Rattle.cells.specs.Parts.{lay, byIndex}
+use Rattle.cells.specs.Parts.{part, lay, byIndex}
 use Rattle.cells.specs.Fold.{counts, cellAfter, pageAfter, folded}
 use Rattle.cells.proofs.Cell.{ff-and, and-byte}
 use Rattle.cells.proofs.Bytes.{bytes, bytes-replicate}
-use Rattle.cells.proofs.Lay.{lay-before, lay-inside, lay-after, length-lay}
+use Rattle.cells.proofs.Lay.{length-part, lay-before, lay-inside, lay-after, length-lay}
 use Rattle.cells.proofs.Loop.{length-byIndex, byIndex-at}
 use Rattle.cells.proofs.Counts.{unreached-stays, sent-counts, counts-tail}
 
@@ -40,17 +40,20 @@ bytes-pageAfter a sent {page} p =
     bytes (λ k l. rw (pageAfter-at a sent page k (omega (arith, length-pageAfter a sent page))) (and-byte (getD page k 0) _ (p .below k)))
 
 -- more than 256 bytes do what their last 256 do, from where those fall
-pub page-tail : (a f : ℕ) (sent tail page : List ℕ) → length sent ≡ f + 256 → tail ≡ drop f sent → length page ≡ 256 → pageAfter ((a + f) % 256) tail page ≡ pageAfter a sent page
+pub page-tail : (a f : ℕ) (sent page : List ℕ) → length sent ≡ f + 256 → length page ≡ 256 → pageAfter ((a + f) % 256) (part sent f 256) page ≡ pageAfter a sent page
 unfolding cellAfter
-page-tail a f sent tail page e t p =
-    pageAfter-is a sent page (pageAfter ((a + f) % 256) tail page) (length-pageAfter ((a + f) % 256) tail page)
-    (λ k l. pageAfter-at ((a + f) % 256) tail page k l ∙ ap (bitAnd (getD page k 0)) (same k (omega arith)))
+page-tail a f sent page e p =
+    pageAfter-is a sent page (pageAfter ((a + f) % 256) (part sent f 256) page) (length-pageAfter ((a + f) % 256) (part sent f 256) page)
+    (λ k l. pageAfter-at ((a + f) % 256) (part sent f 256) page k l ∙ ap (bitAnd (getD page k 0)) (same k (omega arith)))
   where
-    long : length tail ≡ 256
-    long = ap length t ∙ simp length-drop (omega arith)
+    tail : part sent f 256 ≡ drop f sent
+    tail = take-all 256 (drop f sent) (simp length-drop (omega arith))
 
-    same : (k : ℕ) → k < 256 → counts ((a + f) % 256) tail (length tail) k ≡ counts a sent (length sent) k
-    same k l = rw (long, e, t) (counts-tail a f sent k l)
+    long : length (part sent f 256) ≡ 256
+    long = length-part sent f 256 (omega arith)
+
+    same : (k : ℕ) → k < 256 → counts ((a + f) % 256) (part sent f 256) (length (part sent f 256)) k ≡ counts a sent (length sent) k
+    same k l = rw (long, tail, e) (counts-tail a f sent k l)
 
 -- bytes that end within the page: before them and after them every cell stays, the others are ANDed
 module _ (a : ℕ) (sent page : List ℕ) (h : a + length sent ≤ 256) (p : length page ≡ 256) (b : Bytes page) where

@@ -1,11 +1,11 @@
 -- Laws of a part of a list and of a list with one part replaced. Assumes nothing.
 use mathlib.Core.Path.{_≡_, refl, sym, ap, _∙_}
-use mathlib.Core.List.{List, [], _∷_, _++_, append-assoc, append-nil}
+use mathlib.Core.List.{List, [], _++_, append-assoc}
 use Prim.Native.Nat.{ℕ, _+_, _-_, _≤_, _<_}
 use native.Mathlib.Nat.{add-zero, add-assoc}
 use native.Mathlib.Omega.{arith}
 use lib.ListN.{length, take, drop, getD, length-append, length-drop, take-append-drop, List·getD-append}
-use lib.Seq.{length-take-le, take-at, drop-at, take-append-le, drop-append-le, take-append-add, drop-append-add, getD-append-add, getD-take, getD-drop, drop-drop, take-all}
+use lib.Seq.{length-take-le, take-at, drop-at, take-append-le, drop-append-le, take-append-add, drop-append-add, getD-append-add, getD-take, getD-drop, drop-drop}
 use borrow.Rule.Slice.PartMut.{putMid, post-is}
 use Rattle.cells.specs.Parts.{part, lay}
 
@@ -64,7 +64,6 @@ unfolding lay
 lay-part xs at n h =
     rw (length-part xs at n h, ← (drop-drop n at xs), take-append-drop n (drop at xs)) (take-append-drop at xs)
 
--- the same part once more: what was laid last stands
 -- a part of the part that was laid
 pub lay-in-lay : (xs : List ℕ) (at : ℕ) (ys : List ℕ) (k : ℕ) (zs : List ℕ) → at ≤ length xs → k + length zs ≤ length ys → lay (lay xs at ys) (at + k) zs ≡ lay xs at (lay ys k zs)
 unfolding lay

@@ -1,14 +1,15 @@
 -- Laws of reads that roll over from the last address to 0. Assumes nothing.
 use mathlib.Core.Path.{_≡_, refl, sym, ap, _∙_}
-use mathlib.Core.List.{List, [], _∷_, _++_}
+use mathlib.Core.List.{List, _∷_, _++_}
 use Prim.Native.Nat.{ℕ, zero, suc, _+_, _-_, _%_, _≤_, _<_}
-use native.Mathlib.Nat.{not-suc-le-zero, le-of-suc-le-suc, add-zero, zero-add, add-assoc, add-suc, suc-add, mod-lt, mod-self, mod-mod, mod-add-mod, mod-eq-of-lt, mod-mod-of-dvd, dvd-of-mod-eq-zero}
+use native.Mathlib.Nat.{not-suc-le-zero, le-of-suc-le-suc, add-zero, zero-add, add-suc, suc-add, mod-lt, mod-self, mod-add-mod, mod-eq-of-lt, mod-mod-of-dvd, dvd-of-mod-eq-zero}
 use native.Mathlib.Omega.{arith}
-use lib.ListN.{length, take, drop, getD}
+use lib.ListN.{length, getD}
 use lib.Seq.{ext-getD}
 use Rattle.cells.specs.Cell.{Bytes}
 use Rattle.cells.specs.Parts.{part, lay}
 use Rattle.cells.specs.Ring.{ring}
+use Rattle.cells.specs.Sheet.{RollsOver}
 use Rattle.cells.proofs.Bytes.{bytes}
 use Rattle.cells.proofs.Lay.{length-part, part-at, length-lay, part-lay}
 
@@ -51,6 +52,12 @@ pub ring-straight : (xs : List ℕ) (at n : ℕ) → at + n ≤ length xs → ri
 ring-straight xs at n h =
     sym (ring-is xs at n (part xs at n) (length-part xs at n h)
     (λ k l. part-at xs at n k l ∙ ap (λ (m : ℕ). getD xs m 0) (sym (mod-eq-of-lt {n = at + k} {m = length xs} (omega arith)))))
+
+pub rolls-over : RollsOver
+unfolding ring
+rolls-over xs h =
+    let e : suc (length xs - 1) ≡ length xs = omega arith in
+    rw (e, mod-self, mod-eq-of-lt {n = length xs - 1} {m = length xs} (omega arith))
 
 -- what was laid is read back
 pub ring-lay : (xs : List ℕ) (at : ℕ) (ys : List ℕ) → at + length ys ≤ length xs → ring (lay xs at ys) at (length ys) ≡ ys

@@ -1,14 +1,14 @@
 -- What the loops that read and repeat keep: straight runs of a ring, one after the other. Assumes nothing.
 use mathlib.Core.Path.{_≡_, refl, sym, ap, _∙_}
-use mathlib.Core.List.{List, [], _∷_, _++_}
+use mathlib.Core.List.{List, _++_}
 use Prim.Native.Nat.{ℕ, zero, suc, _+_, _-_, _%_, _≤_, _<_}
-use native.Mathlib.Nat.{zero-add, add-assoc, mod-self, mod-add-mod, not-suc-le-zero}
+use native.Mathlib.Nat.{zero-add, mod-self, mod-add-mod, not-suc-le-zero}
 use native.Mathlib.Omega.{arith}
 use lib.ListN.{length, getD}
 use borrow.Rule.Slice.PartMut.{putMid, midOf, mid-len}
 use Rattle.cells.specs.Parts.{part, lay}
 use Rattle.cells.specs.Ring.{ring}
-use Rattle.cells.proofs.Lay.{length-part, lay-none, lay-next, length-lay, put-back, part-back}
+use Rattle.cells.proofs.Lay.{lay-none, lay-next, length-lay, put-back, part-back}
 use Rattle.cells.proofs.Ring.{length-ring, ring-is, ring-add, ring-mod, ring-straight, ring-ring}
 use Rattle.cells.proofs.Loop.{Done}
 

@@ -1,20 +1,19 @@
 -- The page view: an array of a model's length holds whole pages. Assumes nothing.
-use mathlib.Core.Path.{_≡_, refl, sym, ap, _∙_, subst}
-use mathlib.Core.Bool.{Bool, true, false, _&&_, _||_, cond, false≢true}
+use mathlib.Core.Path.{_≡_, refl}
+use mathlib.Core.Bool.{Bool, true, false, _&&_, _||_, false≢true}
 use mathlib.Core.List.{List, [], _∷_}
 use Prim.Native.Nat.{ℕ, suc, _+_, _-_, _*_, _/_, _%_, _≤_, _<_}
 use native.Mathlib.Nat.{mod-lt}
 use native.Mathlib.Omega.{arith}
-use lib.Dec.{eqb, ltb, leb}
+use lib.Dec.{eqb, ltb}
 use lib.ListN.{length, take, drop}
-use borrow.Author.Tests.{eqb-true, ltb-true, leb-true}
+use borrow.Author.Tests.{eqb-true, ltb-true}
 use Rattle.units.specs.declared.Address.{Address}
-use Rattle.units.specs.Kinds.{pageStart}
 use Rattle.units.specs.Models.{Part, models, some, isLength}
 use Rattle.units.proofs.Bools.{both}
 use Rattle.units.proofs.Table.{every}
 use Rattle.cells.specs.Arrays.{pageOf}
-use Rattle.cells.specs.Parts.{part}
+use Rattle.cells.proofs.Lay.{length-part}
 
 -- whole pages, at least one, and few enough that the length fits 32 bits
 pub record Pages (n : ℕ) : Type 0 where
@@ -64,3 +63,9 @@ page-is xs a start t e =
 pub no-page : (xs : List ℕ) (a : Address) → isLength (length xs) ≡ false → [] ≡ pageOf xs a
 unfolding pageOf
 no-page xs a t = rw t
+
+pub length-pageOf : (xs : List ℕ) (a : Address) → isLength (length xs) ≡ true → length (pageOf xs a) ≡ 256
+unfolding pageOf
+length-pageOf xs a t =
+    let w = length-pages (length xs) t in
+    rw t (length-part xs (a .0 % length xs / 256 * 256) 256 (page-inside (length xs) (a .0 % length xs) w (mod-lt (a .0) (w .some))))

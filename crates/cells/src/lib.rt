@@ -55,14 +55,14 @@ pub fn program(array: &mut [u8], a: Address, sent: &[u8])
     requires { ⌜ pageStart a + 256 ≤ length (now array) ⌝ }
     ensures { λ _. ⌜ now (array .exit) ≡ programmed (now (array .entry)) a (now (sent .entry)) ⌝ }
 {
-    let first = a.page_start();
-    let start = first.0 as usize;
+    let page = a.page_start();
+    let start = page.0 as usize;
     let end = start + 256;
     program_page(&mut array[start..end], a.page_offset(), sent);
 }
 
 // Programs the bytes sent into a page from an offset on. Of more than 256 only the last 256 are looked at: they reach every offset.
-pub fn program_page(page: &mut [u8], offset: u8, sent: &[u8])
+fn program_page(page: &mut [u8], offset: u8, sent: &[u8])
     requires { ⌜ length (now page) ≡ 256 ⌝ }
     ensures { λ _. ⌜ now (page .exit) ≡ pageAfter offset (now (sent .entry)) (now (page .entry)) ⌝ }
 {
@@ -70,8 +70,9 @@ pub fn program_page(page: &mut [u8], offset: u8, sent: &[u8])
         fold_in(page, offset, sent);
     } else {
         let first = sent.len() - 256;
+        let end = first + 256;
         let turned = ((offset as usize + first) % 256) as u8;
-        fold_in(page, turned, &sent[first..]);
+        fold_in(page, turned, &sent[first..end]);
     }
 }
 
@@ -85,7 +86,7 @@ fn fold_in(page: &mut [u8], offset: u8, sent: &[u8])
     and_into(page, &copy);
 }
 
-// Puts each byte sent at its offset, a later one over an earlier one.
+// Puts each byte sent at its offset of a page that is all FF, a later one over an earlier one.
 fn fold_over(page: &mut [u8], offset: u8, sent: &[u8])
     requires { ⌜ now page ≡ erased 256 ⌝ }
     ensures { λ _. ⌜ now (page .exit) ≡ folded offset (now (sent .entry)) ⌝ }
@@ -96,17 +97,19 @@ fn fold_over(page: &mut [u8], offset: u8, sent: &[u8])
     }
 }
 
-// Clears in each cell the bits that are clear in the byte at its index: there are as many bytes as cells.
-pub fn and_into(cells: &mut [u8], bytes: &[u8])
+// Clears in each cell the bits that are clear in the byte at its index. There are as many bytes as cells.
+fn and_into(cells: &mut [u8], bytes: &[u8])
     requires { ⌜ length (now cells) ≡ length (now bytes) ⌝ }
     ensures { λ _. ⌜ now (cells .exit) ≡ anded (now (bytes .entry)) (now (cells .entry)) ⌝ }
 {
     for k in 0..cells.len() {
-        cells[k] = cells[k] & bytes[k];
+        let old = cells[k];
+        let byte = bytes[k];
+        cells[k] = old & byte;
     }
 }
 
-// Reads from the address on into out, from index from up to end, and from the last address to 0. The rest of out stays.
+// The bytes of out from index from up to end become the cells from the address on, and after the last address those from 0 on. The rest of out stays.
 pub fn read_part(array: &[u8], a: Address, out: &mut [u8], from: usize, end: usize)
     requires { ⌜ (0 < length (now array)) × (from ≤ end) × (end ≤ length (now out)) ⌝ }
     ensures { λ _. ⌜ now (out .exit) ≡ lay (now (out .entry)) from (ring (now (array .entry)) (a .0) (end - from)) ⌝ }
@@ -166,14 +169,14 @@ pub fn repeat_part(out: &mut [u8], from: usize, end: usize, pattern: &[u8])
     }
 }
 
-// Every byte of part becomes the pattern's next, over and over.
-fn repeat(part: &mut [u8], pattern: &[u8])
+// Every byte of out becomes the pattern's next, over and over.
+fn repeat(out: &mut [u8], pattern: &[u8])
     requires { ⌜ 0 < length (now pattern) ⌝ }
-    ensures { λ _. ⌜ now (part .exit) ≡ ring (now (pattern .entry)) 0 (length (now (part .entry))) ⌝ }
+    ensures { λ _. ⌜ now (out .exit) ≡ ring (now (pattern .entry)) 0 (length (now (out .entry))) ⌝ }
 {
     let mut k = 0;
-    for i in 0..part.len() {
-        part[i] = pattern[k];
+    for i in 0..out.len() {
+        out[i] = pattern[k];
         k = wrap(k + 1, pattern.len());
     }
 }

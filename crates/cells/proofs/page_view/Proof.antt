@@ -1,6 +1,6 @@
 -- `cells::page_view` meets its contract: an array of a model's length is whole pages. Assumes nothing.
 use mathlib.Core.Path.{_≡_, sym, _∙_}
-use mathlib.Core.Bool.{true, false}
+use mathlib.Core.Bool.{true}
 use native.Mathlib.Nat.{mod-lt}
 use native.Mathlib.Omega.{arith}
 use lib.ListN.{length}
@@ -18,16 +18,10 @@ model c = sym (c .before .is-length .ensures) ∙ c .if1 .taken
 whole : (c : tie.Then1) → Pages (length (now (c .before .before .before .args .array)))
 whole c = length-pages _ (model c)
 
-cast-size : tie.Need-cast-t9
-cast-size c = record { fits = whole c .fits }
-
-rem-here : tie.Need-rem-t10
-rem-here c = whole (c .before) .some
-
 part-result-end : tie.Need-part-result-end
 part-result-end c =
     let w = whole (c .before .before .before) in
-    rw (c .before .page-start .ensures) (page-inside _ _ w (mod-lt _ (w .some)))
+    omega (arith, c .before .page-start .ensures, page-inside _ _ w (mod-lt (c .before .before .before .before .before .before .args .a .0) (w .some)))
 
 returns : tie.Need-returns
 returns c = page-is _ _ _ (model (c .before .before .before .before)) (c .before .before .page-start .ensures)
@@ -40,8 +34,8 @@ page-view-spec =
     tie.close
     (tie.spec
     (λ c κs. search needs)
-    cast-size
-    rem-here
+    (λ c. record { fits = whole c .fits })
+    (λ c. whole (c .before) .some)
     (λ c κs. search needs)
     (λ c. search needs)
     (λ c. search needs)

@@ -1,5 +1,5 @@
 -- `cells::read_ring` meets its contract. The invariant: out has the ring up to i, and at is its next place. Assumes nothing.
-use mathlib.Core.Path.{_≡_, refl, sym}
+use mathlib.Core.Path.{_≡_, refl, sym, ap, _∙_}
 use Prim.Native.Nat.{ℕ, _+_, _-_, _%_, _≤_, _<_}
 use native.Mathlib.Nat.{mod-eq-of-lt}
 use native.Mathlib.Omega.{arith}
@@ -21,7 +21,7 @@ loop-holds : tie.Need-loop-holds Inv-loop μ-loop
 loop-holds c =
     let given = c .before .before .args in
     let e : given .first + (given .from - given .from) ≡ given .first = omega arith in
-    (refl, search needs, search needs, rw e (sym (mod-eq-of-lt (c .before .before .pre .0))), read-none _ _ _ _)
+    (refl, search needs, search needs, sym (ap (λ (n : ℕ). n % length (now (given .src))) e ∙ mod-eq-of-lt (c .before .before .pre .0)), read-none _ _ _ _)
 
 loop-again : tie.Need-loop-again Inv-loop μ-loop
 loop-again c =

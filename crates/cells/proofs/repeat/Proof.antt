@@ -1,6 +1,6 @@
 -- `cells::repeat` meets its contract. The invariant: the bytes below i are done, and k is the next place in the pattern. Assumes nothing.
-use mathlib.Core.Path.{_≡_, refl, sym}
-use Prim.Native.Nat.{ℕ, _+_, _-_, _%_, _≤_, _<_}
+use mathlib.Core.Path.{_≡_, refl, sym, ap}
+use Prim.Native.Nat.{ℕ, _-_, _%_, _≤_, _<_}
 use native.Mathlib.Nat.{mod-lt, zero-mod}
 use native.Mathlib.Omega.{arith}
 use lib.ListN.{length, getD}
@@ -12,11 +12,11 @@ use Rattle.cells.proofs.repeat.Statement.{statement}
 use Rattle.cells.proofs.repeat.Tie as tie
 
 abbrev Inv-loop : tie.InvT-loop
-Inv-loop part₀ pattern k₀ i₀ i-end part k i =
-    (i ≤ length part₀) × (i-end ≡ length part₀) × (k < length pattern) × (k ≡ i % length pattern) × Done (λ (j old : ℕ). getD pattern (j % length pattern) 0) i part₀ part
+Inv-loop out₀ pattern k₀ i₀ i-end out k i =
+    (i ≤ length out₀) × (i-end ≡ length out₀) × (k < length pattern) × (k ≡ i % length pattern) × Done (λ (j old : ℕ). getD pattern (j % length pattern) 0) i out₀ out
 
 abbrev μ-loop : tie.MeasureT-loop
-μ-loop part₀ pattern k₀ i₀ i-end part k i = i-end - i
+μ-loop out₀ pattern k₀ i₀ i-end out k i = i-end - i
 
 loop-holds : tie.Need-loop-holds Inv-loop μ-loop
 loop-holds c = (omega arith, refl, c .before .before .pre, sym (zero-mod _), done-none _ _)
@@ -26,12 +26,12 @@ loop-again c =
     let h = c .before .before .before .loop in
     let start = c .before .before .before .before .before .before in
     let p = now (start .args .pattern) in
-    let l : h .i < length (now (start .args .part)) = omega arith in (
+    let l : h .i < length (now (start .args .out)) = omega arith in (
       omega arith,
       search needs,
       rw (c .wrap .ensures) (mod-lt _ (start .pre)),
       step (h .i) (h .k) (length p) _ (h .inv .3) (c .wrap .ensures),
-      done-more _ _ _ _ _ (h .inv .4) l (rw (h .inv .3) refl),
+      done-more _ _ _ _ _ (h .inv .4) l (ap (λ (n : ℕ). getD p n 0) (h .inv .3)),
     )
 
 returns : tie.Need-returns Inv-loop μ-loop

@@ -1,0 +1,177 @@
+-- Laws of single calls of the model, and how calls compose. Assumes nothing.
+use mathlib.Core.Path.{_≡_, refl, sym, ap, subst, _∙_}
+use mathlib.Core.Bool.{Bool, true, false, not, _&&_, _||_, cond, and-false, or-true}
+use mathlib.Core.List.{List, [], _∷_}
+use Prim.Native.Nat.{ℕ, suc, _+_, _-_, _≤_, _<_}
+use native.Mathlib.Omega.{arith}
+use lib.Dec.{eqb, leb, ltb, lit≤, eqb·suc-zero}
+use lib.ListN.{length, getD, drop, replicate}
+use borrow.Author.Tests.{eq-eqb, ne-eqb, le-ltb, le-leb, leb-true}
+use Rattle.units.specs.declared.Address.{Address}
+use Rattle.units.specs.declared.Block.{Block}
+use Rattle.units.specs.Kinds.{sectorOf, blockOf}
+use Rattle.units.specs.Models.{modelOf, addressOf, rangeOf, isProtected}
+use Rattle.units.proofs.Rules.{range-rules}
+use Rattle.cells.proofs.Lay.{lay-none}
+use Rattle.rules.specs.Answers.{isDone}
+use Rattle.rules.specs.Commands.{decodeOf, traitsOf, lengthOk}
+use Rattle.rules.specs.States.{recordOk, stateOk, longestOf, powerOn}
+use Rattle.rules.specs.declared.Record.{Record}
+use Rattle.rules.specs.declared.State.{State}
+use Rattle.rules.specs.declared.Answer.{Answer}
+use Rattle.rules.specs.declared.Answer.the-variants.{Done}
+use Rattle.rules.proofs.States.{Sound, sound, valid}
+use Rattle.ladder.specs.Ladder.{ladder, refusalOf}
+use Rattle.ladder.specs.declared.Head.{Head}
+use Rattle.ladder.proofs.Passed.{Clear, unrefused}
+use Rattle.chip.specs.declared.After.{After}
+use Rattle.chip.specs.Effects.{Effect, stateOnly, changed, shown, drives, latched, dozing, working, written, eraseSector, programPage, readFrom, wake}
+use Rattle.chip.specs.Frames.{headOf, acceptedOf, frameOf}
+use Rattle.chip.specs.Time.{later, ifValid, waitOf}
+use Rattle.promises.specs.Calls.{Call, sends, waits, cycles, World, ours, after, answer, run, answers}
+use Rattle.promises.specs.Twelve.{Bench}
+use Rattle.promises.proofs.Valid.{call-sound}
+
+-- a frame that no row of the table stops is accepted; the first five rows ask for a bench, a short enough frame and room
+pub taken : (rec : Record) (x : World) (bytes : List ℕ) (tail : ℕ) (wp : Bool) (out : List ℕ) → Bench rec x
+    → length bytes ≤ 65541 → tail ≤ 7 → length bytes ≤ length out
+    → Clear (drop 5 (ladder rec (x .state) (length (x .cells)) (headOf (rec .model) bytes tail wp) (length out) (traitsOf (decodeOf (getD bytes 0 0)))))
+    → frameOf rec (x .state) (x .cells) bytes tail wp out
+    ≡ acceptedOf rec (x .state) (decodeOf (getD bytes 0 0)) (x .cells) (addressOf (rec .model) (getD bytes 1 0) (getD bytes 2 0) (getD bytes 3 0)) bytes out
+unfolding frameOf refusalOf headOf
+taken rec x bytes tail wp out b l t r c =
+    let long : (ltb 65541 (length bytes) || ltb 7 tail) ≡ false = rw (le-ltb 65541 (length bytes) l, le-ltb 7 tail t) in
+    rw (unrefused (ladder rec (x .state) (length (x .cells)) (headOf (rec .model) bytes tail wp) (length out) (traitsOf (decodeOf (getD bytes 0 0))))
+    (ap not (b .right), (ap not (eq-eqb (length (x .cells)) (modelOf (rec .model) .length) (b .whole)), (ap not (b .valid), (long, (le-ltb (length out) (length bytes) r, c))))))
+
+-- at BP 0 no block is protected
+pub unprotected : (n : ℕ) (b : Block) → isProtected n 0 b ≡ false
+unfolding isProtected
+unprotected n b = go (leb (rangeOf n 0 .0) (b .0)) refl
+  where
+    none : rangeOf n 0 .1 ≡ 0
+    none = range-rules n 0 (omega arith) .none refl
+    go : (t : Bool) → leb (rangeOf n 0 .0) (b .0) ≡ t → (t && ltb (b .0) (rangeOf n 0 .0 + rangeOf n 0 .1)) ≡ false
+    go true e = le-ltb (b .0) (rangeOf n 0 .0 + rangeOf n 0 .1) (omega (arith, none, leb-true (rangeOf n 0 .0) (b .0) e))
+    go false e = refl
+
+-- the last eight tests of the table, by name
+pub tests : {a b c d e f g h : Bool} → a ≡ false → b ≡ false → c ≡ false → d ≡ false → e ≡ false → f ≡ false → g ≡ false → h ≡ false
+    → (a ≡ false) × ((b ≡ false) × ((c ≡ false) × ((d ≡ false) × ((e ≡ false) × ((f ≡ false) × ((g ≡ false) × ((h ≡ false) × Unit {0})))))))
+tests a b c d e f g h = (a, (b, (c, (d, (e, (f, (g, (h, tt))))))))
+
+-- ---- the frames of the twelve calls
+module _ (rec : Record) (x : World) (b : Bench rec x) (z : x .state .busy ≡ 0) (out : List ℕ) where
+  pub wake-taken : 1 ≤ length out
+      → frameOf rec (x .state) (x .cells) (0xAB ∷ []) 0 true out ≡ stateOnly Done (dozing (x .state) false) (x .cells) out
+  unfolding acceptedOf decodeOf traitsOf headOf lengthOk wake drives
+  wake-taken r =
+      taken rec x (0xAB ∷ []) 0 true out b (lit≤ tt) (lit≤ tt) r
+      (tests refl (rw (eq-eqb (x .state .busy) 0 z)) (and-false (x .state .asleep)) refl refl refl refl refl)
+      ∙ rw (lay-none out 4)
+
+  pub enable-taken : x .state .asleep ≡ false → 1 ≤ length out
+      → frameOf rec (x .state) (x .cells) (0x06 ∷ []) 0 true out ≡ stateOnly Done (latched (x .state) true) (x .cells) out
+  unfolding acceptedOf decodeOf traitsOf headOf lengthOk
+  enable-taken a r =
+      taken rec x (0x06 ∷ []) 0 true out b (lit≤ tt) (lit≤ tt) r
+      (tests refl (rw (eq-eqb (x .state .busy) 0 z)) (rw a) refl refl refl refl refl)
+
+  pub write-taken : (v : ℕ) → x .state .asleep ≡ false → x .state .wel ≡ true → 2 ≤ length out
+      → frameOf rec (x .state) (x .cells) (0x01 ∷ v ∷ []) 0 true out
+      ≡ stateOnly Done (written (x .state) v (rec .«status_write»)) (x .cells) out
+  unfolding acceptedOf decodeOf traitsOf headOf lengthOk
+  write-taken v a w r =
+      taken rec x (0x01 ∷ v ∷ []) 0 true out b (lit≤ tt) (lit≤ tt) r
+      (tests refl (rw (eq-eqb (x .state .busy) 0 z)) (rw a) refl refl (rw w) (and-false (x .state .srwd)) refl)
+
+  pub erase-taken : (high middle low : ℕ) → x .state .asleep ≡ false → x .state .wel ≡ true → x .state .bp ≡ 0 → 4 ≤ length out
+      → frameOf rec (x .state) (x .cells) (0x20 ∷ high ∷ middle ∷ low ∷ []) 0 true out
+      ≡ changed out (eraseSector rec (x .state) (x .cells) (addressOf (rec .model) high middle low))
+  unfolding acceptedOf decodeOf traitsOf headOf lengthOk
+  erase-taken high middle low a w p r =
+      taken rec x (0x20 ∷ high ∷ middle ∷ low ∷ []) 0 true out b (lit≤ tt) (lit≤ tt) r
+      (tests refl (rw (eq-eqb (x .state .busy) 0 z)) (rw a) refl refl (rw w) refl
+      (rw (p, unprotected (rec .model) (blockOf (addressOf (rec .model) high middle low)))))
+
+  pub program-taken : (high middle low : ℕ) (sent : List ℕ) → x .state .asleep ≡ false → x .state .wel ≡ true → x .state .bp ≡ 0
+      → 1 ≤ length sent → 4 + length sent ≤ 65541 → 4 + length sent ≤ length out
+      → frameOf rec (x .state) (x .cells) (0x02 ∷ high ∷ middle ∷ low ∷ sent) 0 true out
+      ≡ changed out (programPage rec (x .state) (x .cells) (addressOf (rec .model) high middle low) (0x02 ∷ high ∷ middle ∷ low ∷ sent))
+  unfolding acceptedOf decodeOf traitsOf headOf lengthOk
+  program-taken high middle low sent a w p n l r =
+      taken rec x (0x02 ∷ high ∷ middle ∷ low ∷ sent) 0 true out b (omega arith) (lit≤ tt) (omega arith)
+      (tests (eqb·suc-zero (suc (suc (suc (length sent))))) (rw (eq-eqb (x .state .busy) 0 z)) (rw a) refl (rw (eqb·suc-zero (suc (suc (suc (length sent)))), le-leb 5 (suc (suc (suc (suc (length sent))))) (omega arith))) (rw w) refl
+      (rw (p, unprotected (rec .model) (blockOf (addressOf (rec .model) high middle low)))))
+
+  pub read-taken : (high middle low : ℕ) (more : List ℕ) → x .state .asleep ≡ false → 4 + length more ≤ 65541 → 4 + length more ≤ length out
+      → frameOf rec (x .state) (x .cells) (0x03 ∷ high ∷ middle ∷ low ∷ more) 0 true out
+      ≡ shown (x .cells) (readFrom 4 (x .state) (x .cells) (addressOf (rec .model) high middle low) (0x03 ∷ high ∷ middle ∷ low ∷ more) out)
+  unfolding acceptedOf decodeOf traitsOf headOf lengthOk
+  read-taken high middle low more a l r =
+      taken rec x (0x03 ∷ high ∷ middle ∷ low ∷ more) 0 true out b (omega arith) (lit≤ tt) (omega arith)
+      (tests (eqb·suc-zero (suc (suc (suc (length more))))) (rw (eq-eqb (x .state .busy) 0 z)) (rw a) refl (rw (eqb·suc-zero (suc (suc (suc (length more)))), le-leb 4 (suc (suc (suc (suc (length more))))) (omega arith))) refl refl refl)
+
+-- ---- calls one after the other
+-- a list of calls, each answered 0, and where it leads
+pub data Goes (rec : Record) : List Call → List Call → World → World → Type 0 where
+  ends : {seen : List Call} {x : World} → Goes rec seen [] x x
+  goes : {seen : List Call} {c : Call} {cs : List Call} {x y w : World}
+      → (answer ours rec seen c x ≡ Done) × (after ours rec seen c x ≡ y) → Goes rec (c ∷ seen) cs y w → Goes rec seen (c ∷ cs) x w
+
+pub goes-run : {rec : Record} {seen cs : List Call} {x w : World} → Goes rec seen cs x w → run ours rec seen cs x ≡ w
+goes-run ends = refl
+goes-run {rec} (goes {seen} {c} {cs} a g) = ap (run ours rec (c ∷ seen) cs) (a .1) ∙ goes-run g
+
+pub goes-answers : {rec : Record} {seen cs : List Call} {x w : World} → Goes rec seen cs x w → answers ours rec seen cs x ≡ replicate (length cs) Done
+goes-answers ends = refl
+goes-answers {rec} (goes {seen} {c} {cs} {x} a g) =
+    ap (λ (d : Answer). d ∷ answers ours rec (c ∷ seen) cs (after ours rec seen c x)) (a .0)
+    ∙ ap (λ (y : World). Done ∷ answers ours rec (c ∷ seen) cs y) (a .1)
+    ∙ ap (λ (ds : List Answer). Done ∷ ds) (goes-answers g)
+
+pub wait-taken : (rec : Record) (s : State) (us : ℕ) → recordOk rec ≡ true → stateOk rec s ≡ true
+    → waitOf rec s us ≡ record { answer = Done; state = later s us }
+unfolding waitOf ifValid
+wait-taken rec s us a b = rw (a, b)
+
+-- what a frame leaves
+abbrev pub left : Effect → World
+left e = record { state = e .reply .state; cells = e .cells }
+
+-- one call on a bench, answered 0, that leaves a bench
+pub record Step (rec : Record) (seen : List Call) (c : Call) (x y : World) : Type 0 where
+  pub does : (answer ours rec seen c x ≡ Done) × (after ours rec seen c x ≡ y)
+  pub bench : Bench rec y
+
+module _ (rec : Record) (seen : List Call) (x : World) (b : Bench rec x) where
+  -- a bench stays one while the array keeps its length
+  bench-next : (c : Call) (y : World) → after ours rec seen c x ≡ y → length (y .cells) ≡ length (x .cells) → Bench rec y
+  bench-next c y e l =
+      record {
+        right = b .right;
+        whole = l ∙ b .whole;
+        valid = valid rec (y .state) (subst (λ (w : World). Sound rec (w .state)) e (call-sound rec seen c x (sound rec (x .state) (b .valid))));
+      }
+
+  step : (c : Call) (y : World) → (answer ours rec seen c x ≡ Done) × (after ours rec seen c x ≡ y) → length (y .cells) ≡ length (x .cells) → Step rec seen c x y
+  step c y d l = record { does = d; bench = bench-next c y (d .1) l }
+
+  pub sends-to : (bytes out : List ℕ) (e : Effect) → frameOf rec (x .state) (x .cells) bytes 0 true out ≡ e → e .reply .answer ≡ Done
+      → length (e .cells) ≡ length (x .cells) → Step rec seen (sends bytes 0 true out) x (left e)
+  unfolding answer after
+  sends-to bytes out e p d l = step (sends bytes 0 true out) (left e) (does p d) l
+    where
+      does : frameOf rec (x .state) (x .cells) bytes 0 true out ≡ e → e .reply .answer ≡ Done
+          → (answer ours rec seen (sends bytes 0 true out) x ≡ Done) × (after ours rec seen (sends bytes 0 true out) x ≡ left e)
+      does p d = (ap (λ (f : Effect). f .reply .answer) p ∙ d, ap left p)
+
+  -- to a state that the wait is known to lead to
+  pub waits-to : (us : ℕ) (s : State) → later (x .state) us ≡ s → Step rec seen (waits us) x (record { state = s; cells = x .cells })
+  unfolding answer after
+  waits-to us s e = step (waits us) (record { state = s; cells = x .cells }) does refl
+    where
+      does : (answer ours rec seen (waits us) x ≡ Done) × (after ours rec seen (waits us) x ≡ record { state = s; cells = x .cells })
+      does =
+          let k = wait-taken rec (x .state) us (b .right) (b .valid) in
+          (ap (λ (f : After). f .answer) k, ap (λ (f : After). record { state = f .state; cells = x .cells }) k ∙ ap (λ (t : State). record { state = t; cells = x .cells }) e)

@@ -1,0 +1,145 @@
+-- Every call leaves a valid state valid and the array as long as it was. Assumes nothing.
+use mathlib.Core.Path.{_≡_, refl, sym, ap, subst, _∙_}
+use mathlib.Core.Bool.{Bool, true, false, not, _&&_, _||_, cond, or-true}
+use mathlib.Core.List.{List, [], _∷_}
+use mathlib.Core.Logic.{⊎-elim, _⊎_, inl, inr}
+use Prim.Native.Nat.{ℕ, _≤_, _<_, _-_, _/_, _%_}
+use native.Mathlib.Nat.{mod-lt, le-trans}
+use native.Mathlib.Omega.{arith}
+use lib.Dec.{eqb, leb, ltb, lit<}
+use lib.ListN.{length, getD}
+use borrow.Author.Tests.{eqb-true, not-false, leb-true, ltb-false}
+use Rattle.units.proofs.Bools.{unless, only-if}
+use Rattle.units.proofs.Table.{found}
+use Rattle.units.specs.declared.Address.{Address}
+use Rattle.units.specs.Models.{Part, partOf, modelOf, models, kh25l512}
+use Rattle.rules.specs.Answers.{isDone}
+use Rattle.rules.specs.Commands.{traitsOf}
+use Rattle.rules.specs.States.{recordOk, stateOk, longestOf, powerOn}
+use Rattle.rules.specs.declared.Record.{Record}
+use Rattle.rules.specs.declared.State.{State}
+use Rattle.rules.specs.declared.Answer.{Answer}
+use Rattle.rules.specs.declared.Answer.the-variants.{Done, BadState, BadRecord}
+use Rattle.rules.specs.declared.Command.{Command}
+use Rattle.rules.specs.declared.Command.the-variants.{WriteEnable, WriteDisable, ReadStatus, WriteStatus, Read, FastRead, EraseSector, EraseBlock, EraseChip, Program, ReadId, Wake, ReadMaker, Sleep, Unknown}
+use Rattle.rules.proofs.States.{Sound, sound, valid, status-write-le, page-le, sector-le, block-le, chip-le}
+use Rattle.ladder.specs.Ladder.{refusalOf}
+use Rattle.ladder.specs.declared.Head.{Head}
+use Rattle.ladder.proofs.Passed.{passed}
+use Rattle.chip.specs.declared.After.{After}
+use Rattle.chip.specs.Effects.{Effect, stateOnly, drives, latched, dozing, working, written, readStatus, readFrom, eraseSector, eraseBlock, eraseChip, programPage, readId, wake, readMaker}
+use Rattle.chip.specs.Frames.{headOf, acceptedOf, frameOf}
+use Rattle.chip.specs.Time.{later, cycled, ifValid, waitOf, powerOf}
+use Rattle.promises.specs.Calls.{Call, sends, waits, cycles, World, ours, after, run}
+use Rattle.promises.specs.Histories.{factory, ValidHistories}
+
+-- a status write gives a BP that every model has
+bpOfTwoBits : Part → Bool
+bpOfTwoBits p = leb 3 (p .row .«highest_bp»)
+
+two-bits : (n : ℕ) → 3 ≤ modelOf n .«highest_bp»
+unfolding partOf bpOfTwoBits
+two-bits n = leb-true 3 _ (found bpOfTwoBits n kh25l512 models refl refl)
+
+module _ (rec : Record) (s : State) (p : Sound rec s) where
+  -- the state of an idle chip may change its latch and fall asleep or wake
+  latched-sound : (b : Bool) → s .busy ≡ 0 → Sound rec (latched s b)
+  unfolding latched
+  latched-sound b z = record { level = p .level; time = p .time; mood = inl z }
+
+  dozing-sound : (b : Bool) → s .busy ≡ 0 → Sound rec (dozing s b)
+  unfolding dozing
+  dozing-sound b z = record { level = p .level; time = p .time; mood = inl z }
+
+  -- an operation starts: the latch is set, and the chip is awake
+  working-sound : (t : ℕ) → t ≤ longestOf rec → s .wel ≡ true → s .asleep ≡ false → Sound rec (working s t)
+  unfolding working
+  working-sound t l w d = record { level = p .level; time = l; mood = inr (w, d) }
+
+  written-sound : (b t : ℕ) → t ≤ longestOf rec → s .wel ≡ true → s .asleep ≡ false → Sound rec (written s b t)
+  unfolding written
+  written-sound b t l w d =
+      record { level = omega (arith, mod-lt (b / 4) {m = 4} (lit< tt), two-bits (rec .model)); time = l; mood = inr (w, d) }
+
+  later-sound : (us : ℕ) → Sound rec (later s us)
+  unfolding later
+  later-sound us =
+      record {
+        level = p .level;
+        time = omega (arith, p .time);
+        mood = ⊎-elim (λ z. inl (omega arith)) (λ q. go (ltb us (s .busy)) refl q) (p .mood);
+      }
+    where
+      go : (b : Bool) → ltb us (s .busy) ≡ b → (s .wel ≡ true) × (s .asleep ≡ false)
+          → (s .busy - us ≡ 0) ⊎ (((s .wel && (eqb (s .busy) 0 || ltb us (s .busy))) ≡ true) × (s .asleep ≡ false))
+      go true e q = inr (rw (q .0, e) (or-true (eqb (s .busy) 0)), q .1)
+      go false e q = inl (omega (arith, ltb-false us (s .busy) e))
+
+  cycled-sound : Sound rec (cycled s)
+  unfolding cycled
+  cycled-sound = record { level = p .level; time = omega arith; mood = inl refl }
+
+-- the test for 11 fails at a command that is not taken while busy: the chip is idle
+idle : (busy : ℕ) → (not (eqb busy 0) && not false) ≡ false → busy ≡ 0
+idle busy i = eqb-true busy 0 (not-false _ (only-if (not (eqb busy 0)) false i refl))
+
+-- an accepted command, by what the refusals have shown
+module _ (rec : Record) (s : State) (p : Sound rec s) (cells : List ℕ) (at : Address) (bytes out : List ℕ) where
+  accepted-sound : (c : Command) → (not (eqb (s .busy) 0) && not (traitsOf c .«while_busy»)) ≡ false
+      → (s .asleep && not (traitsOf c .«while_asleep»)) ≡ false → (traitsOf c .latch && not (s .wel)) ≡ false
+      → Sound rec (acceptedOf rec s c cells at bytes out .reply .state)
+  unfolding acceptedOf traitsOf drives readStatus readFrom eraseSector eraseBlock eraseChip programPage readId wake readMaker
+  accepted-sound WriteEnable i a e = latched-sound rec s p true (idle (s .busy) i)
+  accepted-sound WriteDisable i a e = latched-sound rec s p false (idle (s .busy) i)
+  accepted-sound ReadStatus i a e = p
+  accepted-sound WriteStatus i a e = written-sound rec s p (getD bytes 1 0) (rec .«status_write») (status-write-le rec) (unless true (s .wel) e refl) (only-if (s .asleep) false a refl)
+  accepted-sound Read i a e = p
+  accepted-sound FastRead i a e = p
+  accepted-sound EraseSector i a e = working-sound rec s p (rec .sector) (sector-le rec) (unless true (s .wel) e refl) (only-if (s .asleep) false a refl)
+  accepted-sound EraseBlock i a e = working-sound rec s p (rec .block) (block-le rec) (unless true (s .wel) e refl) (only-if (s .asleep) false a refl)
+  accepted-sound EraseChip i a e = working-sound rec s p (rec .chip) (chip-le rec) (unless true (s .wel) e refl) (only-if (s .asleep) false a refl)
+  accepted-sound Program i a e = working-sound rec s p (rec .page) (page-le rec) (unless true (s .wel) e refl) (only-if (s .asleep) false a refl)
+  accepted-sound ReadId i a e = p
+  accepted-sound Wake i a e = dozing-sound rec s p false (idle (s .busy) i)
+  accepted-sound ReadMaker i a e = p
+  accepted-sound Sleep i a e = dozing-sound rec s p true (idle (s .busy) i)
+  accepted-sound Unknown i a e = p
+
+-- a frame, whatever it is given
+pub frame-sound : (rec : Record) (s : State) (cells bytes : List ℕ) (tail : ℕ) (wp : Bool) (out : List ℕ)
+    → Sound rec s → Sound rec (frameOf rec s cells bytes tail wp out .reply .state)
+unfolding frameOf
+frame-sound rec s cells bytes tail wp out p = go (isDone (refusalOf rec s (length cells) h (length out))) refl
+  where
+    h : Head
+    h = headOf (rec .model) bytes tail wp
+    go : (b : Bool) → isDone (refusalOf rec s (length cells) h (length out)) ≡ b
+        → Sound rec (cond b (acceptedOf rec s (h .command) cells (h .address) bytes out) (stateOnly (refusalOf rec s (length cells) h (length out)) s cells out) .reply .state)
+    go true e =
+        let q = passed rec s (length cells) h (length out) e in
+        accepted-sound rec s p cells (h .address) bytes out (h .command) (q .listens) (q .awake) (q .enabled)
+    go false e = p
+
+if-valid-sound : (rec : Record) (s next : State) → Sound rec s → Sound rec next → Sound rec (ifValid rec s next .state)
+unfolding ifValid
+if-valid-sound rec s next p q = go (recordOk rec) (stateOk rec s)
+  where
+    go : (a b : Bool) → Sound rec (cond {A = After} a (cond b (record { answer = Done; state = next }) (record { answer = BadState; state = s })) (record { answer = BadRecord; state = s }) .state)
+    go true true = q
+    go true false = p
+    go false b = p
+
+pub call-sound : (rec : Record) (seen : List Call) (c : Call) (x : World) → Sound rec (x .state) → Sound rec (after ours rec seen c x .state)
+unfolding after waitOf powerOf
+call-sound rec seen (sends b t w o) x p = frame-sound rec (x .state) (x .cells) b t w o p
+call-sound rec seen (waits us) x p = if-valid-sound rec (x .state) (later (x .state) us) p (later-sound rec (x .state) p us)
+call-sound rec seen cycles x p = if-valid-sound rec (x .state) (cycled (x .state)) p (cycled-sound rec (x .state) p)
+
+-- any sequence of calls
+pub run-sound : (rec : Record) (seen cs : List Call) (x : World) → Sound rec (x .state) → Sound rec (run ours rec seen cs x .state)
+run-sound rec seen [] x p = p
+run-sound rec seen (c ∷ cs) x p = run-sound rec (c ∷ seen) cs (after ours rec seen c x) (call-sound rec seen c x p)
+
+pub valid-histories : ValidHistories
+valid-histories rec cells calls =
+    valid rec _ (run-sound rec [] calls (factory cells) (record { level = omega arith; time = omega arith; mood = inl refl }))

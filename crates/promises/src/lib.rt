@@ -1,0 +1,1 @@
+// No code: statements in specs/ and their proofs, over the definitions of the crates below.
