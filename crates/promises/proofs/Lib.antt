@@ -1,3 +1,6 @@
 pub mod Valid
 pub mod Steps
 pub mod Twelve
+pub mod Shorter
+pub mod Lengths
+pub mod Reached

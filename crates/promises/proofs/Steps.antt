@@ -1,7 +1,7 @@
 -- Laws of single calls of the model, and how calls compose. Assumes nothing.
 use mathlib.Core.Path.{_≡_, refl, sym, ap, subst, _∙_}
 use mathlib.Core.Bool.{Bool, true, false, not, _&&_, _||_, cond, and-false, or-true}
-use mathlib.Core.List.{List, [], _∷_}
+use mathlib.Core.List.{List, [], _∷_, _++_}
 use Prim.Native.Nat.{ℕ, suc, _+_, _-_, _≤_, _<_}
 use native.Mathlib.Omega.{arith}
 use lib.Dec.{eqb, leb, ltb, lit≤, eqb·suc-zero}
@@ -19,13 +19,13 @@ use Rattle.rules.specs.States.{recordOk, stateOk, longestOf, powerOn}
 use Rattle.rules.specs.declared.Record.{Record}
 use Rattle.rules.specs.declared.State.{State}
 use Rattle.rules.specs.declared.Answer.{Answer}
-use Rattle.rules.specs.declared.Answer.the-variants.{Done}
+use Rattle.rules.specs.declared.Answer.the-variants.{Done, Busy}
 use Rattle.rules.proofs.States.{Sound, sound, valid}
 use Rattle.ladder.specs.Ladder.{ladder, refusalOf}
 use Rattle.ladder.specs.declared.Head.{Head}
 use Rattle.ladder.proofs.Passed.{Clear, unrefused}
 use Rattle.chip.specs.declared.After.{After}
-use Rattle.chip.specs.Effects.{Effect, stateOnly, changed, shown, drives, latched, dozing, working, written, eraseSector, programPage, readFrom, wake}
+use Rattle.chip.specs.Effects.{Effect, stateOnly, changed, shown, drives, latched, dozing, working, written, eraseSector, eraseBlock, eraseChip, programPage, readFrom, wake}
 use Rattle.chip.specs.Frames.{headOf, acceptedOf, frameOf}
 use Rattle.chip.specs.Time.{later, ifValid, waitOf}
 use Rattle.promises.specs.Calls.{Call, sends, waits, cycles, World, ours, after, answer, run, answers}
@@ -43,6 +43,29 @@ taken rec x bytes tail wp out b l t r c =
     let long : (ltb 65541 (length bytes) || ltb 7 tail) ≡ false = rw (le-ltb 65541 (length bytes) l, le-ltb 7 tail t) in
     rw (unrefused (ladder rec (x .state) (length (x .cells)) (headOf (rec .model) bytes tail wp) (length out) (traitsOf (decodeOf (getD bytes 0 0))))
     (ap not (b .right), (ap not (eq-eqb (length (x .cells)) (modelOf (rec .model) .length) (b .whole)), (ap not (b .valid), (long, (le-ltb (length out) (length bytes) r, c))))))
+
+-- a frame on a busy chip is answered 11, unless its command is taken while busy
+busy-refusal : (rec : Record) (x : World) (h : Head) (room : ℕ) → Bench rec x → 0 < x .state .busy → 0 < h .count → h .count ≤ 65541 → h .tail ≤ 7 → h .count ≤ room
+    → traitsOf (h .command) .«while_busy» ≡ false → refusalOf rec (x .state) (length (x .cells)) h room ≡ Busy
+unfolding refusalOf
+busy-refusal rec x h room b busy some l t r w =
+    rw (b .right, eq-eqb (length (x .cells)) (modelOf (rec .model) .length) (b .whole), b .valid, le-ltb 65541 (h .count) l, le-ltb 7 (h .tail) t, le-ltb room (h .count) r,
+    ne-eqb (h .count) 0 (λ z. omega arith), ne-eqb (x .state .busy) 0 (λ z. omega arith), w)
+
+-- a refused frame changes nothing
+pub refused-frame : (rec : Record) (s : State) (cells bytes : List ℕ) (tail : ℕ) (wp : Bool) (out : List ℕ) (a : Answer)
+    → refusalOf rec s (length cells) (headOf (rec .model) bytes tail wp) (length out) ≡ a → isDone a ≡ false
+    → frameOf rec s cells bytes tail wp out ≡ stateOnly a s cells out
+unfolding frameOf
+refused-frame rec s cells bytes tail wp out a e d = rw (e, d)
+
+pub while-busy : (rec : Record) (x : World) (bytes out : List ℕ) → Bench rec x → 0 < x .state .busy
+    → 0 < length bytes → length bytes ≤ 65541 → length bytes ≤ length out → traitsOf (decodeOf (getD bytes 0 0)) .«while_busy» ≡ false
+    → answer ours rec [] (sends bytes 0 true out) x ≡ Busy
+unfolding answer headOf
+while-busy rec x bytes out b busy some l r w =
+    ap (λ (e : Effect). e .reply .answer)
+    (refused-frame rec (x .state) (x .cells) bytes 0 true out Busy (busy-refusal rec x (headOf (rec .model) bytes 0 true) (length out) b busy some l (lit≤ tt) r w) refl)
 
 -- at BP 0 no block is protected
 pub unprotected : (n : ℕ) (b : Block) → isProtected n 0 b ≡ false
@@ -112,12 +135,38 @@ module _ (rec : Record) (x : World) (b : Bench rec x) (z : x .state .busy ≡ 0)
       taken rec x (0x03 ∷ high ∷ middle ∷ low ∷ more) 0 true out b (omega arith) (lit≤ tt) (omega arith)
       (tests (eqb·suc-zero (suc (suc (suc (length more))))) (rw (eq-eqb (x .state .busy) 0 z)) (rw a) refl (rw (eqb·suc-zero (suc (suc (suc (length more)))), le-leb 4 (suc (suc (suc (suc (length more))))) (omega arith))) refl refl refl)
 
+  -- the other operations, for a chip that waits too short a time after them
+  pub block-taken : (high middle low : ℕ) → x .state .asleep ≡ false → x .state .wel ≡ true → x .state .bp ≡ 0 → 4 ≤ length out
+      → frameOf rec (x .state) (x .cells) (0xD8 ∷ high ∷ middle ∷ low ∷ []) 0 true out
+      ≡ changed out (eraseBlock rec (x .state) (x .cells) (addressOf (rec .model) high middle low))
+  unfolding acceptedOf decodeOf traitsOf headOf lengthOk
+  block-taken high middle low a w p r =
+      taken rec x (0xD8 ∷ high ∷ middle ∷ low ∷ []) 0 true out b (lit≤ tt) (lit≤ tt) r
+      (tests refl (rw (eq-eqb (x .state .busy) 0 z)) (rw a) refl refl (rw w) refl
+      (rw (p, unprotected (rec .model) (blockOf (addressOf (rec .model) high middle low)))))
+
+  pub chip-taken : x .state .asleep ≡ false → x .state .wel ≡ true → x .state .bp ≡ 0 → 1 ≤ length out
+      → frameOf rec (x .state) (x .cells) (0xC7 ∷ []) 0 true out ≡ changed out (eraseChip rec (x .state) (x .cells))
+  unfolding acceptedOf decodeOf traitsOf headOf lengthOk
+  chip-taken a w p r =
+      taken rec x (0xC7 ∷ []) 0 true out b (lit≤ tt) (lit≤ tt) r
+      (tests refl (rw (eq-eqb (x .state .busy) 0 z)) (rw a) refl refl (rw w) refl (rw p))
+
 -- ---- calls one after the other
 -- a list of calls, each answered 0, and where it leads
 pub data Goes (rec : Record) : List Call → List Call → World → World → Type 0 where
   ends : {seen : List Call} {x : World} → Goes rec seen [] x x
   goes : {seen : List Call} {c : Call} {cs : List Call} {x y w : World}
       → (answer ours rec seen c x ≡ Done) × (after ours rec seen c x ≡ y) → Goes rec (c ∷ seen) cs y w → Goes rec seen (c ∷ cs) x w
+
+-- the calls seen, the latest first, after a list of calls more
+abbrev pub saw : List Call → List Call → List Call
+saw seen [] = seen
+saw seen (c ∷ cs) = saw (c ∷ seen) cs
+
+pub goes-on : {rec : Record} {seen cs ds : List Call} {x y w : World} → Goes rec seen cs x y → Goes rec (saw seen cs) ds y w → Goes rec seen (cs ++ ds) x w
+goes-on ends h = h
+goes-on (goes a g) h = goes a (goes-on g h)
 
 pub goes-run : {rec : Record} {seen cs : List Call} {x w : World} → Goes rec seen cs x w → run ours rec seen cs x ≡ w
 goes-run ends = refl
@@ -134,6 +183,21 @@ pub wait-taken : (rec : Record) (s : State) (us : ℕ) → recordOk rec ≡ true
     → waitOf rec s us ≡ record { answer = Done; state = later s us }
 unfolding waitOf ifValid
 wait-taken rec s us a b = rw (a, b)
+
+-- one call more: our model does not look at the calls seen
+answer-any : (rec : Record) (seen : List Call) (c : Call) (x : World) → answer ours rec seen c x ≡ answer ours rec [] c x
+unfolding answer
+answer-any rec seen (sends bytes tail wp out) x = refl
+answer-any rec seen (waits us) x = refl
+answer-any rec seen cycles x = refl
+
+pub goes-then : {rec : Record} {seen cs : List Call} {x w : World} (k : Call) → Goes rec seen cs x w
+    → answers ours rec seen (cs ++ (k ∷ [])) x ≡ replicate (length cs) Done ++ (answer ours rec [] k w ∷ [])
+goes-then {rec} k (ends {seen} {x}) = ap (λ (a : Answer). a ∷ []) (answer-any rec seen k x)
+goes-then {rec} k (goes {seen} {c} {cs} {x} a g) =
+    ap (λ (b : Answer). b ∷ answers ours rec (c ∷ seen) (cs ++ (k ∷ [])) (after ours rec seen c x)) (a .0)
+    ∙ ap (λ (y : World). Done ∷ answers ours rec (c ∷ seen) (cs ++ (k ∷ [])) y) (a .1)
+    ∙ ap (λ (ds : List Answer). Done ∷ ds) (goes-then k g)
 
 -- what a frame leaves
 abbrev pub left : Effect → World

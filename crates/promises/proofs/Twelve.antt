@@ -30,7 +30,7 @@ use Rattle.chip.specs.Frames.{frameOf}
 use Rattle.chip.specs.Time.{later}
 use Rattle.promises.specs.Calls.{Call, World, ours, after, answer, run}
 use Rattle.promises.specs.Twelve.{Job, Bench, Fits, frame, eleven, wait₁, call₂, call₃, call₄, wait₅, call₆, call₇, wait₈, call₉, call₁₀, wait₁₁, call₁₂, twelve, Won, Recovers, TwelveCalls, lastEffect}
-use Rattle.promises.proofs.Steps.{Goes, ends, goes, goes-run, goes-answers, Step, sends-to, waits-to, wake-taken, enable-taken, write-taken, erase-taken, program-taken, read-taken}
+use Rattle.promises.proofs.Steps.{Goes, ends, goes, goes-on, goes-run, goes-answers, Step, sends-to, waits-to, wake-taken, enable-taken, write-taken, erase-taken, program-taken, read-taken}
 
 -- a chip that is awake with protection off, and runs an operation for so long
 abbrev pub running : ℕ → State
@@ -50,6 +50,14 @@ run-out time p =
 pub not-yet : (time : ℕ) → 0 < time → later (running time) (time - 1) .busy ≡ 1
 unfolding later
 not-yet time p = omega arith
+
+-- 06 on a chip as from the factory
+pub enable : (rec : Record) (seen : List Call) (cells out : List ℕ) → Bench rec (record { state = powerOn; cells = cells }) → 1 ≤ length out
+    → Step rec seen (frame (0x06 ∷ []) out) (record { state = powerOn; cells = cells }) (record { state = enabled; cells = cells })
+unfolding latched
+enable rec seen cells out c r =
+    let y : World = record { state = powerOn; cells = cells } in
+    sends-to rec seen y c (0x06 ∷ []) out (stateOnly Done enabled cells out) (enable-taken rec y c refl out refl r) refl refl
 
 -- ---- calls 1 to 4: whatever the valid state was, a status write runs and protection is off
 module _ (rec : Record) (j : Job) (x : World) (b : Bench rec x) (f : Fits j) where
@@ -81,7 +89,7 @@ module _ (rec : Record) (j : Job) (x : World) (b : Bench rec x) (f : Fits j) whe
       let c = step₂ [] .bench in
       sends-to rec seen (on s₂) c (0x06 ∷ []) (j .out₃) (stateOnly Done s₃ (x .cells) (j .out₃)) (enable-taken rec (on s₂) c idle-after (j .out₃) refl (f .room₃)) refl refl
 
-  step₄ : (seen : List Call) → Step rec seen (call₄ rec j) (on s₃) (on (running (rec .«status_write»)))
+  pub step₄ : (seen : List Call) → Step rec seen (call₄ rec j) (on s₃) (on (running (rec .«status_write»)))
   unfolding dozing latched written
   step₄ seen =
       let c = step₃ [] .bench in
@@ -90,14 +98,6 @@ module _ (rec : Record) (j : Job) (x : World) (b : Bench rec x) (f : Fits j) whe
   -- ---- calls 5 to 8: the sector is erased
   step₅ : (seen : List Call) → Step rec seen (wait₅ rec j) (on (running (rec .«status_write»))) (on powerOn)
   step₅ seen = waits-to rec seen (on (running (rec .«status_write»))) (step₄ [] .bench) (rec .«status_write») powerOn (run-out (rec .«status_write») (times rec (b .right) .status))
-
-  -- 06 on a chip as from the factory
-  enable : (seen : List Call) (cells out : List ℕ) → Bench rec (record { state = powerOn; cells = cells }) → 1 ≤ length out
-      → Step rec seen (frame (0x06 ∷ []) out) (record { state = powerOn; cells = cells }) (record { state = enabled; cells = cells })
-  unfolding latched
-  enable seen cells out c r =
-      let y : World = record { state = powerOn; cells = cells } in
-      sends-to rec seen y c (0x06 ∷ []) out (stateOnly Done enabled cells out) (enable-taken rec y c refl out refl r) refl refl
 
   abbrev where-to : Address
   where-to = addressOf (rec .model) (j .high) (j .middle) (j .low)
@@ -126,12 +126,12 @@ module _ (rec : Record) (j : Job) (x : World) (b : Bench rec x) (f : Fits j) whe
   long₂ = length-programmed cleared where-to (j .bytes) page-in
 
   step₆ : (seen : List Call) → Step rec seen (call₆ rec j) (on powerOn) (on enabled)
-  step₆ seen = enable seen (x .cells) (j .out₆) (step₅ [] .bench) (f .room₆)
+  step₆ seen = enable rec seen (x .cells) (j .out₆) (step₅ [] .bench) (f .room₆)
 
   abbrev then : State → World
   then s = record { state = s; cells = cleared }
 
-  step₇ : (seen : List Call) → Step rec seen (call₇ rec j) (on enabled) (then (running (rec .sector)))
+  pub step₇ : (seen : List Call) → Step rec seen (call₇ rec j) (on enabled) (then (running (rec .sector)))
   unfolding eraseSector working
   step₇ seen =
       let c = step₆ [] .bench in
@@ -143,12 +143,12 @@ module _ (rec : Record) (j : Job) (x : World) (b : Bench rec x) (f : Fits j) whe
 
   -- ---- calls 9 to 12: the page is programmed and read
   step₉ : (seen : List Call) → Step rec seen (call₉ rec j) (then powerOn) (then enabled)
-  step₉ seen = enable seen cleared (j .out₉) (step₈ [] .bench) (f .room₉)
+  step₉ seen = enable rec seen cleared (j .out₉) (step₈ [] .bench) (f .room₉)
 
   abbrev last : State → World
   last s = record { state = s; cells = stored }
 
-  step₁₀ : (seen : List Call) → Step rec seen (call₁₀ rec j) (then enabled) (last (running (rec .page)))
+  pub step₁₀ : (seen : List Call) → Step rec seen (call₁₀ rec j) (then enabled) (last (running (rec .page)))
   unfolding programPage working
   step₁₀ seen =
       let c = step₉ [] .bench in
@@ -177,15 +177,20 @@ module _ (rec : Record) (j : Job) (x : World) (b : Bench rec x) (f : Fits j) whe
   unfolding readFrom drives
   step₁₂ seen = sends-to rec seen (last powerOn) (step₁₁ [] .bench) reads (j .out₁₂) shows read refl refl
 
+  pub first-four : Goes rec [] (wait₁ rec j ∷ call₂ rec j ∷ call₃ rec j ∷ call₄ rec j ∷ []) x (record { state = running (rec .«status_write»); cells = x .cells })
+  first-four = goes (step₁ .does) (goes (step₂ _ .does) (goes (step₃ _ .does) (goes (step₄ _ .does) ends)))
+
+  pub first-seven : Goes rec [] (wait₁ rec j ∷ call₂ rec j ∷ call₃ rec j ∷ call₄ rec j ∷ wait₅ rec j ∷ call₆ rec j ∷ call₇ rec j ∷ []) x (record { state = running (rec .sector); cells = cleared })
+  first-seven = goes-on first-four (goes (step₅ _ .does) (goes (step₆ _ .does) (goes (step₇ _ .does) ends)))
+
+  pub first-ten : Goes rec [] (wait₁ rec j ∷ call₂ rec j ∷ call₃ rec j ∷ call₄ rec j ∷ wait₅ rec j ∷ call₆ rec j ∷ call₇ rec j ∷ wait₈ rec j ∷ call₉ rec j ∷ call₁₀ rec j ∷ []) x (record { state = running (rec .page); cells = stored })
+  first-ten = goes-on first-seven (goes (step₈ _ .does) (goes (step₉ _ .does) (goes (step₁₀ _ .does) ends)))
+
   pub all-eleven : Goes rec [] (eleven rec j) x (last powerOn)
-  all-eleven =
-      goes (step₁ .does) (goes (step₂ _ .does) (goes (step₃ _ .does) (goes (step₄ _ .does) (goes (step₅ _ .does) (goes (step₆ _ .does)
-      (goes (step₇ _ .does) (goes (step₈ _ .does) (goes (step₉ _ .does) (goes (step₁₀ _ .does) (goes (step₁₁ _ .does) ends))))))))))
+  all-eleven = goes-on first-ten (goes (step₁₁ _ .does) ends)
 
   pub all-twelve : Goes rec [] (twelve rec j) x (last powerOn)
-  all-twelve =
-      goes (step₁ .does) (goes (step₂ _ .does) (goes (step₃ _ .does) (goes (step₄ _ .does) (goes (step₅ _ .does) (goes (step₆ _ .does)
-      (goes (step₇ _ .does) (goes (step₈ _ .does) (goes (step₉ _ .does) (goes (step₁₀ _ .does) (goes (step₁₁ _ .does) (goes (step₁₂ _ .does) ends)))))))))))
+  all-twelve = goes-on all-eleven (goes (step₁₂ _ .does) ends)
 
   -- ---- what the array and the last output hold
   offset : pageOffset where-to ≡ j .low
