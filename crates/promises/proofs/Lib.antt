@@ -4,3 +4,5 @@ pub mod Twelve
 pub mod Shorter
 pub mod Lengths
 pub mod Reached
+pub mod Pods
+pub mod Sheet

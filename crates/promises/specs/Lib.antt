@@ -2,3 +2,5 @@ pub mod Calls
 pub mod Twelve
 pub mod Histories
 pub mod Shorter
+pub mod Pods
+pub mod Sheet
