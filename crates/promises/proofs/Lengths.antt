@@ -51,6 +51,7 @@ frame-length rec s cells bytes tail wp out = go (isDone (refusalOf rec s (length
   where
     h : Head
     h = headOf (rec .model) bytes tail wp
+
     go : (b : Bool) → isDone (refusalOf rec s (length cells) h (length out)) ≡ b
         → length (cond b (acceptedOf rec s (h .command) cells (h .address) bytes out) (stateOnly (refusalOf rec s (length cells) h (length out)) s cells out) .cells) ≡ length cells
     go true e = accepted-length rec s (h .command) cells (h .address) bytes out (ready rec s cells bytes tail wp out {h = h} refl refl e)

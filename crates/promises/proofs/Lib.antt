@@ -6,3 +6,4 @@ pub mod Lengths
 pub mod Reached
 pub mod Pods
 pub mod Sheet
+pub mod Laws

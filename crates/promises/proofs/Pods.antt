@@ -164,8 +164,10 @@ number-fixed rec s cells bytes tail wp out r xs os g d =
   where
     h : Head
     h = headOf (rec .model) bytes tail wp
+
     a : Answer
     a = refusalOf rec s (length cells) h (length out)
+
     go : (b : Bool) → isDone a ≡ b → isDone (cond b (acceptedOf rec s (h .command) cells (h .address) bytes out) (stateOnly a s cells out) .reply .answer) ≡ true
         → cond b (acceptedOf rec s (h .command) cells (h .address) bytes out) (stateOnly a s cells out) .reply .count ≡ drivenBytes (decodeOf (getD bytes 0 0)) (length bytes)
     go true e f = accepted-count rec s (h .command) cells (h .address) bytes out

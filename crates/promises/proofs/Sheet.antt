@@ -16,20 +16,49 @@ use Rattle.promises.specs.Sheet.{BenchSheet}
 
 pub bench-sheet : BenchSheet
 unfolding isModel partOf addressOf rangeOf isProtected lay ring counts cellAfter pageAfter sectorErased programmed decodeOf traitsOf lengthOk inRange recordOk longestOf stateOk statusOf refusalOf drives latched dozing working written readStatus readFrom eraseSector programPage wake headOf acceptedOf frameOf later
-bench-sheet =
-    (λ rest e. rw e,
-    (λ rest e. rw e,
-    (λ rest e. rw e,
-    (λ rest e. rw e,
-    (λ rest e. rw e,
-    (λ rest e. rw e,
-    (λ rest e. rw e,
-    (λ rest e. rw e,
-    (λ rest e. rw e,
-    (λ rest e. rw e,
-    (λ rest e. rw e,
-    (λ rest e. rw e,
-    (λ rest e. rw e,
-    (λ rest e. rw e,
-    (λ rest e. rw e,
-    tt)))))))))))))))
+bench-sheet = (
+  λ rest e. rw e,
+  (
+    λ rest e. rw e,
+    (
+      λ rest e. rw e,
+      (
+        λ rest e. rw e,
+        (
+          λ rest e. rw e,
+          (
+            λ rest e. rw e,
+            (
+              λ rest e. rw e,
+              (
+                λ rest e. rw e,
+                (
+                  λ rest e. rw e,
+                  (
+                    λ rest e. rw e,
+                    (
+                      λ rest e. rw e,
+                      (
+                        λ rest e. rw e,
+                        (
+                          λ rest e. rw e,
+                          (
+                            λ rest e. rw e,
+                            (
+                              λ rest e. rw e,
+                              tt,
+                            ),
+                          ),
+                        ),
+                      ),
+                    ),
+                  ),
+                ),
+              ),
+            ),
+          ),
+        ),
+      ),
+    ),
+  ),
+)

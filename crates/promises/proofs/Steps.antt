@@ -49,8 +49,17 @@ busy-refusal : (rec : Record) (x : World) (h : Head) (room : ℕ) → Bench rec 
     → traitsOf (h .command) .«while_busy» ≡ false → refusalOf rec (x .state) (length (x .cells)) h room ≡ Busy
 unfolding refusalOf
 busy-refusal rec x h room b busy some l t r w =
-    rw (b .right, eq-eqb (length (x .cells)) (modelOf (rec .model) .length) (b .whole), b .valid, le-ltb 65541 (h .count) l, le-ltb 7 (h .tail) t, le-ltb room (h .count) r,
-    ne-eqb (h .count) 0 (λ z. omega arith), ne-eqb (x .state .busy) 0 (λ z. omega arith), w)
+    rw (
+      b .right,
+      eq-eqb (length (x .cells)) (modelOf (rec .model) .length) (b .whole),
+      b .valid,
+      le-ltb 65541 (h .count) l,
+      le-ltb 7 (h .tail) t,
+      le-ltb room (h .count) r,
+      ne-eqb (h .count) 0 (λ z. omega arith),
+      ne-eqb (x .state .busy) 0 (λ z. omega arith),
+      w,
+    )
 
 -- a refused frame changes nothing
 pub refused-frame : (rec : Record) (s : State) (cells bytes : List ℕ) (tail : ℕ) (wp : Bool) (out : List ℕ) (a : Answer)
@@ -74,6 +83,7 @@ unprotected n b = go (leb (rangeOf n 0 .0) (b .0)) refl
   where
     none : rangeOf n 0 .1 ≡ 0
     none = range-rules n 0 (omega arith) .none refl
+
     go : (t : Bool) → leb (rangeOf n 0 .0) (b .0) ≡ t → (t && ltb (b .0) (rangeOf n 0 .0 + rangeOf n 0 .1)) ≡ false
     go true e = le-ltb (b .0) (rangeOf n 0 .0 + rangeOf n 0 .1) (omega (arith, none, leb-true (rangeOf n 0 .0) (b .0) e))
     go false e = refl

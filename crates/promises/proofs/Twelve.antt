@@ -245,10 +245,10 @@ module _ (rec : Record) (j : Job) (x : World) (b : Bench rec x) (f : Fits j) whe
         from = rw (lt-ltb 4 (length reads) (omega (arith, f .more, f .some)));
         count = length-reads;
         drives =
-          rw length-reads
-          (ap (part (lay (j .out₁₂) 4 (ring stored (where-to .0) n)) 4) (sym (length-ring stored (where-to .0) n))
-          ∙ part-lay (j .out₁₂) 4 (ring stored (where-to .0) n) (omega (arith, f .room₁₂))
-          ∙ data-stored);
+            rw length-reads
+            (ap (part (lay (j .out₁₂) 4 (ring stored (where-to .0) n)) 4) (sym (length-ring stored (where-to .0) n))
+            ∙ part-lay (j .out₁₂) 4 (ring stored (where-to .0) n) (omega (arith, f .room₁₂))
+            ∙ data-stored);
         rest-before = λ k l m. before-data k m ∙ sector .unit k l (omega (arith, in-sector, in-page));
         rest-after = λ k l m. after-data k l ∙ sector .unit k (omega (arith, in-sector)) m;
         below = λ k l. before-data k (omega arith) ∙ sector .before k l;
@@ -260,8 +260,8 @@ module _ (rec : Record) (j : Job) (x : World) (b : Bench rec x) (f : Fits j) whe
       record {
         answered = goes-answers all-twelve;
         won =
-          subst (λ (w : World). Won rec j x w (lastEffect ours rec j x)) (sym (goes-run all-twelve))
-          (subst (λ (e : Effect). Won rec j x (last powerOn) e) (sym (ap (λ (w : World). frameOf rec (w .state) (w .cells) reads 0 true (j .out₁₂)) (goes-run all-eleven) ∙ read)) won);
+            subst (λ (w : World). Won rec j x w (lastEffect ours rec j x)) (sym (goes-run all-twelve))
+            (subst (λ (e : Effect). Won rec j x (last powerOn) e) (sym (ap (λ (w : World). frameOf rec (w .state) (w .cells) reads 0 true (j .out₁₂)) (goes-run all-eleven) ∙ read)) won);
       }
 
 pub twelve-calls : TwelveCalls ours

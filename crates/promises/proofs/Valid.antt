@@ -61,7 +61,7 @@ module _ (rec : Record) (s : State) (p : Sound rec s) where
   written-sound b t l w d =
       record { level = omega (arith, mod-lt (b / 4) {m = 4} (lit< tt), two-bits (rec .model)); time = l; mood = inr (w, d) }
 
-  later-sound : (us : ℕ) → Sound rec (later s us)
+  pub later-sound : (us : ℕ) → Sound rec (later s us)
   unfolding later
   later-sound us =
       record {
@@ -113,6 +113,7 @@ frame-sound rec s cells bytes tail wp out p = go (isDone (refusalOf rec s (lengt
   where
     h : Head
     h = headOf (rec .model) bytes tail wp
+
     go : (b : Bool) → isDone (refusalOf rec s (length cells) h (length out)) ≡ b
         → Sound rec (cond b (acceptedOf rec s (h .command) cells (h .address) bytes out) (stateOnly (refusalOf rec s (length cells) h (length out)) s cells out) .reply .state)
     go true e =

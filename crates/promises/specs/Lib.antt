@@ -4,3 +4,4 @@ pub mod Histories
 pub mod Shorter
 pub mod Pods
 pub mod Sheet
+pub mod Laws
