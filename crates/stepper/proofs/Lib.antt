@@ -1,0 +1,2 @@
+-- `Lent`: laws of a struct that is lent.
+pub mod Lent
