@@ -1,0 +1,43 @@
+-- The log of a script (01, "Script and log"). Assumes nothing.
+use mathlib.Core.Path.{_≡_}
+use mathlib.Core.Bool.{Bool, true, false, cond}
+use mathlib.Core.List.{List, [], _∷_, _++_}
+use Prim.Native.Nat.{ℕ, _+_, _*_}
+use lib.Dec.{eqb, leb}
+use lib.ListN.{length}
+use Rattle.text.specs.Text.{ascii, tab, newline, hexText, decimalText}
+use Rattle.text.specs.Put.{lay}
+
+-- `-`, where there is nothing to show
+abbrev pub dash : List ℕ
+dash = ascii "-"
+
+-- a row: its fields parted by tabs, and a newline
+abbrev pub rowOf : List (List ℕ) → List ℕ
+rowOf [] = newline ∷ []
+rowOf (f ∷ []) = f ++ (newline ∷ [])
+rowOf (f ∷ g ∷ more) = f ++ (tab ∷ rowOf (g ∷ more))
+
+-- the header
+unfoldable pub headerText : List ℕ
+headerText = rowOf (ascii "line" ∷ ascii "answer" ∷ ascii "from" ∷ ascii "bytes" ∷ [])
+
+-- the first of `count` driven positions, and the driven bytes in hex; `-` where none is driven
+abbrev pub fromText : ℕ → ℕ → List ℕ
+fromText from count = cond (eqb count 0) dash (decimalText from)
+
+abbrev pub bytesText : List ℕ → List ℕ
+bytesText driven = cond (eqb (length driven) 0) dash (hexText driven)
+
+-- the row of a script line: its number, the answer, the first driven position, the driven bytes
+unfoldable pub logText : ℕ → ℕ → ℕ → List ℕ → List ℕ
+logText number answer from driven = rowOf (decimalText number ∷ decimalText answer ∷ fromText from (length driven) ∷ bytesText driven ∷ [])
+
+-- the most bytes that the row of n driven bytes can take
+abbrev pub roomOf : ℕ → ℕ
+roomOf n = 2 * n + 65
+
+-- A row is put into d from `at` on where there is room for `most` bytes; else d stays as it was. r is the place past what was put.
+pub record Rowed (most : ℕ) (row d : List ℕ) (at : ℕ) (e : List ℕ) (r : ℕ) : Type 0 where
+  pub is : e ≡ cond (leb (at + most) (length d)) (lay d at row) d
+  pub next : r ≡ cond (leb (at + most) (length d)) (at + length row) at

@@ -1,0 +1,104 @@
+// A script line played on the chip, and its row of the log.
+ghost use mathlib.Core.Path.{_≡_};
+ghost use Prim.Native.Nat.{_+_, _≤_};
+ghost use lib.ListN.{length};
+ghost use Rattle.chip.specs.Time.{waitOf, powerOf};
+ghost use Rattle.script.specs.Reading.{lineOf};
+ghost use Rattle.play.specs.Play.{Plays, passedOf, frameTurn, playOf, Logs};
+use chip::After;
+use rules::Record;
+use rules::State;
+use script::Line;
+
+// What a line came to: the answer's number, the first driven position and how many bytes are driven, and the state after.
+pub struct Played {
+    pub answer: u32,
+    pub from: u32,
+    pub count: u32,
+    pub state: State,
+}
+
+// A wait or a power cycle drives nothing.
+fn passed(a: After) -> Played
+    ensures { λ r. ⌜ r ≡ passedOf a ⌝ }
+{
+    let answer = a.answer;
+    let state = a.state;
+    Played {
+        answer: rules::number_of(answer),
+        from: 0,
+        count: 0,
+        state,
+    }
+}
+
+// The line of a frame: its bytes are sent to the chip.
+fn play_frame(
+    line: &[u8],
+    wp: bool,
+    tail: u8,
+    rec: Record,
+    st: State,
+    array: &mut [u8],
+    shown: &mut [u8],
+) -> Played
+    ensures { λ r. ⌜ Plays (frameTurn rec st (now (array .entry)) (now (shown .entry)) (now (line .entry)) wp tail) r (now (array .exit)) (now (shown .exit)) ⌝ }
+{
+    let mut frame = [0u8; 300];
+    let n = script::frame_bytes(line, &mut frame);
+    let r = stepper::stepped(st, rec, array, &frame[0..n], tail as u32, wp, shown);
+    let answer = r.answer;
+    let state = r.state;
+    Played {
+        answer: rules::number_of(answer),
+        from: r.from,
+        count: r.count,
+        state,
+    }
+}
+
+// Any line, of any bytes: a bad one is answered 20 and changes nothing.
+pub fn play(line: &[u8], rec: Record, st: State, array: &mut [u8], shown: &mut [u8]) -> Played
+    ensures { λ r. ⌜ Plays (playOf rec st (now (array .entry)) (now (shown .entry)) (now (line .entry))) r (now (array .exit)) (now (shown .exit)) ⌝ }
+{
+    let said = script::read_line(line);
+    match said {
+        Line::Frame { wp, tail, count: _ } => play_frame(line, wp, tail, rec, st, array, shown),
+        Line::Wait(us) => passed(stepper::waited(st, rec, us)),
+        Line::Power => passed(stepper::cycled(st, rec)),
+        Line::Bad => Played {
+            answer: 20,
+            from: 0,
+            count: 0,
+            state: st,
+        },
+    }
+}
+
+// The place past the row, and the state after.
+pub struct Logged {
+    pub next: usize,
+    pub state: State,
+}
+
+// Plays a line and puts its row into the log from `at` on, which has room for the longest row.
+pub fn log_line(
+    number: u64,
+    line: &[u8],
+    rec: Record,
+    st: State,
+    array: &mut [u8],
+    log: &mut [u8],
+    at: usize,
+) -> Logged
+    requires { ⌜ at + 665 ≤ length (now log) ⌝ }
+    ensures { λ r. ⌜ Logs rec st (now (array .entry)) number (now (line .entry)) (now (log .entry)) at r (now (array .exit)) (now (log .exit)) ⌝ }
+{
+    let mut shown = [0u8; 300];
+    let p = play(line, rec, st, array, &mut shown);
+    let from = p.from as usize;
+    let end = from + p.count as usize;
+    let next = log::put_row(number, p.answer, p.from, &shown[from..end], log, at);
+    let state = p.state;
+    Logged { next, state }
+}

@@ -1,0 +1,4 @@
+pub mod HexLaws
+pub mod ReadLaws
+pub mod Decimal
+pub mod Agree

@@ -1,0 +1,16 @@
+-- `script::hex::is_capital` meets its contract. Assumes nothing.
+use mathlib.Core.Path.{_≡_, refl, sym, ap, _∙_}
+use mathlib.Core.Bool.{true, false}
+use native.Mathlib.Omega.{arith}
+use denote.Ref.{now}
+use borrow.Author.Needs.{needs}
+use Rattle.script.specs.Hex.{isCapital}
+use Rattle.script.proofs.hex.is_capital.Statement.{statement}
+use Rattle.script.proofs.hex.is_capital.Tie as tie
+
+returns : tie.Need-returns
+unfolding isCapital
+returns c = refl
+
+pub is-capital-spec : {M : Type 1} → statement M
+is-capital-spec = tie.close (tie.spec returns)

@@ -1,0 +1,42 @@
+-- The well-formed lines of a script (01, "Script and log"). Assumes nothing.
+use mathlib.Core.Bool.{Bool, true, false}
+use mathlib.Core.List.{List, [], _∷_}
+use Prim.Native.Nat.{ℕ, _+_, _≤_}
+use Prim.Native.Char.{code}
+use lib.ListN.{length}
+use Rattle.text.specs.Text.{tab, hexText, decimalText, Bytes}
+use Rattle.script.specs.declared.Line.{Line}
+use Rattle.script.specs.declared.Line.the-variants.{Frame, Wait, Power, Bad}
+
+-- the letters that lines begin with
+abbrev pub F : ℕ
+F = code "F"
+
+abbrev pub W : ℕ
+W = code "W"
+
+abbrev pub P : ℕ
+P = code "P"
+
+-- WP# low and high, as a digit
+abbrev pub levelOf : Bool → ℕ
+levelOf false = code "0"
+levelOf true = code "1"
+
+-- `F`, WP#, the tail, the bytes in hex: always four fields, so the line of an empty frame ends in a tab
+abbrev pub frameText : Bool → ℕ → List ℕ → List ℕ
+frameText wp tail bytes = F ∷ tab ∷ levelOf wp ∷ tab ∷ (code "0" + tail) ∷ tab ∷ hexText bytes
+
+-- `W`, the microseconds
+abbrev pub waitText : ℕ → List ℕ
+waitText us = W ∷ tab ∷ decimalText us
+
+-- `P` alone
+abbrev pub powerText : List ℕ
+powerText = P ∷ []
+
+-- The lines, and what each says. No other line is well formed.
+pub data Says : List ℕ → Line → Type 0 where
+  frame : (wp : Bool) (tail : ℕ) (bytes : List ℕ) → tail ≤ 7 → length bytes ≤ 300 → Bytes bytes → Says (frameText wp tail bytes) (Frame wp tail (length bytes))
+  wait : (us : ℕ) → us ≤ 4294967295 → Says (waitText us) (Wait us)
+  power : Says powerText Power
