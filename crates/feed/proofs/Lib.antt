@@ -1,0 +1,3 @@
+-- `Turns`: one turn. `Feeds`: turns one after the other, and the input's end.
+pub mod Turns
+pub mod Feeds

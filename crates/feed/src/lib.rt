@@ -1,0 +1,110 @@
+// Blocks of a script fed to the chip: the lines that end in a block are played, and their rows go into the log.
+ghost use mathlib.Core.Path.{_≡_};
+ghost use Prim.Native.Nat.{_+_, _≤_, _<_};
+ghost use lib.ListN.{length};
+ghost use Rattle.feed.specs.Feed.{Start, Ready, Goes, Turned, Fed, Finished};
+use lines::Cut;
+use play::Logged;
+use rules::Record;
+use rules::State;
+
+// What goes on from line to line: the chip's state, the number of the next line, how many bytes of it are held from the blocks before,
+// the place in the block, and how much of the log is filled.
+pub struct Run {
+    pub chip: State,
+    pub number: u64,
+    pub used: usize,
+    pub at: usize,
+    pub filled: usize,
+}
+
+// After a line: nothing is held, and the next line has the next number.
+fn line_done(done: Logged, number: u64, at: usize) -> Run
+    ensures { λ r. ⌜ Goes done number at r ⌝ }
+{
+    let chip = done.state;
+    Run {
+        chip,
+        number: std::num::wrapping_add_u64(number, 1),
+        used: 0,
+        at,
+        filled: done.next,
+    }
+}
+
+// One line, or the rest of the block where no line ends in it.
+fn turn(
+    run: Run,
+    rec: Record,
+    held: &mut [u8],
+    block: &[u8],
+    array: &mut [u8],
+    log: &mut [u8],
+) -> Run
+    requires { ⌜ Ready run (now held) (now block) (now log) ⌝ }
+    ensures { λ r. ⌜ Turned rec run (now (held .entry)) (now (block .entry)) (now (array .entry)) (now (log .entry)) r (now (held .exit)) (now (array .exit)) (now (log .exit)) ⌝ }
+{
+    let chip = run.chip;
+    let number = run.number;
+    let used = run.used;
+    let at = run.at;
+    let filled = run.filled;
+    let cut = lines::cut_line(held, used, block, at);
+    match cut {
+        Cut::Here { end } => {
+            let done = play::log_line(number, &block[at..end], rec, chip, array, log, filled);
+            line_done(done, number, end + 1)
+        }
+        Cut::Joined { used: n, end } => {
+            let done = play::log_line(number, &held[0..n], rec, chip, array, log, filled);
+            line_done(done, number, end + 1)
+        }
+        Cut::Open { used: n } => Run {
+            chip,
+            number,
+            used: n,
+            at: block.len(),
+            filled,
+        },
+    }
+}
+
+// The lines that end in the block, until it is used up or the log lacks room for one more row. What comes back says how far it got.
+pub fn feed(
+    first: Run,
+    rec: Record,
+    held: &mut [u8],
+    block: &[u8],
+    array: &mut [u8],
+    log: &mut [u8],
+) -> Run
+    requires { ⌜ Start first (now held) (now block) (now log) ⌝ }
+    ensures { λ r. ⌜ Fed rec first (now (held .entry)) (now (block .entry)) (now (array .entry)) (now (log .entry)) r (now (held .exit)) (now (array .exit)) (now (log .exit)) ⌝ }
+{
+    let mut run = first;
+    let mut at = first.at;
+    while at < block.len() {
+        let filled = run.filled;
+        if log.len() - filled < 665 {
+            return run;
+        }
+        run = turn(run, rec, held, block, array, log);
+        at = run.at;
+    }
+    run
+}
+
+// The input has ended: a line that is held is the last one. How much of the log is filled comes back.
+pub fn finish(run: Run, rec: Record, held: &[u8], array: &mut [u8], log: &mut [u8]) -> usize
+    requires { ⌜ (length (now held) ≡ 641) × (run .used ≤ 641) × (run .filled + 665 ≤ length (now log)) ⌝ }
+    ensures { λ r. ⌜ Finished rec run (now (held .entry)) (now (array .entry)) (now (log .entry)) r (now (log .exit)) ⌝ }
+{
+    let used = run.used;
+    let filled = run.filled;
+    let chip = run.chip;
+    if used == 0 {
+        return filled;
+    }
+    let done = play::log_line(run.number, &held[0..used], rec, chip, array, log, filled);
+    done.next
+}
