@@ -6,6 +6,7 @@
 --     Counts  the byte that counts at an offset
 --     Fold    the page after a program
 --     Arrays  the array after an erase or a program
+--     RoundTrip  a sector erased, a page of it programmed, and read back
 --     View    an array of a model's length is whole pages
 -- and what the loops keep: Loop (one store a turn) and Runs (straight runs of a ring).
 -- The statements of `specs/Sheet.antt` are proved in Ring, Counts and Arrays.
@@ -18,4 +19,5 @@ pub mod Runs
 pub mod Counts
 pub mod Fold
 pub mod Arrays
+pub mod RoundTrip
 pub mod View

@@ -1,6 +1,6 @@
 -- Laws of reads that roll over from the last address to 0. Assumes nothing.
 use mathlib.Core.Path.{_≡_, refl, sym, ap, _∙_}
-use mathlib.Core.List.{List, _∷_, _++_}
+use mathlib.Core.List.{List, [], _∷_, _++_}
 use Prim.Native.Nat.{ℕ, zero, suc, _+_, _-_, _%_, _≤_, _<_}
 use native.Mathlib.Nat.{not-suc-le-zero, le-of-suc-le-suc, add-zero, zero-add, add-suc, suc-add, mod-lt, mod-self, mod-add-mod, mod-eq-of-lt, mod-mod-of-dvd, dvd-of-mod-eq-zero}
 use native.Mathlib.Omega.{arith}
@@ -12,6 +12,10 @@ use Rattle.cells.specs.Ring.{ring}
 use Rattle.cells.specs.Sheet.{RollsOver}
 use Rattle.cells.proofs.Bytes.{bytes}
 use Rattle.cells.proofs.Lay.{length-part, part-at, length-lay, part-lay}
+
+pub ring-none : (xs : List ℕ) (at : ℕ) → ring xs at 0 ≡ []
+unfolding ring
+ring-none xs at = refl
 
 pub length-ring : (xs : List ℕ) (at n : ℕ) → length (ring xs at n) ≡ n
 unfolding ring

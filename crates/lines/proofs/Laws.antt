@@ -1,22 +1,19 @@
 -- The laws of a cut: what it says of the lines of the input, whatever line is held and whatever comes after the block. Assumes nothing.
-use mathlib.Core.Path.{_≡_, refl, sym, ap, _∙_, subst}
-use mathlib.Core.Bool.{Bool, true, false, _&&_, cond}
-use mathlib.Core.List.{List, [], _∷_, _++_, append-assoc, append-nil}
-use Prim.Native.Nat.{ℕ, zero, suc, _+_, _-_, _≤_, _<_, min}
-use native.Mathlib.Nat.{add-zero, not-suc-le-zero}
+use mathlib.Core.Path.{_≡_, refl, sym, ap, _∙_}
+use mathlib.Core.Bool.{Bool, true, false, _&&_}
+use mathlib.Core.List.{List, [], _∷_}
+use Prim.Native.Nat.{ℕ, _+_, _-_, _≤_, _<_, min}
+use native.Mathlib.Nat.{add-zero}
 use native.Mathlib.Numerals.{add-one}
 use native.Mathlib.Omega.{arith}
 use lib.Dec.{eqb, leb, ltb}
-use lib.ListN.{length, getD, drop, take, length-append, length-drop, length-take, take-append-drop, drop-of-length-le}
-use lib.Seq.{drop-cons, length-take-le, take-at, take-nil, drop-drop, take-take, take-all, append-snoc}
-use borrow.Author.Tests.{ne-eqb, leb-true, leb-false, ltb-true, ltb-false, lt-ltb, le-ltb, eqb-true, eq-eqb}
+use lib.ListN.{length, getD, drop, take, length-drop, take-append-drop, drop-of-length-le}
+use lib.Seq.{drop-cons, take-nil, take-all}
+use borrow.Author.Tests.{ne-eqb, leb-true, leb-false, lt-ltb, le-ltb}
 use Rattle.script.proofs.HexLaws.{and-left, and-right}
 use Rattle.text.specs.Put.{lay, Put}
-use Rattle.text.proofs.PutLaws.{length-lay}
-use Rattle.lines.specs.declared.Cut.{Cut}
 use Rattle.lines.specs.declared.Cut.the-variants.{Here, Joined, Open}
-use Rattle.lines.specs.Lines.{lastLine, linesFrom}
-use Rattle.lines.specs.Cutting.{firstLine, endOf, fitting, keptOf, usedOf, cutOf, heldOf, Cuts, Holds}
+use Rattle.lines.specs.Cutting.{firstLine, endOf, fitting, keptOf, usedOf, cutOf, heldOf, Cuts}
 
 -- ---- the place of the newline
 pub end-on : (s : List ℕ) (i : ℕ) → i < length s → (getD s i 0 ≡ 10 → ⊥) → endOf s i ≡ endOf s (i + 1)

@@ -1,20 +1,18 @@
 -- What a cut says of the lines of the input, whatever line is held and whatever comes after the block. Assumes nothing.
 use mathlib.Core.Path.{_≡_, refl, sym, ap, _∙_, subst, subst₂}
-use mathlib.Core.Bool.{Bool, true, false, _&&_, cond}
+use mathlib.Core.Bool.{Bool, true, false, _&&_}
 use mathlib.Core.List.{List, [], _∷_, _++_, append-assoc, append-nil}
 use Prim.Native.Nat.{ℕ, zero, suc, _+_, _-_, _≤_, _<_, min}
 use native.Mathlib.Nat.{sub-zero, suc-sub-suc, not-suc-le-zero}
-use native.Mathlib.Numerals.{add-one}
 use native.Mathlib.Omega.{arith}
-use lib.Dec.{eqb, leb, ltb}
+use lib.Dec.{eqb, ltb}
 use lib.ListN.{length, drop, take, length-append, length-drop, length-take}
 use lib.Seq.{length-take-le, take-at, take-nil, drop-drop, take-all, append-snoc}
 use borrow.Author.Tests.{ltb-true, ltb-false, eqb-true}
-use Rattle.text.specs.Put.{lay}
 use Rattle.text.proofs.PutLaws.{length-lay}
 use Rattle.lines.specs.declared.Cut.{Cut}
 use Rattle.lines.specs.declared.Cut.the-variants.{Here, Joined, Open}
-use Rattle.lines.specs.Lines.{lastLine, linesFrom}
+use Rattle.lines.specs.Lines.{linesFrom}
 use Rattle.lines.specs.Cutting.{firstLine, endOf, fitting, keptOf, usedOf, cutOf, heldOf, Holds}
 use Rattle.lines.proofs.Laws.{first-short, take-first, part-first}
 

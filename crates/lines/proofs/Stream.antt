@@ -1,8 +1,8 @@
 -- The lines cut out of blocks are the lines of the whole input: of each as many bytes as the lent buffer has room for, and with room for
 -- 641 that is enough to read it. Assumes nothing.
-use mathlib.Core.Path.{_≡_, refl, sym, ap, _∙_, subst}
+use mathlib.Core.Path.{_≡_, refl, sym, ap, _∙_}
 use mathlib.Core.List.{List, [], _∷_, _++_, map, map-append, append-assoc, append-nil}
-use Prim.Native.Nat.{ℕ, zero, suc, _+_, _-_, _≤_, _<_}
+use Prim.Native.Nat.{ℕ, zero, suc, _+_, _-_, _<_}
 use native.Mathlib.Omega.{arith}
 use lib.ListN.{length, drop, take, drop-of-length-le}
 use lib.Seq.{take-take, take-nil}
@@ -10,11 +10,11 @@ use Rattle.script.specs.declared.Line.{Line}
 use Rattle.script.specs.Reading.{lineOf}
 use Rattle.script.proofs.Agree.{clipped}
 use Rattle.lines.specs.Lines.{lastLine, linesFrom, linesOf}
-use Rattle.lines.specs.Cutting.{firstLine, cutOf, heldOf, Holds}
+use Rattle.lines.specs.Cutting.{firstLine, heldOf, Holds}
 use Rattle.lines.specs.Stream.{Through, Fed, joinedUp}
 use Rattle.lines.specs.Stream.Through.{done, still, here, joined}
 use Rattle.lines.specs.Stream.Fed.{none, more}
-use Rattle.lines.proofs.Says.{holds-none, length-held, SaysHere, says-here, SaysJoined, says-joined, SaysOpen, says-open}
+use Rattle.lines.proofs.Says.{holds-none, length-held, says-here, says-joined, says-open}
 
 -- From the bytes `line` of a line and s, `lines` were handed over, and `rest` is held: the other lines go on from there.
 record Gave (m : ℕ) (line s : List ℕ) (lines : List (List ℕ)) (held : List ℕ) (used : ℕ) : Type 0 where

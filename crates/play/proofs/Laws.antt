@@ -53,8 +53,8 @@ frame-plays rec s cells shown line wp tail {frame} {r} {number} {xs} {os} e g n 
     let h = subst (λ (z : List ℕ). Gives (frameOf rec s cells z tail wp shown) r xs os) e g in
     record {
       played =
-        ap (λ (k : ℕ). record { answer = k; from = r .from; count = r .count; state = r .state }) n
-        ∙ ap (λ (q : Reply). record { answer = numberOf (q .answer); from = q .from; count = q .count; state = q .state }) (h .reply);
+          ap (λ (k : ℕ). record { answer = k; from = r .from; count = r .count; state = r .state }) n
+          ∙ ap (λ (q : Reply). record { answer = numberOf (q .answer); from = q .from; count = q .count; state = q .state }) (h .reply);
       cells = h .cells;
       shown = h .out;
     }
@@ -103,8 +103,10 @@ frame-within rec s cells bytes tail wp out = go (isDone (refusalOf rec s (length
   where
     h : Head
     h = headOf (rec .model) bytes tail wp
+
     e : Bool → Effect
     e b = cond b (acceptedOf rec s (h .command) cells (h .address) bytes out) (stateOnly (refusalOf rec s (length cells) h (length out)) s cells out)
+
     go : (b : Bool) → e b .reply .from + e b .reply .count ≤ length bytes
     go true = accepted-within rec s (h .command) cells (h .address) bytes out
     go false = omega arith
@@ -138,14 +140,19 @@ row-logs rec s cells number line d at {r} {next} {xs} {os} {e} room p l w =
   where
     shown : List ℕ
     shown = take (r .from + r .count - r .from) (drop (r .from) os)
+
     within : r .from + r .count ≤ 300
     within = played-within rec s cells (replicate 300 0) line (p .played)
+
     long : length shown ≤ 300
     long = omega (arith, length-take (r .from + r .count - r .from) (drop (r .from) os), length-drop (r .from) os)
+
     few : length (logText number (r .answer) (r .from) shown) ≤ roomOf (length shown)
     few = row-most number (r .answer) (r .from) shown
+
     fits : leb (at + roomOf (length shown)) (length d) ≡ true
     fits = le-leb (at + roomOf (length shown)) (length d) (omega (arith, long))
+
     put : Put (logText number (r .answer) (r .from) shown) d at e next
     put =
         record {
@@ -153,6 +160,7 @@ row-logs rec s cells number line d at {r} {next} {xs} {os} {e} room p l w =
           is = w .is ∙ rw fits;
           next = w .next ∙ rw fits;
         }
+
     text : logText number (r .answer) (r .from) shown ≡ logText number (lineTurn rec s cells line .played .answer) (lineTurn rec s cells line .played .from) (part (lineTurn rec s cells line .shown) (lineTurn rec s cells line .played .from) (lineTurn rec s cells line .played .count))
     text =
         let k : r .from + r .count - r .from ≡ r .count = omega arith in

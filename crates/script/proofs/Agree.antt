@@ -1,13 +1,13 @@
 -- The reader accepts the lines of the grammar with what they say, and no others. Assumes nothing.
 use mathlib.Core.Path.{_≡_, refl, sym, ap, _∙_, subst, subst₂}
-use mathlib.Core.Bool.{Bool, true, false, not, _&&_, _||_}
+use mathlib.Core.Bool.{Bool, true, false, _&&_, _||_}
 use mathlib.Core.List.{List, [], _∷_}
 use Prim.Native.Nat.{ℕ, suc, _+_, _-_, _*_, _/_, _%_, _≤_, _<_}
 use native.Mathlib.Omega.{arith}
 use lib.Dec.{eqb, leb, ltb}
 use lib.ListN.{length, getD, drop, take, length-drop}
 use lib.Seq.{take-all, length-take-le}
-use borrow.Author.Tests.{leb-true, leb-false, le-leb, lt-leb, le-ltb, lt-ltb, ltb-true, ltb-false, eq-eqb, ne-eqb, eqb-true, eqb-false}
+use borrow.Author.Tests.{leb-true, leb-false, le-leb, lt-leb, le-ltb, lt-ltb, ltb-true, ltb-false, eq-eqb, eqb-true, eqb-false}
 use Rattle.text.specs.Text.{tab, digitOf, hexText, decimalText, Bytes}
 use Rattle.text.proofs.TextLaws.{length-hexText, decimal-few}
 use Rattle.script.specs.declared.Line.{Line}

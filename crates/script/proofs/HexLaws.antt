@@ -1,16 +1,16 @@
 -- The laws of hex digits and their bytes. No contract cites this file. Assumes nothing.
 use mathlib.Core.Path.{_≡_, refl, sym, ap, _∙_, subst}
-use mathlib.Core.Bool.{Bool, true, false, _&&_, _||_}
+use mathlib.Core.Bool.{Bool, true, false, _&&_}
 use mathlib.Core.List.{List, [], _∷_, _++_}
-use Prim.Native.Nat.{ℕ, zero, suc, _+_, _-_, _*_, _/_, _%_, _≤_, _<_, min}
+use Prim.Native.Nat.{ℕ, zero, suc, _+_, _-_, _*_, _/_, _≤_, _<_, min}
 use native.Mathlib.Nat.{not-suc-le-zero, le-of-suc-le-suc}
 use native.Mathlib.Numerals.{add-one}
 use native.Mathlib.Omega.{arith}
-use lib.Dec.{leb, ltb}
+use lib.Dec.{leb}
 use lib.ListN.{length, getD, drop, take, set, length-take, length-drop, drop-of-length-le}
 use lib.Seq.{drop-cons, take-suc, set-at, length-take-le, append-snoc, take-nil, take-all}
 use borrow.Author.Tests.{leb-true}
-use Rattle.script.specs.Hex.{isDigit, isCapital, isHex, nibbleOf, bytesOf, Unhexed}
+use Rattle.script.specs.Hex.{isDigit, isCapital, nibbleOf, bytesOf, Unhexed}
 
 pub and-left : (t u : Bool) → (t && u) ≡ true → t ≡ true
 and-left true u e = refl

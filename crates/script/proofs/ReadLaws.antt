@@ -1,6 +1,6 @@
 -- The laws of `specs/Reading.antt` that the proofs cite. No contract cites this file. Assumes nothing.
 use mathlib.Core.Path.{_≡_, refl, sym, ap, _∙_}
-use mathlib.Core.Bool.{Bool, true, false, not, _&&_, _||_, cond}
+use mathlib.Core.Bool.{Bool, true, false, not, _&&_, _||_}
 use mathlib.Core.List.{List, [], _∷_}
 use Prim.Native.Nat.{ℕ, suc, _+_, _-_, _*_, _/_, _%_, _≤_, _<_}
 use native.Mathlib.Numerals.{add-one}
@@ -12,10 +12,11 @@ use borrow.Author.Tests.{leb-true, le-leb, lt-leb, eqb-true, ltb-true, ltb-false
 use Rattle.text.specs.Text.{tab}
 use Rattle.script.specs.declared.Line.{Line}
 use Rattle.script.specs.declared.Line.the-variants.{Frame, Wait, Power, Bad}
-use Rattle.script.specs.Grammar.{F, W}
+use Rattle.script.specs.Grammar.{F}
 use Rattle.script.specs.Hex.{isDigit, isHex}
 use Rattle.script.specs.Reading.{allHex, allDigits, valueFrom, numbered, plain, frameHead, isFrame, waitHead, isWait, isPower, waitOf, lineOf}
 use Rattle.script.proofs.HexLaws.{and-left, and-right, and-false}
+use Rattle.script.proofs.Decimal.{grows}
 
 -- ---- a loop over the bytes from i on leaves its question as it is where a byte passes
 pub hex-on : (s : List ℕ) (i : ℕ) → i < length s → isHex (getD s i 0) ≡ true → allHex (drop i s) ≡ allHex (drop (i + 1) s)
@@ -26,11 +27,6 @@ hex-off s i l e = rw (drop-cons s i 0, e)
 
 pub hex-end : (s : List ℕ) (i : ℕ) → length s ≤ i → true ≡ allHex (drop i s)
 hex-end s i l = sym (ap allHex (drop-of-length-le s l))
-
--- more digits make no number smaller
-grows : (n : ℕ) (s : List ℕ) → n ≤ valueFrom n s
-grows n [] = omega arith
-grows n (b ∷ s) = let h : n * 10 + (b - 48) ≤ valueFrom (n * 10 + (b - 48)) s = grows (n * 10 + (b - 48)) s in omega arith
 
 pub number-on : (n : ℕ) (s : List ℕ) (i : ℕ) → i < length s → isDigit (getD s i 0) ≡ true → numbered n (drop i s) ≡ numbered (n * 10 + (getD s i 0 - 48)) (drop (i + 1) s)
 unfolding numbered

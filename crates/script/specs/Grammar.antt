@@ -6,7 +6,7 @@ use Prim.Native.Char.{code}
 use lib.ListN.{length}
 use Rattle.text.specs.Text.{tab, hexText, decimalText, Bytes}
 use Rattle.script.specs.declared.Line.{Line}
-use Rattle.script.specs.declared.Line.the-variants.{Frame, Wait, Power, Bad}
+use Rattle.script.specs.declared.Line.the-variants.{Frame, Wait, Power}
 
 -- the letters that lines begin with
 abbrev pub F : ℕ
@@ -23,11 +23,11 @@ abbrev pub levelOf : Bool → ℕ
 levelOf false = code "0"
 levelOf true = code "1"
 
--- `F`, WP#, the tail, the bytes in hex: always four fields, so the line of an empty frame ends in a tab
+-- `F`, WP#, the tail, the bytes in hex capitals: always four fields, so the line of an empty frame ends in a tab
 abbrev pub frameText : Bool → ℕ → List ℕ → List ℕ
 frameText wp tail bytes = F ∷ tab ∷ levelOf wp ∷ tab ∷ (code "0" + tail) ∷ tab ∷ hexText bytes
 
--- `W`, the microseconds
+-- `W`, the microseconds in decimal without leading zeros
 abbrev pub waitText : ℕ → List ℕ
 waitText us = W ∷ tab ∷ decimalText us
 
@@ -35,7 +35,7 @@ waitText us = W ∷ tab ∷ decimalText us
 abbrev pub powerText : List ℕ
 powerText = P ∷ []
 
--- The lines, and what each says. No other line is well formed.
+-- The lines, and what each says. No other line is well formed. The longest has 606 bytes, so that the limit of 640 shuts none of them out.
 pub data Says : List ℕ → Line → Type 0 where
   frame : (wp : Bool) (tail : ℕ) (bytes : List ℕ) → tail ≤ 7 → length bytes ≤ 300 → Bytes bytes → Says (frameText wp tail bytes) (Frame wp tail (length bytes))
   wait : (us : ℕ) → us ≤ 4294967295 → Says (waitText us) (Wait us)

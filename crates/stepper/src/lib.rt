@@ -11,7 +11,15 @@ use rules::Record;
 use rules::State;
 
 // One frame: the state is altered where it lies.
-pub fn step(st: &mut State, rec: Record, array: &mut [u8], bytes: &[u8], tail: u32, wp: bool, out: &mut [u8]) -> Reply
+pub fn step(
+    st: &mut State,
+    rec: Record,
+    array: &mut [u8],
+    bytes: &[u8],
+    tail: u32,
+    wp: bool,
+    out: &mut [u8],
+) -> Reply
     ensures { λ r. ⌜ Steps (frameOf rec (now (st .entry)) (now (array .entry)) (now (bytes .entry)) tail wp (now (out .entry))) r (now (st .exit)) (now (array .exit)) (now (out .exit)) ⌝ }
 {
     let r = chip::frame(rec, *st, array, bytes, tail, wp, out);
@@ -20,7 +28,15 @@ pub fn step(st: &mut State, rec: Record, array: &mut [u8], bytes: &[u8], tail: u
 }
 
 // The same with the state by value: it lies in a local that is lent to the step.
-pub fn stepped(st: State, rec: Record, array: &mut [u8], bytes: &[u8], tail: u32, wp: bool, out: &mut [u8]) -> Reply
+pub fn stepped(
+    st: State,
+    rec: Record,
+    array: &mut [u8],
+    bytes: &[u8],
+    tail: u32,
+    wp: bool,
+    out: &mut [u8],
+) -> Reply
     ensures { λ r. ⌜ Gives (frameOf rec st (now (array .entry)) (now (bytes .entry)) tail wp (now (out .entry))) r (now (array .exit)) (now (out .exit)) ⌝ }
 {
     let mut s = st;

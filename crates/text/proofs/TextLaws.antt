@@ -8,10 +8,10 @@ use native.Mathlib.Numerals.{add-one}
 use native.Mathlib.Omega.{arith}
 use lib.Dec.{ltb}
 use lib.ListN.{length, getD, take, drop, set, length-append, length-set, take-append-drop}
-use lib.Seq.{take-suc, drop-cons, set-at, length-take-le, append-snoc, take-at, getD-at, take-length, drop-length, take-append-le}
+use lib.Seq.{take-suc, drop-cons, set-at, length-take-le, append-snoc, take-at, getD-at, take-length, drop-length}
 use borrow.Author.Tests.{lt-ltb, le-ltb, ltb-true, ltb-false}
 use Rattle.text.specs.Text.{digitOf, hexText, decimalIn, decimalText}
-use Rattle.text.specs.Put.{lay, Put}
+use Rattle.text.specs.Put.{Put}
 use Rattle.text.proofs.PutLaws.{put-one, put-then, put-as, put-to}
 
 -- ---- hex

@@ -17,7 +17,7 @@ abbrev μ-loop : tie.MeasureT-loop
 μ-loop rec held₀ block array₀ log₀ run₀ at₀ held array log run at = length block - at
 
 loop-holds : tie.Need-loop-holds Inv-loop μ-loop
-loop-holds c = 
+loop-holds c =
     let s = c .before .before .before .before in
     let a = s .args in
     (refl, refl, going-none (a .rec) (a .first) (a .held .now) (a .block .now) (a .array .now) (a .log .now) (s .pre))
@@ -29,18 +29,18 @@ returns : tie.Need-returns Inv-loop μ-loop
 returns c = going-fed (c .before .before .loop .inv .2) (inr (omega arith))
 
 turn-requires : tie.Need-turn-requires Inv-loop μ-loop
-turn-requires c κs = 
+turn-requires c κs =
     let h = c .before .before .before .before .before .loop in
     let l : h .run .at < length (c .before .before .before .before .before .before .before .before .before .before .args .block .now) = omega (arith, h .inv .0) in
     going-ready (h .inv .2) l (omega arith)
 
 loop-less : tie.Need-loop-less Inv-loop μ-loop
-loop-less c = 
+loop-less c =
     let h = c .before .before .before .before .before .before .before .before .before .before .before .before .loop in
     omega (arith, h .inv .0, c .before .before .before .before .before .before .turn .ensures .on)
 
 loop-again : tie.Need-loop-again Inv-loop μ-loop
-loop-again c = 
+loop-again c =
     let h = c .before .before .before .before .before .before .before .before .before .before .before .before .loop in
     let t = c .before .before .before .before .before .before .turn in
     let g = h .inv .2 in

@@ -7,13 +7,13 @@ use Rattle.feed.proofs.finish.Statement.{statement}
 use Rattle.feed.proofs.finish.Tie as tie
 
 returns : tie.Need-returns
-returns c = 
+returns c =
     let s = c .before .before .before .before .before in
     let a = s .args in
     finished-none (a .rec) (a .run) (a .held .now) (a .array .now) (a .log .now) (s .pre .0) (c .if1 .taken) (omega (arith, s .pre .2))
 
 returns-2 : tie.Need-returns-2
-returns-2 c = 
+returns-2 c =
     let s = c .before .before .before .before .before .before .before .before .before .before .before .before .before in
     let a = s .args in
     finished-line (a .rec) (a .run) (a .held .now) (a .array .now) (a .log .now) (s .pre .0) (c .before .before .before .before .before .before .before .before .if1 .left) (front (a .run .used) (a .held .now)) (s .pre .2) (c .before .before .before .before .log-line .ensures)

@@ -9,32 +9,32 @@ use Rattle.feed.proofs.turn.Statement.{statement}
 use Rattle.feed.proofs.turn.Tie as tie
 
 sub-log-line : tie.Need-sub-log-line
-sub-log-line c = 
+sub-log-line c =
     let a = c .before .before .before .before .before .before .before .before .before .before .before .before .args in
     let i = here-in (a .held .now) (a .run .used) (a .block .now) (a .run .at) _ (sym (c .before .before .before .before .before .cut-line .ensures .is) ∙ c .before .cut .given .1) in
     omega arith
 
 part-log-line-start : tie.Need-part-log-line-start
-part-log-line-start c = 
+part-log-line-start c =
     let a = c .before .before .before .before .before .before .before .before .before .before .before .before .args in
     let i = here-in (a .held .now) (a .run .used) (a .block .now) (a .run .at) _ (sym (c .before .before .before .before .before .cut-line .ensures .is) ∙ c .before .cut .given .1) in
     omega arith
 
 part-log-line-end : tie.Need-part-log-line-end
-part-log-line-end c = 
+part-log-line-end c =
     let a = c .before .before .before .before .before .before .before .before .before .before .before .before .args in
     let i = here-in (a .held .now) (a .run .used) (a .block .now) (a .run .at) _ (sym (c .before .before .before .before .before .cut-line .ensures .is) ∙ c .before .cut .given .1) in
     omega arith
 
 add-line-done : tie.Need-add-line-done
-add-line-done c = 
+add-line-done c =
     let s = c .before .before .before .before .before .before .before .before .before .before .before .before .before .before .before .before .before .before .before .before in
     let a = s .args in
     let i = here-in (a .held .now) (a .run .used) (a .block .now) (a .run .at) _ (sym (c .before .before .before .before .before .before .before .before .before .before .before .before .before .cut-line .ensures .is) ∙ c .before .before .before .before .before .before .before .before .before .cut .given .1) in
     omega arith
 
 part-log-line-end-2 : tie.Need-part-log-line-end-2
-part-log-line-end-2 c = 
+part-log-line-end-2 c =
     let s = c .before .before .before .before .before .before .before .before .before .before .before .before .before in
     let a = s .args in
     let k : length (c .before .before .before .before .before .before .cut-line .last .0) ≡ length (a .held .now) = c .before .before .before .before .before .before .cut-line .kept .0 in
@@ -43,7 +43,7 @@ part-log-line-end-2 c =
     omega arith
 
 add-line-done-2 : tie.Need-add-line-done-2
-add-line-done-2 c = 
+add-line-done-2 c =
     let s = c .before .before .before .before .before .before .before .before .before .before .before .before .before .before .before .before .before .before .before .before .before in
     let a = s .args in
     let k : length (c .before .before .before .before .before .before .before .before .before .before .before .before .before .before .cut-line .last .0) ≡ length (a .held .now) = c .before .before .before .before .before .before .before .before .before .before .before .before .before .before .cut-line .kept .0 in
@@ -52,19 +52,19 @@ add-line-done-2 c =
     omega arith
 
 returns : tie.Need-returns
-returns c = 
+returns c =
     let s = c .before .before .before .before .before .before .before .before .before .before .before .before .before .before .before .before .before .before .before .before .before in
     let a = s .args in
     turned-here (a .rec) (a .run) (a .held .now) (a .block .now) (a .array .now) (a .log .now) (s .pre) (c .before .before .before .before .before .before .before .before .before .before .before .before .before .before .cut-line .ensures) (c .before .before .before .before .before .before .before .before .before .before .cut .given .1) (c .before .before .before .before .before .before .before .before .before .before .before .before .before .before .cut-line .kept .0) (c .before .before .before .before .before .log-line .ensures) (c .line-done .ensures)
 
 returns-2 : tie.Need-returns-2
-returns-2 c = 
+returns-2 c =
     let s = c .before .before .before .before .before .before .before .before .before .before .before .before .before .before .before .before .before .before .before .before .before .before in
     let a = s .args in
     turned-joined (a .rec) (a .run) (a .held .now) (a .block .now) (a .array .now) (a .log .now) (s .pre) (c .before .before .before .before .before .before .before .before .before .before .before .before .before .before .before .cut-line .ensures) (c .before .before .before .before .before .before .before .before .before .before .before .cut2 .given .1) (c .before .before .before .before .before .before .before .before .before .before .before .before .before .before .before .cut-line .kept .0) (front (c .before .before .before .before .before .before .before .before .before .before .before .cut2 .given .0 .0) (c .before .before .before .before .before .before .before .before .before .before .before .before .before .before .before .cut-line .last .0)) (c .before .before .before .before .before .log-line2 .ensures) (c .line-done2 .ensures)
 
 returns-3 : tie.Need-returns-3
-returns-3 c = 
+returns-3 c =
     let s = c .before .before .before .before .before .before .before .before .before .before .before .before in
     let a = s .args in
     turned-open (a .rec) (a .run) (a .held .now) (a .block .now) (a .array .now) (a .log .now) (s .pre) (c .before .before .before .before .before .cut-line .ensures) (c .before .cut3 .given .1) (c .before .before .before .before .before .cut-line .kept .0)

@@ -1,9 +1,6 @@
 -- `lines::cut_line` meets its contract. Assumes nothing.
-use mathlib.Core.Path.{_≡_, sym, _∙_}
-use Prim.Native.Nat.{_≤_}
 use native.Mathlib.Omega.{arith}
 use denote.Ref.{now}
-use lib.ListN.{length}
 use borrow.Author.Needs.{needs}
 use Rattle.lines.proofs.Laws.{end-in, cuts-past, cuts-here, cuts-joined, cuts-open}
 use Rattle.lines.proofs.cut_line.Statement.{statement}

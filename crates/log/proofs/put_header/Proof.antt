@@ -1,10 +1,7 @@
 -- `log::put_header` meets its contract. Assumes nothing.
-use mathlib.Core.Path.{_≡_, refl, sym, _∙_}
-use native.Mathlib.Omega.{arith}
-use denote.Ref.{now}
+use mathlib.Core.Path.{sym, _∙_}
 use borrow.Author.Needs.{needs}
 use borrow.Author.Tests.{leb-true, not-true, not-false}
-use Rattle.text.proofs.PutLaws.{put-as}
 use Rattle.log.specs.Row.{headerText}
 use Rattle.log.proofs.Laws.{rowed-no, rowed-yes}
 use Rattle.log.proofs.put_header.Statement.{statement}

@@ -8,7 +8,7 @@ use Rattle.play.proofs.log_line.Statement.{statement}
 use Rattle.play.proofs.log_line.Tie as tie
 
 part-put-row-end : tie.Need-part-put-row-end
-part-put-row-end c = 
+part-put-row-end c =
     let a = c .before .before .before .before .before .before .before .before .before .before .before .before .args in
     let p = c .before .before .before .before .before .before .play in
     let w = played-within (a .rec) (a .st) (a .array .now) (replicate 300 0) (a .line .now) (p .ensures .played) in
@@ -16,7 +16,7 @@ part-put-row-end c =
     omega arith
 
 returns : tie.Need-returns
-returns c = 
+returns c =
     let s = c .before .before .before .before .before .before .before .before .before .before .before .before .before .before .before .before .before .before in
     let a = s .args in
     let p = c .before .before .before .before .before .before .before .before .before .before .before .before .play in

@@ -8,25 +8,25 @@ use Rattle.play.proofs.play.Tie as tie
 
 returns : tie.Need-returns
 unfolding turnOf
-returns c = 
+returns c =
     let a = c .before .before .before .before .before .before .before .before .before .before .before .before .before .before .args in
     at-line (a .rec) (a .st) (a .array .now) (a .shown .now) (a .line .now) (c .before .before .before .before .before .before .before .before .before .before .read-line .ensures .is) _ (c .before .before .before .before .before .before .before .before .said .given .1) (c .before .before .before .before .play-frame .ensures)
 
 returns-2 : tie.Need-returns-2
 unfolding turnOf
-returns-2 c = 
+returns-2 c =
     let a = c .before .before .before .before .before .before .before .before .before .args in
     at-line (a .rec) (a .st) (a .array .now) (a .shown .now) (a .line .now) (c .before .before .before .before .before .read-line .ensures .is) _ (c .before .before .before .said2 .given .1) (record { played = c .passed .ensures ∙ ap passedOf (c .before .waited .ensures); cells = refl; shown = refl })
 
 returns-3 : tie.Need-returns-3
 unfolding turnOf
-returns-3 c = 
+returns-3 c =
     let a = c .before .before .before .before .before .before .before .before .args in
     at-line (a .rec) (a .st) (a .array .now) (a .shown .now) (a .line .now) (c .before .before .before .before .read-line .ensures .is) _ (c .before .before .enum-told .given .1) (record { played = c .passed2 .ensures ∙ ap passedOf (c .before .cycled .ensures); cells = refl; shown = refl })
 
 returns-4 : tie.Need-returns-4
 unfolding turnOf
-returns-4 c = 
+returns-4 c =
     let a = c .before .before .before .before .before .before .args in
     at-line (a .rec) (a .st) (a .array .now) (a .shown .now) (a .line .now) (c .before .before .read-line .ensures .is) _ (c .enum-told2 .given .1) (record { played = refl; cells = refl; shown = refl })
 

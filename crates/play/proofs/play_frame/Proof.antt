@@ -6,7 +6,7 @@ use Rattle.play.proofs.play_frame.Statement.{statement}
 use Rattle.play.proofs.play_frame.Tie as tie
 
 returns : tie.Need-returns
-returns c = 
+returns c =
     let a = c .before .before .before .before .before .before .before .before .before .before .before .before .before .before .before .before .before .args in
     frame-plays (a .rec) (a .st) (a .array .now) (a .shown .now) (a .line .now) (a .wp) (a .tail) (unhexed-front 300 refl (c .before .before .before .before .before .before .before .before .before .before .before .before .frame-bytes .ensures)) (c .before .before .before .before .before .before .stepped .ensures) (c .number-of .ensures)
 

@@ -1,5 +1,4 @@
 -- `script::is_plain` meets its contract. Assumes nothing.
-use mathlib.Core.Path.{_≡_, refl, sym, ap, _∙_}
 use denote.Ref.{now}
 use borrow.Author.Needs.{needs}
 use Rattle.script.proofs.ReadLaws.{plain-is}

@@ -1,8 +1,4 @@
 -- `script::is_power` meets its contract. Assumes nothing.
-use mathlib.Core.Path.{_≡_, refl, sym, ap, _∙_}
-use mathlib.Core.Bool.{true, false}
-use native.Mathlib.Omega.{arith}
-use denote.Ref.{now}
 use borrow.Author.Needs.{needs}
 use Rattle.script.specs.Reading.{isPower}
 use Rattle.script.proofs.is_power.Statement.{statement}

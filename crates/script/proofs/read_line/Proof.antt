@@ -1,8 +1,6 @@
 -- `script::read_line` meets its contract. Assumes nothing.
-use mathlib.Core.Path.{_≡_, refl, sym, ap, _∙_}
-use mathlib.Core.Bool.{true, false}
+use mathlib.Core.Path.{sym, _∙_}
 use native.Mathlib.Omega.{arith}
-use denote.Ref.{now}
 use borrow.Author.Needs.{needs}
 use Rattle.script.proofs.Agree.{reads}
 use Rattle.script.proofs.ReadLaws.{too-long, frame-parts, frame-in, frame-out}

@@ -104,10 +104,10 @@ module _ {M : Type 1} (𝓤 : URA M) (H : Heap 𝓤) (A : Atoms 𝓤) (W : Given
 
   -- of what the step ensures: the last state is the result's, and the rest is what this function ensures
   last-is : (r : After) (z : State) → Passes does r z → z ≡ r .state
-  last-is r z  e = e .state ∙ sym (ap (λ (y : After). y .state) (e .reply))
+  last-is r z e = e .state ∙ sym (ap (λ (y : After). y .state) (e .reply))
 
   gives : (r : After) (z : State) → Passes does r z → r ≡ does
-  gives r z  e = e .reply
+  gives r z e = e .reply
 
   abbrev x : Arg
   x = (st, (x-rec, tt))
@@ -124,7 +124,7 @@ module _ {M : Type 1} (𝓤 : URA M) (H : Heap 𝓤) (A : Atoms 𝓤) (W : Given
 
   exits : (r : After) → r ≡ does → Is TAfter.the-row r (valAfter r ∷ [])
       → ent 𝓤 (⋆ 𝓤 H A (tokens ∷ [])) (Post (valAfter r))
-  exits r  e  is =
+  exits r e is =
       qed W (tokens ∷ []) ∵
       suffices ! _ (ends-at 𝓤 H A self.ended stayed (self.clauses 𝓤 H A at-mem run) W ((tt, tt, tt, x, at), tt) (valAfter r) r (tt, (tt, tt)) (tt, (tt, tt))) $ says ! e $
       framed ! $ nothing ! $ owned ! TRecord.the-row (Is TRecord.the-row) ((LL.makes TRecord.the-type TRecord′.the-plain) 𝓤 H A) x-rec _ is-rec $ fjoin ! $ owned ! TState.the-row (Is TState.the-row) ((LL.makes TState.the-type TState′.the-plain) 𝓤 H A) st _ is-st $ fjoin ! $ owned ! TAfter.the-row (Is TAfter.the-row) ((LL.makes TAfter.the-type TAfter′.the-plain) 𝓤 H A) r _ is $ move ! (1 ∷ 0 ∷ []) $ done !
@@ -177,7 +177,7 @@ module _ {M : Type 1} (𝓤 : URA M) (H : Heap 𝓤) (A : Atoms 𝓤) (W : Given
         rewrite ! 10 (λ (u : Val). ‵ (fat fullShare TAfter′.mir l₄ 0 u)) (ap only (LL.tells TAfter.the-type TAfter′.the-laws r _ is)) refl $
         move ! (1 ∷ []) $ split ! $ lft-end ! tt $ move ! (0 ∷ 6 ∷ 5 ∷ []) $
         use3 W (later (‵ (partAt TState.the-row fullShare (zs .0) l₃ 0))) (ref-back 𝓤 H A W TState.the-row (ν ∷ []) γ (zs .0) l₃ 0) $ await ! tt $
-        rewrite ! 0 (λ (z : State). ‵ (partAt TState.the-row fullShare z l₃ 0)) (last-is r (zs .0)  e) refl $
+        rewrite ! 0 (λ (z : State). ‵ (partAt TState.the-row fullShare z l₃ 0)) (last-is r (zs .0) e) refl $
         lies-out TState.the-type TState′.the-laws TState′.the-plain ! (r .state) l₃ (λ is-new.
         -- [_3; tokens; res; fin-rec; lasts; _6; d6; _5; d5; _4; d4; d3; _2; d2; _1; d1; _0; d0]
         assigns ! (of-opd ! (load ! (from ! (stop !)) (look ! 0 refl))) (from ! (stop !)) (init ! 5 refl (LL.lawful TState.the-type TState′.the-laws 𝓤 H A W .typed (r .state) _ is-new .0)) $
@@ -185,7 +185,7 @@ module _ {M : Type 1} (𝓤 : URA M) (H : Heap 𝓤) (A : Atoms 𝓤) (W : Given
         -- [_3; tokens; res; fin-rec; lasts; _6; d6; _5; d5; _4; d4; d3; _2; d2; _1; d1; _0; d0]
         returns ! (look ! 16 refl) $ forget ! 16 refl $ forget ! 14 refl $ forget ! 12 refl $ forget ! 0 refl $ forget ! 9 refl $ forget ! 7 refl $ forget ! 5 refl $
         move ! (16 ∷ 17 ∷ []) $ free1 ! $ move ! (14 ∷ 15 ∷ []) $ free1 ! $ move ! (12 ∷ 13 ∷ []) $ free1 ! $ move ! (0 ∷ 11 ∷ []) $ free1 ! $ move ! (8 ∷ 9 ∷ []) $ free1 ! $ move ! (6 ∷ 7 ∷ []) $ free1 ! $ move ! (4 ∷ 5 ∷ []) $ free1 ! $ free0 ! $
-        keep ! (0 ∷ []) $ by ! (exits r  (gives r (zs .0)  e)  (is-res r v is)))))))))))))))))
+        keep ! (0 ∷ []) $ by ! (exits r (gives r (zs .0) e) (is-res r v is)))))))))))))))))
 
 module _ {M : Type 1} (𝓤 : URA M) (H : Heap 𝓤) (A : Atoms 𝓤) (W : Given 𝓤 H A) (at-mem : Memory → SProp 𝓤) (run : Routine → Fun 𝓤) where
   walks : (C : Calls 𝓤 H) (Λ : Loops 𝓤 H) → FmC 𝓤 H (W .laws) C → Triple 𝓤 (C #stepper·step-cycle) (Callee 𝓤 H A at-mem run) → Walks 𝓤 H A self.ended stayed (WpFn 𝓤 H C Λ code.function) (self.clauses 𝓤 H A at-mem run)

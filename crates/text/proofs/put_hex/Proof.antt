@@ -1,10 +1,9 @@
 -- `text::put_hex` meets its contract: the first i bytes are put. Assumes nothing.
-use mathlib.Core.Path.{_≡_, refl, sym, ap, _∙_}
-use Prim.Native.Nat.{ℕ, _+_, _-_, _*_, _/_, _^_, _≤_, _<_}
+use mathlib.Core.Path.{_≡_, refl}
+use Prim.Native.Nat.{_+_, _-_, _*_, _≤_}
 use native.Mathlib.Omega.{arith}
 use denote.Ref.{now}
-use lib.ListN.{length, take, drop, getD, length-set}
-use borrow.Author.Needs.{needs}
+use lib.ListN.{length, take, length-set}
 use Rattle.text.specs.Text.{hexText}
 use Rattle.text.specs.Put.{Put}
 use Rattle.text.proofs.PutLaws.{put-none}

@@ -1,12 +1,10 @@
 -- `text::put_number` meets its contract: the digits from `to` on stand, and the others are the last of rest. Assumes nothing.
-use mathlib.Core.Path.{_≡_, refl, sym, ap, _∙_}
-use Prim.Native.Nat.{ℕ, _+_, _-_, _*_, _/_, _^_, _≤_, _<_}
+use mathlib.Core.Path.{_≡_, refl, sym}
+use Prim.Native.Nat.{_+_, _-_, _≤_}
 use native.Mathlib.Omega.{arith}
 use denote.Ref.{now}
-use lib.ListN.{length, take, drop, getD, length-set}
-use borrow.Author.Needs.{needs}
+use lib.ListN.{length, length-set}
 use Rattle.text.specs.Text.{decimalText}
-use Rattle.text.specs.Put.{Put}
 use Rattle.text.proofs.PutLaws.{put-to}
 use Rattle.text.proofs.TextLaws.{decimal-few, Spelt, spelt-none, spelt-back, spelt-all}
 use Rattle.text.proofs.put_number.Statement.{statement}

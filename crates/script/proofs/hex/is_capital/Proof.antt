@@ -1,9 +1,5 @@
 -- `script::hex::is_capital` meets its contract. Assumes nothing.
-use mathlib.Core.Path.{_≡_, refl, sym, ap, _∙_}
-use mathlib.Core.Bool.{true, false}
-use native.Mathlib.Omega.{arith}
-use denote.Ref.{now}
-use borrow.Author.Needs.{needs}
+use mathlib.Core.Path.{refl}
 use Rattle.script.specs.Hex.{isCapital}
 use Rattle.script.proofs.hex.is_capital.Statement.{statement}
 use Rattle.script.proofs.hex.is_capital.Tie as tie

@@ -1,5 +1,4 @@
 -- `script::hex::is_hex` meets its contract. Assumes nothing.
-use mathlib.Core.Path.{refl}
 use borrow.Author.Needs.{needs}
 use Rattle.script.specs.Hex.{isHex}
 use Rattle.script.proofs.hex.is_hex.Statement.{statement}

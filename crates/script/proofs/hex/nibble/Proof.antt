@@ -1,8 +1,6 @@
 -- `script::hex::nibble` meets its contract. Assumes nothing.
-use mathlib.Core.Path.{_≡_, refl, sym, ap, _∙_}
-use mathlib.Core.Bool.{true, false}
+use mathlib.Core.Path.{sym, _∙_}
 use native.Mathlib.Omega.{arith}
-use denote.Ref.{now}
 use borrow.Author.Needs.{needs}
 use Rattle.script.proofs.HexLaws.{digit-range}
 use Rattle.script.proofs.HexLaws.{capital-range, nibble-digit, nibble-capital, nibble-none}
