@@ -1,0 +1,47 @@
+-- Laws of bytes: numbers little-endian, lists that are the same, lists of eight. Assumes nothing.
+use mathlib.Core.Path.{_≡_, refl}
+use mathlib.Core.Bool.{true, false≢true}
+use mathlib.Core.List.{List, [], _∷_}
+use Prim.Native.Nat.{ℕ, suc, _+_, _*_, _/_, _%_, _^_, _<_}
+use native.Mathlib.Omega.{arith}
+use lib.Dec.{eqb}
+use lib.ListN.{length, getD, drop, drop-of-length-le}
+use lib.Seq.{drop-cons}
+use borrow.Author.Tests.{eqb-true, eq-eqb}
+use Rattle.units.proofs.Bools.{both}
+use Rattle.pod.specs.Packing.{bytesOf, spelt, same}
+
+-- ---- numbers little-endian
+pub spelt-bytes : (x : ℕ) → x < 2 ^ 32 → spelt (bytesOf 4 x) ≡ x
+spelt-bytes x h = omega arith
+
+lowest : (b s : ℕ) → b < 256 → ((b + 256 * s) % 256 ≡ b) × ((b + 256 * s) / 256 ≡ s)
+lowest b s h = (omega arith, omega arith)
+
+pub bytes-spelt : (bs : List ℕ) → ((i : ℕ) → getD bs i 0 < 256) → bytesOf (length bs) (spelt bs) ≡ bs
+bytes-spelt [] h = refl
+bytes-spelt (b ∷ bs) h =
+    let k = lowest b (spelt bs) (h 0) in
+    rw (k .0, k .1, bytes-spelt bs (λ (i : ℕ). h (suc i)))
+
+-- ---- lists that are the same
+pub same-refl : (xs : List ℕ) → same xs xs ≡ true
+same-refl [] = refl
+same-refl (x ∷ xs) = rw (eq-eqb x x refl) (same-refl xs)
+
+pub same-eq : (xs ys : List ℕ) → same xs ys ≡ true → xs ≡ ys
+same-eq [] [] e = refl
+same-eq [] (y ∷ ys) e = absurd (false≢true e)
+same-eq (x ∷ xs) [] e = absurd (false≢true e)
+same-eq (x ∷ xs) (y ∷ ys) e =
+    let k = both (eqb x y) (same xs ys) e in
+    rw (eqb-true x y (k .0), same-eq xs ys (k .1))
+
+-- ---- the last four of eight
+pub last-four : (xs : List ℕ) → length xs ≡ 8 → drop 4 xs ≡ getD xs 4 0 ∷ getD xs 5 0 ∷ getD xs 6 0 ∷ getD xs 7 0 ∷ []
+last-four xs n =
+    let a : 4 < length xs = omega arith in
+    let b : 5 < length xs = omega arith in
+    let c : 6 < length xs = omega arith in
+    let d : 7 < length xs = omega arith in
+    rw (drop-cons xs 4 0 a, drop-cons xs 5 0 b, drop-cons xs 6 0 c, drop-cons xs 7 0 d, drop-of-length-le xs {i = 8} (omega arith))

@@ -1,0 +1,8 @@
+-- `Bytes`, `Status`, `Packing`: laws of the packed state. `Valid`: what a call that is taken shows of its state, and what it leaves.
+-- `Calls`: the effects of the calls from those of the chip. `Promises`: what specs/Promises.antt states.
+pub mod Bytes
+pub mod Status
+pub mod Packing
+pub mod Valid
+pub mod Calls
+pub mod Promises

@@ -1,0 +1,103 @@
+-- Laws of the packed state. Assumes nothing.
+use mathlib.Core.Path.{_≡_, refl, sym, ap, _∙_}
+use mathlib.Core.Bool.{Bool, true, false, not, _&&_, cond, and-true, and-assoc}
+use mathlib.Core.List.{List, [], _∷_}
+use Prim.Native.Nat.{ℕ, suc, _/_, _%_, _^_, _≤_, _<_}
+use native.Mathlib.Omega.{arith}
+use lib.Dec.{eqb, leb}
+use lib.ListN.{length, getD, drop, drop-of-length-le}
+use lib.Seq.{sets, sets-eq}
+use mir.Val.{boolByte}
+use Rattle.rules.specs.States.{bit, statusOf}
+use Rattle.rules.specs.declared.State.{State}
+use Rattle.pod.specs.Packing.{bytesOf, spelt, packOf, readOf, isPacking, noState, unpackOf}
+use Rattle.pod.proofs.Bytes.{spelt-bytes, bytes-spelt, same-refl, same-eq, last-four}
+use Rattle.pod.proofs.Status.{flag-byte, flag-back, srwd-back, bp-back, wel-back, status-test, flag-test}
+
+-- a state that fits its eight bytes
+pub record Small (s : State) : Type 0 where
+  pub level : s .bp ≤ 15
+  pub short : s .busy < 2 ^ 32
+
+-- ---- packing
+pub read-pack : (s : State) → Small s → readOf (packOf s) ≡ s
+unfolding readOf packOf statusOf
+read-pack s h =
+    let w = not (eqb (s .busy) 0) in
+    rw (srwd-back (s .srwd) (s .wel) w (s .bp) (h .level), bp-back (s .srwd) (s .wel) w (s .bp) (h .level), wel-back (s .srwd) (s .wel) w (s .bp), flag-back (s .asleep), spelt-bytes (s .busy) (h .short))
+
+-- the code's eight bytes, stored one after the other
+abbrev stores : State → ℕ → List ℕ
+stores s status =
+    status ∷ boolByte (s .asleep) ∷ 0 ∷ 0 ∷ s .busy % 256 ∷ s .busy / 256 % 256 ∷ s .busy / 65536 % 256 ∷ s .busy / 16777216 % 256 ∷ []
+
+pub stored : (s : State) (xs : List ℕ) {status : ℕ} → length xs ≡ 8 → status ≡ statusOf s → sets xs 0 (stores s status) ≡ packOf s
+unfolding packOf
+stored s xs {status} n e =
+    let two : s .busy / 65536 % 256 ≡ s .busy / 256 / 256 % 256 = omega arith in
+    let three : s .busy / 16777216 % 256 ≡ s .busy / 256 / 256 / 256 % 256 = omega arith in
+    sets-eq (stores s status) xs 0 (omega arith) ∙ rw (drop-of-length-le xs {i = 8} (omega arith), e, flag-byte (s .asleep), two, three)
+
+-- ---- what is a packing
+packing-eq : (xs : List ℕ) → isPacking xs ≡ true → xs ≡ packOf (readOf xs)
+unfolding isPacking
+packing-eq xs e = same-eq xs (packOf (readOf xs)) e
+
+pub packing-length : (xs : List ℕ) → isPacking xs ≡ true → length xs ≡ 8
+unfolding packOf
+packing-length xs e = ap length (packing-eq xs e)
+
+is-packing : (s : State) → Small s → isPacking (packOf s) ≡ true
+unfolding isPacking
+is-packing s h = rw (read-pack s h) (same-refl (packOf s))
+
+-- ---- unpacking
+unpack-read : (xs : List ℕ) → isPacking xs ≡ true → unpackOf xs ≡ readOf xs
+unfolding unpackOf
+unpack-read xs e = rw e
+
+pub unpack-none : (xs : List ℕ) → isPacking xs ≡ false → unpackOf xs ≡ noState
+unfolding unpackOf
+unpack-none xs e = rw e
+
+pub pack-unpack : (xs : List ℕ) → isPacking xs ≡ true → packOf (unpackOf xs) ≡ xs
+pack-unpack xs e = ap packOf (unpack-read xs e) ∙ sym (packing-eq xs e)
+
+pub unpack-pack : (s : State) → Small s → unpackOf (packOf s) ≡ s
+unpack-pack s h = unpack-read (packOf s) (is-packing s h) ∙ read-pack s h
+
+-- ---- the tests of the code
+pub wrong-length : (xs : List ℕ) → (length xs ≡ 8 → ⊥) → unpackOf xs ≡ noState
+wrong-length xs n = go (isPacking xs) refl
+  where
+    go : (b : Bool) → isPacking xs ≡ b → unpackOf xs ≡ noState
+    go true e = absurd (n (packing-length xs e))
+    go false e = unpack-none xs e
+
+-- bit 6, WIP, the flag and the two zeros
+abbrev tests : List ℕ → ℕ → Bool
+tests xs wip =
+    eqb (getD xs 0 0 / 64 % 2) 0
+    && (eqb (getD xs 0 0 % 2) wip && (leb (getD xs 1 0) 1 && (eqb (getD xs 2 0) 0 && eqb (getD xs 3 0) 0)))
+
+tests-right : (xs : List ℕ) → length xs ≡ 8 → ((i : ℕ) → getD xs i 0 < 256) → isPacking xs ≡ tests xs (bit (not (eqb (spelt (drop 4 xs)) 0)) 1)
+unfolding isPacking packOf readOf statusOf
+tests-right [] n h = absurd (omega arith)
+tests-right (a ∷ []) n h = absurd (omega arith)
+tests-right (a ∷ b ∷ []) n h = absurd (omega arith)
+tests-right (a ∷ b ∷ c ∷ []) n h = absurd (omega arith)
+tests-right (a ∷ b ∷ c ∷ d ∷ ts) n h =
+    let four : length ts ≡ 4 = omega arith in
+    let e : bytesOf 4 (spelt ts) ≡ ts = rw four at (bytes-spelt ts (λ (i : ℕ). h (suc (suc (suc (suc i)))))) in
+    rw (e, same-refl ts, flag-test b, status-test a (h 0) (not (eqb (spelt ts) 0)), and-true, and-assoc)
+
+module _ (xs : List ℕ) (n : length xs ≡ 8) (h : (i : ℕ) → getD xs i 0 < 256) where
+  pub tested : {time : ℕ} {b : Bool} → time ≡ spelt (getD xs 4 0 ∷ getD xs 5 0 ∷ getD xs 6 0 ∷ getD xs 7 0 ∷ [])
+      → tests xs (boolByte (not (eqb time 0))) ≡ b
+      → cond b (record { srwd = leb 128 (getD xs 0 0); bp = getD xs 0 0 / 4 % 16; wel = eqb (getD xs 0 0 / 2 % 2) 1; asleep = eqb (getD xs 1 0) 1; busy = time }) noState
+      ≡ unpackOf xs
+  unfolding unpackOf readOf
+  tested {time} {b} e f =
+      let t : time ≡ spelt (drop 4 xs) = e ∙ sym (ap spelt (last-four xs n)) in
+      let p : isPacking xs ≡ b = tests-right xs n h ∙ rw (← t, ← flag-byte (not (eqb time 0))) f in
+      rw (p, t)

@@ -1,0 +1,79 @@
+-- What C calls, one effect a call: the number returned and what each lent place holds after. Assumes nothing.
+use mathlib.Core.Bool.{true, not, cond}
+use mathlib.Core.List.{List}
+use mathlib.Core.Path.{_≡_}
+use Prim.Native.Nat.{ℕ, _≤_}
+use lib.Dec.{eqb}
+use lib.ListN.{length}
+use Rattle.rules.specs.Answers.{numberOf, isDone}
+use Rattle.rules.specs.declared.Record.{Record}
+use Rattle.rules.specs.declared.State.{State}
+use Rattle.rules.specs.declared.Answer.{Answer}
+use Rattle.chip.specs.declared.After.{After}
+use Rattle.chip.specs.Effects.{Effect}
+use Rattle.chip.specs.Frames.{frameOf}
+use Rattle.chip.specs.Time.{waitOf, powerOf}
+use Rattle.pod.specs.Packing.{packOf, unpackOf}
+
+-- the record of six numbers
+abbrev pub recordOf : ℕ → ℕ → ℕ → ℕ → ℕ → ℕ → Record
+recordOf model status page sector block chip =
+    record { model = model; «status_write» = status; page = page; sector = sector; block = block; chip = chip }
+
+-- the state bytes after: those of the state after, and where the call is refused those given
+unfoldable pub keptOf : Answer → State → List ℕ → List ℕ
+keptOf a next state = cond (isDone a) (packOf next) state
+
+-- a frame: the number of 01's table, the state bytes, the array, the output, the first driven position and how many
+pub record Called : Type 0 where
+  pub number : ℕ
+  pub state : List ℕ
+  pub cells : List ℕ
+  pub out : List ℕ
+  pub from : ℕ
+  pub count : ℕ
+
+abbrev pub called : ℕ → List ℕ → List ℕ → List ℕ → ℕ → ℕ → Called
+called number state cells out from count =
+    record { number = number; state = state; cells = cells; out = out; from = from; count = count }
+
+-- WP# is low at 0, high at any other number
+unfoldable pub calledFrame : Record → List ℕ → List ℕ → List ℕ → ℕ → ℕ → List ℕ → Called
+calledFrame rec state cells bytes tail wp out =
+    let e : Effect = frameOf rec (unpackOf state) cells bytes tail (not (eqb wp 0)) out in
+    called (numberOf (e .reply .answer)) (keptOf (e .reply .answer) (e .reply .state) state) (e .cells) (e .out) (e .reply .from) (e .reply .count)
+
+-- a wait or a power cycle: the number and the state bytes
+pub record Answered : Type 0 where
+  pub number : ℕ
+  pub state : List ℕ
+
+abbrev pub answered : ℕ → List ℕ → Answered
+answered number state = record { number = number; state = state }
+
+abbrev pub answeredOf : List ℕ → After → Answered
+answeredOf state a = answered (numberOf (a .answer)) (keptOf (a .answer) (a .state) state)
+
+unfoldable pub calledWait : Record → List ℕ → ℕ → Answered
+calledWait rec state us = answeredOf state (waitOf rec (unpackOf state) us)
+
+unfoldable pub calledCycle : Record → List ℕ → Answered
+calledCycle rec state = answeredOf state (powerOf rec (unpackOf state))
+
+-- what a function's result and its lent places at exit have to be
+pub record Leaves (c : Called) (number : ℕ) (state cells out : List ℕ) (from count : ℕ) : Type 0 where
+  pub number-is : number ≡ c .number
+  pub state-is : state ≡ c .state
+  pub cells-are : cells ≡ c .cells
+  pub out-is : out ≡ c .out
+  pub from-is : from ≡ c .from
+  pub count-is : count ≡ c .count
+
+pub record Answers (c : Answered) (number : ℕ) (state : List ℕ) : Type 0 where
+  pub number-is : number ≡ c .number
+  pub state-is : state ≡ c .state
+
+-- what the code asks before it packs: where nothing was refused there are 8 bytes, and BP fits the status byte
+pub record Fits (a : Answer) (next : State) (state : List ℕ) : Type 0 where
+  pub room : isDone a ≡ true → length state ≡ 8
+  pub level : isDone a ≡ true → next .bp ≤ 15

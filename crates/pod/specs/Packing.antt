@@ -1,0 +1,49 @@
+-- The packed state: 01, "Record, state, frame", last paragraph. Assumes nothing.
+use mathlib.Core.Bool.{Bool, true, false, _&&_, cond}
+use mathlib.Core.List.{List, [], _∷_}
+use Prim.Native.Nat.{ℕ, zero, suc, _+_, _*_, _/_, _%_}
+use lib.Dec.{eqb, leb}
+use lib.ListN.{getD, drop}
+use Rattle.rules.specs.States.{bit, statusOf}
+use Rattle.rules.specs.declared.State.{State}
+
+-- a number little-endian in n bytes, and the number that bytes spell
+abbrev pub bytesOf : ℕ → ℕ → List ℕ
+bytesOf zero x = []
+bytesOf (suc n) x = x % 256 ∷ bytesOf n (x / 256)
+
+abbrev pub spelt : List ℕ → ℕ
+spelt [] = 0
+spelt (b ∷ bs) = b + 256 * spelt bs
+
+-- the status byte, the deep power-down flag 0 or 1, two zeros, and the busy time little-endian
+unfoldable pub packOf : State → List ℕ
+packOf s = statusOf s ∷ bit (s .asleep) 1 ∷ 0 ∷ 0 ∷ bytesOf 4 (s .busy)
+
+-- the state that bytes spell: SRWD is bit 7, BP bits 5 to 2, WEL bit 1
+unfoldable pub readOf : List ℕ → State
+readOf xs =
+    record {
+      srwd = leb 128 (getD xs 0 0);
+      bp = getD xs 0 0 / 4 % 16;
+      wel = eqb (getD xs 0 0 / 2 % 2) 1;
+      asleep = eqb (getD xs 1 0) 1;
+      busy = spelt (drop 4 xs);
+    }
+
+abbrev pub same : List ℕ → List ℕ → Bool
+same [] [] = true
+same [] (y ∷ ys) = false
+same (x ∷ xs) [] = false
+same (x ∷ xs) (y ∷ ys) = eqb x y && same xs ys
+
+-- bytes are a packing when they are just the packing of the state that they spell: no other content, no other length
+unfoldable pub isPacking : List ℕ → Bool
+isPacking xs = same xs (packOf (readOf xs))
+
+-- no record makes it valid: no model has that BP
+abbrev pub noState : State
+noState = record { srwd = false; bp = 255; wel = false; asleep = false; busy = 0 }
+
+unfoldable pub unpackOf : List ℕ → State
+unpackOf xs = cond (isPacking xs) (readOf xs) noState

@@ -1,0 +1,80 @@
+-- What is shown of the packing and of the calls; proofs/Promises.antt proves each under the same name. Assumes nothing.
+use mathlib.Core.Bool.{true, not, cond}
+use mathlib.Core.List.{List}
+use mathlib.Core.Path.{_≡_}
+use Prim.Native.Nat.{ℕ}
+use lib.Dec.{eqb}
+use lib.ListN.{length}
+use Rattle.units.specs.Models.{modelOf}
+use Rattle.rules.specs.States.{recordOk, stateOk}
+use Rattle.rules.specs.declared.Record.{Record}
+use Rattle.rules.specs.declared.State.{State}
+use Rattle.chip.specs.Frames.{frameOf}
+use Rattle.chip.specs.Time.{waitOf, powerOf}
+use Rattle.pod.specs.Packing.{packOf, unpackOf}
+use Rattle.pod.specs.Calls.{Called, Answered, called, answered, calledFrame, calledWait, calledCycle, Leaves, Answers}
+
+-- ---- packing and unpacking are inverse on the states that some record makes valid
+pub record Valid (s : State) : Type 0 where
+  pub rec : Record
+  pub right : recordOk rec ≡ true
+  pub valid : stateOk rec s ≡ true
+
+abbrev pub UnpacksPacked : Type 0
+UnpacksPacked = (s : State) → Valid s → unpackOf (packOf s) ≡ s
+
+abbrev pub PacksUnpacked : Type 0
+PacksUnpacked = (xs : List ℕ) → Valid (unpackOf xs) → packOf (unpackOf xs) ≡ xs
+
+-- ---- bytes that are the packing of no state valid under the record are refused, by the first of 1, 2 and 3 that applies
+abbrev pub NoPacking : Record → List ℕ → Type 0
+NoPacking rec xs = (s : State) → stateOk rec s ≡ true → xs ≡ packOf s → ⊥
+
+abbrev pub FrameRefusesBytes : Type 0
+FrameRefusesBytes =
+    (rec : Record) (xs cells bytes : List ℕ) (tail wp : ℕ) (out : List ℕ)
+    → NoPacking rec xs
+    → calledFrame rec xs cells bytes tail wp out
+    ≡ called (cond (recordOk rec) (cond (eqb (length cells) (modelOf (rec .model) .length)) 3 2) 1) xs cells out 0 0
+
+abbrev pub WaitRefusesBytes : Type 0
+WaitRefusesBytes = (rec : Record) (xs : List ℕ) (us : ℕ) → NoPacking rec xs → calledWait rec xs us ≡ answered (cond (recordOk rec) 3 1) xs
+
+abbrev pub CycleRefusesBytes : Type 0
+CycleRefusesBytes = (rec : Record) (xs : List ℕ) → NoPacking rec xs → calledCycle rec xs ≡ answered (cond (recordOk rec) 3 1) xs
+
+-- ---- a refused call leaves everything as it was, and *from and *count 0
+abbrev pub RefusedFrameStays : Type 0
+RefusedFrameStays =
+    (rec : Record) (xs cells bytes : List ℕ) (tail wp : ℕ) (out : List ℕ)
+    → (calledFrame rec xs cells bytes tail wp out .number ≡ 0 → ⊥)
+    → calledFrame rec xs cells bytes tail wp out ≡ called (calledFrame rec xs cells bytes tail wp out .number) xs cells out 0 0
+
+abbrev pub RefusedWaitStays : Type 0
+RefusedWaitStays = (rec : Record) (xs : List ℕ) (us : ℕ) → (calledWait rec xs us .number ≡ 0 → ⊥) → calledWait rec xs us .state ≡ xs
+
+abbrev pub RefusedCycleStays : Type 0
+RefusedCycleStays = (rec : Record) (xs : List ℕ) → (calledCycle rec xs .number ≡ 0 → ⊥) → calledCycle rec xs .state ≡ xs
+
+-- ---- what the next call finds in the bytes is the state that the chip was left in, whatever the answer
+abbrev pub FrameCarries : Type 0
+FrameCarries =
+    (rec : Record) (xs cells bytes : List ℕ) (tail wp : ℕ) (out : List ℕ)
+    → unpackOf (calledFrame rec xs cells bytes tail wp out .state) ≡ frameOf rec (unpackOf xs) cells bytes tail (not (eqb wp 0)) out .reply .state
+
+abbrev pub WaitCarries : Type 0
+WaitCarries = (rec : Record) (xs : List ℕ) (us : ℕ) → unpackOf (calledWait rec xs us .state) ≡ waitOf rec (unpackOf xs) us .state
+
+abbrev pub CycleCarries : Type 0
+CycleCarries = (rec : Record) (xs : List ℕ) → unpackOf (calledCycle rec xs .state) ≡ powerOf rec (unpackOf xs) .state
+
+-- ---- no second answer: two results of one call that satisfy the contract are equal in every part
+abbrev pub OneFrame : Type 0
+OneFrame =
+    (c : Called) (n m : ℕ) (xs ys cells cells′ out out′ : List ℕ) (from from′ count count′ : ℕ)
+    → Leaves c n xs cells out from count
+    → Leaves c m ys cells′ out′ from′ count′
+    → called n xs cells out from count ≡ called m ys cells′ out′ from′ count′
+
+abbrev pub OneAnswer : Type 0
+OneAnswer = (c : Answered) (n m : ℕ) (xs ys : List ℕ) → Answers c n xs → Answers c m ys → answered n xs ≡ answered m ys

@@ -1,0 +1,187 @@
+// What the pod's firmware, written in C, calls: frame, wait and power cycle on numbers and byte slices, the state packed in 8 lent bytes.
+ghost use mathlib.Core.Path.{_≡_};
+ghost use mathlib.Core.List.{_∷_, []};
+ghost use Prim.Native.Nat.{_≤_};
+ghost use lib.ListN.{length};
+ghost use Rattle.rules.specs.Answers.{numberOf};
+ghost use Rattle.pod.specs.Packing.{spelt, packOf, unpackOf, noState};
+ghost use Rattle.pod.specs.Calls.{recordOf, keptOf, Fits, Leaves, Answers, calledFrame, calledWait, calledCycle};
+use rules::Answer;
+use rules::Record;
+use rules::State;
+
+// ---- the packed state
+
+// A state that no record makes valid.
+fn no_state() -> State
+    ensures { λ r. ⌜ r ≡ noState ⌝ }
+{
+    State {
+        srwd: false,
+        bp: 255,
+        wel: false,
+        asleep: false,
+        busy: 0,
+    }
+}
+
+fn wide(byte: u8) -> u32
+    ensures { λ r. ⌜ (r ≡ byte) × (r ≤ 255) ⌝ }
+{
+    byte as u32
+}
+
+// The number of four bytes, the low byte first.
+fn time_of(a: u8, b: u8, c: u8, d: u8) -> u32
+    ensures { λ r. ⌜ r ≡ spelt (a ∷ b ∷ c ∷ d ∷ []) ⌝ }
+{
+    wide(a) + 256 * (wide(b) + 256 * (wide(c) + 256 * wide(d)))
+}
+
+// The state of 8 lent bytes; of bytes that are no packing, one that no record makes valid.
+fn unpack(state: &[u8]) -> State
+    ensures { λ r. ⌜ r ≡ unpackOf (now (state .entry)) ⌝ }
+{
+    if state.len() != 8 {
+        return no_state();
+    }
+    let status = state[0];
+    let flag = state[1];
+    let busy = time_of(state[4], state[5], state[6], state[7]);
+    let wip = (busy != 0) as u8;
+    if (status / 64 % 2 == 0)
+        & ((status % 2 == wip) & ((flag <= 1) & ((state[2] == 0) & (state[3] == 0))))
+    {
+        return State {
+            srwd: 128 <= status,
+            bp: status / 4 % 16,
+            wel: status / 2 % 2 == 1,
+            asleep: flag == 1,
+            busy,
+        };
+    }
+    no_state()
+}
+
+// The state, packed into 8 lent bytes.
+fn pack(st: State, state: &mut [u8])
+    requires { ⌜ (st .bp ≤ 15) × (length (now state) ≡ 8) ⌝ }
+    ensures { λ _. ⌜ now (state .exit) ≡ packOf st ⌝ }
+{
+    let busy = st.busy;
+    state[0] = rules::status(st);
+    state[1] = st.asleep as u8;
+    state[2] = 0;
+    state[3] = 0;
+    state[4] = (busy % 256) as u8;
+    state[5] = (busy / 256 % 256) as u8;
+    state[6] = (busy / 65536 % 256) as u8;
+    state[7] = (busy / 16777216 % 256) as u8;
+}
+
+// The answer's number. The state after is packed where nothing was refused; otherwise the lent bytes stay.
+fn keep(answer: Answer, next: State, state: &mut [u8]) -> u32
+    requires { ⌜ Fits answer next (now state) ⌝ }
+    ensures { λ r. ⌜ (r ≡ numberOf answer) × (now (state .exit) ≡ keptOf answer next (now (state .entry))) ⌝ }
+{
+    let number = rules::number_of(answer);
+    if number == 0 {
+        pack(next, state);
+    }
+    number
+}
+
+// ---- what C calls
+
+fn record_of(
+    model: u32,
+    status_us: u32,
+    page_us: u32,
+    sector_us: u32,
+    block_us: u32,
+    chip_us: u32,
+) -> Record
+    ensures { λ r. ⌜ r ≡ recordOf model «status_us» «page_us» «sector_us» «block_us» «chip_us» ⌝ }
+{
+    Record {
+        model,
+        status_write: status_us,
+        page: page_us,
+        sector: sector_us,
+        block: block_us,
+        chip: chip_us,
+    }
+}
+
+// Any frame. WP# is low where wp is 0.
+#[no_mangle]
+pub extern "C" fn gwo_frame(
+    model: u32,
+    status_us: u32,
+    page_us: u32,
+    sector_us: u32,
+    block_us: u32,
+    chip_us: u32,
+    state: &mut [u8],
+    array: &mut [u8],
+    frame: &[u8],
+    tail: u32,
+    wp: u32,
+    out: &mut [u8],
+    from: &mut u32,
+    count: &mut u32,
+) -> u32
+    ensures { λ r. ⌜ Leaves (calledFrame (recordOf model «status_us» «page_us» «sector_us» «block_us» «chip_us») (now (state .entry)) (now (array .entry)) (now (frame .entry)) tail wp (now (out .entry))) r (now (state .exit)) (now (array .exit)) (now (out .exit)) (now (from .exit)) (now (count .exit)) ⌝ }
+{
+    let rec = record_of(model, status_us, page_us, sector_us, block_us, chip_us);
+    let st = unpack(state);
+    let reply = chip::frame(rec, st, array, frame, tail, wp != 0, out);
+    *from = reply.from;
+    *count = reply.count;
+    let answer = reply.answer;
+    let next = reply.state;
+    keep(answer, next, state)
+}
+
+// Any wait.
+#[no_mangle]
+pub extern "C" fn gwo_wait(
+    model: u32,
+    status_us: u32,
+    page_us: u32,
+    sector_us: u32,
+    block_us: u32,
+    chip_us: u32,
+    state: &mut [u8],
+    us: u32,
+) -> u32
+    ensures { λ r. ⌜ Answers (calledWait (recordOf model «status_us» «page_us» «sector_us» «block_us» «chip_us») (now (state .entry)) us) r (now (state .exit)) ⌝ }
+{
+    let rec = record_of(model, status_us, page_us, sector_us, block_us, chip_us);
+    let st = unpack(state);
+    let waited = chip::wait(rec, st, us);
+    let answer = waited.answer;
+    let next = waited.state;
+    keep(answer, next, state)
+}
+
+// Any power cycle.
+#[no_mangle]
+pub extern "C" fn gwo_power_cycle(
+    model: u32,
+    status_us: u32,
+    page_us: u32,
+    sector_us: u32,
+    block_us: u32,
+    chip_us: u32,
+    state: &mut [u8],
+) -> u32
+    ensures { λ r. ⌜ Answers (calledCycle (recordOf model «status_us» «page_us» «sector_us» «block_us» «chip_us») (now (state .entry))) r (now (state .exit)) ⌝ }
+{
+    let rec = record_of(model, status_us, page_us, sector_us, block_us, chip_us);
+    let st = unpack(state);
+    let cycled = chip::power_cycle(rec, st);
+    let answer = cycled.answer;
+    let next = cycled.state;
+    keep(answer, next, state)
+}

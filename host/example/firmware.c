@@ -1,0 +1,189 @@
+/*
+ * A controller keeps a table of records in its flash chip: 48 bytes each, one after the
+ * other from the start of a sector. Six of them are longer than a page of 256 bytes, so
+ * the sixth lies across a page end.
+ *
+ * The chip does not go on to the next page. A page program that runs past the end of
+ * its page goes on at the start of the same page, over the first record of the table.
+ * Run once as the firmware was last spring, and once mended.
+ */
+#include "gwo.h"
+
+#include <stdio.h>
+#include <stdlib.h>
+#include <string.h>
+
+enum { RECORD_LENGTH = 48, RECORDS = 6, TABLE = 0x2000 };
+
+static const char *const records[RECORDS] = {
+    "shelf 1  lamp oil      price 0450  stock 017  ok",
+    "shelf 2  candles       price 0120  stock 240  ok",
+    "shelf 3  matches       price 0030  stock 900  ok",
+    "shelf 4  torch         price 1250  stock 008  ok",
+    "shelf 5  batteries     price 0600  stock 064  ok",
+    "shelf 6  spare bulbs   price 0275  stock 031  ok",
+};
+
+/* ---- the flash driver ---- */
+
+/* The chip on the board: here the model. */
+struct flash {
+    struct gwo_record record;
+    uint8_t state[GWO_STATE_LENGTH];
+    uint8_t array[GWO_MODEL_1_LENGTH];
+};
+
+static void stop_unless_done(uint32_t number)
+{
+    if (number == GWO_DONE)
+        return;
+    printf("the chip refused: %lu, %s\n", (unsigned long)number, gwo_text(number));
+    exit(1);
+}
+
+static void flash_power_on(struct flash *f)
+{
+    f->record = gwo_bench_model_1;
+    memset(f->state, 0, sizeof f->state);
+    memset(f->array, 0xFF, sizeof f->array);
+}
+
+/* CS# low, n bytes out and in, CS# high. */
+static void transfer(struct flash *f, const uint8_t *out, uint8_t *in, size_t n)
+{
+    uint32_t from, count;
+
+    memset(in, 0, n);
+    stop_unless_done(gwo_record_frame(&f->record, f->state, sizeof f->state, f->array, sizeof f->array,
+                                      out, n, 0, 1, in, n, &from, &count));
+}
+
+static void write_enable(struct flash *f)
+{
+    static const uint8_t frame[] = {0x06};
+    uint8_t in[1];
+
+    transfer(f, frame, in, 1);
+}
+
+/* Asks for the status every 100 microseconds until the chip is no longer busy. */
+static void wait_until_ready(struct flash *f)
+{
+    static const uint8_t frame[] = {0x05, 0x00};
+    uint8_t in[2];
+
+    transfer(f, frame, in, 2);
+    while ((in[1] & 1) != 0) {
+        stop_unless_done(gwo_record_wait(&f->record, f->state, sizeof f->state, 100));
+        transfer(f, frame, in, 2);
+    }
+}
+
+static size_t addressed(uint8_t *frame, uint8_t command, uint32_t address)
+{
+    frame[0] = command;
+    frame[1] = (uint8_t)(address >> 16);
+    frame[2] = (uint8_t)(address >> 8);
+    frame[3] = (uint8_t)address;
+    return 4;
+}
+
+static void erase_sector(struct flash *f, uint32_t address)
+{
+    uint8_t frame[4], in[4];
+
+    write_enable(f);
+    transfer(f, frame, in, addressed(frame, 0x20, address));
+    wait_until_ready(f);
+}
+
+/* One page program. */
+static void program(struct flash *f, uint32_t address, const uint8_t *bytes, size_t n)
+{
+    uint8_t frame[4 + RECORD_LENGTH], in[4 + RECORD_LENGTH];
+    size_t at = addressed(frame, 0x02, address);
+
+    memcpy(frame + at, bytes, n);
+    write_enable(f);
+    transfer(f, frame, in, at + n);
+    wait_until_ready(f);
+}
+
+static void read_record(struct flash *f, uint32_t address, uint8_t *bytes)
+{
+    uint8_t frame[4 + RECORD_LENGTH], in[4 + RECORD_LENGTH];
+    size_t at = addressed(frame, 0x03, address);
+
+    memset(frame + at, 0, RECORD_LENGTH);
+    transfer(f, frame, in, at + RECORD_LENGTH);
+    memcpy(bytes, in + at, RECORD_LENGTH);
+}
+
+/* ---- the table ---- */
+
+/* Last spring: a record is one program, wherever it lies. */
+static void write_record_last_spring(struct flash *f, uint32_t address, const uint8_t *bytes)
+{
+    program(f, address, bytes, RECORD_LENGTH);
+}
+
+/* Mended: a program ends where its page ends, and the next one goes on. */
+static void write_record_mended(struct flash *f, uint32_t address, const uint8_t *bytes)
+{
+    size_t room = GWO_PAGE_LENGTH - address % GWO_PAGE_LENGTH;
+    size_t n = room < RECORD_LENGTH ? room : RECORD_LENGTH;
+
+    program(f, address, bytes, n);
+    if (n < RECORD_LENGTH)
+        program(f, address + (uint32_t)n, bytes + n, RECORD_LENGTH - n);
+}
+
+typedef void write_record(struct flash *, uint32_t, const uint8_t *);
+
+static void write_table(struct flash *f, write_record *write)
+{
+    uint32_t i;
+
+    erase_sector(f, TABLE);
+    for (i = 0; i < RECORDS; i++)
+        write(f, TABLE + i * RECORD_LENGTH, (const uint8_t *)records[i]);
+}
+
+/* A byte that is no printable character is shown as a dot. */
+static void show_record(uint32_t i, const uint8_t *bytes)
+{
+    size_t k;
+
+    printf("  %lu  ", (unsigned long)i + 1);
+    for (k = 0; k < RECORD_LENGTH; k++)
+        putchar(bytes[k] >= 0x20 && bytes[k] < 0x7F ? bytes[k] : '.');
+    printf("  %s\n", memcmp(bytes, records[i], RECORD_LENGTH) == 0 ? "as written" : "DAMAGED");
+}
+
+static void show_table(struct flash *f)
+{
+    uint8_t bytes[RECORD_LENGTH];
+    uint32_t i;
+
+    for (i = 0; i < RECORDS; i++) {
+        read_record(f, TABLE + i * RECORD_LENGTH, bytes);
+        show_record(i, bytes);
+    }
+}
+
+static void tell(const char *title, write_record *write)
+{
+    static struct flash flash;
+
+    printf("%s\n", title);
+    flash_power_on(&flash);
+    write_table(&flash, write);
+    show_table(&flash);
+}
+
+int main(void)
+{
+    tell("Last spring's firmware: each record is one program.", write_record_last_spring);
+    tell("Mended: a program ends at the page's end.", write_record_mended);
+    return 0;
+}

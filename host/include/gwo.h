@@ -1,0 +1,156 @@
+/*
+ * Gwolunmade: two serial flash chips as a linkable model.
+ *
+ * The archive libpod.a answers frames as the Macronix KH25L512 (model 1) and
+ * KH25L2006E (model 2) do. It keeps no memory of its own: the caller lends the
+ * chip's state (8 packed bytes) and its array, and each call alters them there.
+ * Every call is answered by a number (enum gwo_number), for any argument at all.
+ *
+ * The caller's duties are those of C, and no others:
+ *  - each pointer points to at least as many bytes as its length says, and is
+ *    not null, even where that length is 0;
+ *  - from and count each point to a number of their own;
+ *  - no two of the lent buffers overlap: the output is not the frame.
+ *
+ * A refused call changes nothing but *from and *count, which become 0.
+ */
+#ifndef GWO_H
+#define GWO_H
+
+#include <stddef.h>
+#include <stdint.h>
+
+#ifdef __cplusplus
+extern "C" {
+#endif
+
+/* Lengths, in bytes. */
+#define GWO_STATE_LENGTH 8u     /* a packed state */
+#define GWO_FRAME_LIMIT 65541u  /* the longest frame */
+#define GWO_PAGE_LENGTH 256u
+#define GWO_SECTOR_LENGTH 4096u
+#define GWO_BLOCK_LENGTH 65536u
+#define GWO_MODEL_1_LENGTH 65536u   /* the array of the KH25L512 */
+#define GWO_MODEL_2_LENGTH 262144u  /* the array of the KH25L2006E */
+
+/* What a call is answered. Of several that apply, the first in this order is given. */
+enum gwo_number {
+    GWO_DONE = 0,           /* taken; what it does is done */
+    GWO_BAD_RECORD = 1,     /* the model isn't 1 or 2, or a busy time isn't 1 to 1,000,000,000 us */
+    GWO_BAD_ARRAY = 2,      /* the array's length isn't the model's */
+    GWO_BAD_STATE = 3,      /* the 8 bytes are not the packing of a valid state */
+    GWO_BAD_FRAME = 4,      /* over 65,541 bytes, or over 7 tail bits */
+    GWO_SHORT_OUTPUT = 5,   /* the output buffer is shorter than the frame */
+    GWO_NO_COMMAND = 10,    /* no whole byte in the frame */
+    GWO_BUSY = 11,          /* busy, and the command isn't 05 */
+    GWO_ASLEEP = 12,        /* in deep power-down, and the command isn't AB */
+    GWO_UNKNOWN = 13,       /* no command of these chips */
+    GWO_BAD_LENGTH = 14,    /* length or tail not allowed for the command */
+    GWO_NOT_ENABLED = 15,   /* a write, program or erase with the write enable latch 0 */
+    GWO_STATUS_LOCKED = 16, /* status write with SRWD 1 and WP# low */
+    GWO_PROTECTED = 17,     /* the addressed unit is protected by BP */
+    GWO_BAD_LINE = 20       /* a script line that is not well formed (the runner only) */
+};
+
+/* The number in words. */
+static inline const char *gwo_text(uint32_t number)
+{
+    switch (number) {
+    case GWO_DONE: return "done";
+    case GWO_BAD_RECORD: return "record: model or busy time out of range";
+    case GWO_BAD_ARRAY: return "array length is not the model's";
+    case GWO_BAD_STATE: return "state not valid";
+    case GWO_BAD_FRAME: return "frame over 65,541 bytes, or tail over 7 bits";
+    case GWO_SHORT_OUTPUT: return "output buffer shorter than the frame";
+    case GWO_NO_COMMAND: return "no whole byte in the frame";
+    case GWO_BUSY: return "busy";
+    case GWO_ASLEEP: return "in deep power-down";
+    case GWO_UNKNOWN: return "unknown command";
+    case GWO_BAD_LENGTH: return "length or tail not allowed for the command";
+    case GWO_NOT_ENABLED: return "write enable latch not set";
+    case GWO_STATUS_LOCKED: return "status register locked by SRWD and WP#";
+    case GWO_PROTECTED: return "unit protected";
+    case GWO_BAD_LINE: return "script line not well formed";
+    default: return "no number of this model";
+    }
+}
+
+/*
+ * One frame: frame_len whole bytes clocked in while CS# is low, then tail bits;
+ * wp 0 is WP# low, any other number high. out[i] is the byte driven while frame[i]
+ * goes in; *from is the first driven position, *count how many are driven, both 0
+ * when none. Positions not driven keep their contents. A frame takes no time.
+ */
+uint32_t gwo_frame(uint32_t model, uint32_t status_us, uint32_t page_us,
+                   uint32_t sector_us, uint32_t block_us, uint32_t chip_us,
+                   uint8_t *state, size_t state_len, uint8_t *array, size_t array_len,
+                   const uint8_t *frame, size_t frame_len, uint32_t tail, uint32_t wp,
+                   uint8_t *out, size_t out_len, uint32_t *from, uint32_t *count);
+
+/* us microseconds pass. Only 1 and 3 can refuse it. */
+uint32_t gwo_wait(uint32_t model, uint32_t status_us, uint32_t page_us,
+                  uint32_t sector_us, uint32_t block_us, uint32_t chip_us,
+                  uint8_t *state, size_t state_len, uint32_t us);
+
+/* Power off and on again: SRWD and BP stay. Only 1 and 3 can refuse it. */
+uint32_t gwo_power_cycle(uint32_t model, uint32_t status_us, uint32_t page_us,
+                         uint32_t sector_us, uint32_t block_us, uint32_t chip_us,
+                         uint8_t *state, size_t state_len);
+
+/*
+ * The chip record under one name. Firmware that fills it from a named bench record,
+ * or by field names, and calls through the functions below needs no edit when the
+ * record gains further times.
+ */
+struct gwo_record {
+    uint32_t model;     /* 1 or 2 */
+    uint32_t status_us; /* busy after a status write, in microseconds */
+    uint32_t page_us;   /* busy after a page program */
+    uint32_t sector_us; /* busy after a sector erase */
+    uint32_t block_us;  /* busy after a block erase */
+    uint32_t chip_us;   /* busy after a chip erase */
+};
+
+/* The maximum times of the data sheets: KH25L512 (model 1) and KH25L2006E (model 2). */
+static const struct gwo_record gwo_bench_model_1 = {1u, 15000u, 5000u, 120000u, 2000000u, 2000000u};
+static const struct gwo_record gwo_bench_model_2 = {2u, 40000u, 3000u, 200000u, 2000000u, 3800000u};
+
+/* The array length that a model has; 0 for a number that is no model. */
+static inline size_t gwo_array_length(uint32_t model)
+{
+    return model == 1u ? GWO_MODEL_1_LENGTH : model == 2u ? GWO_MODEL_2_LENGTH : 0u;
+}
+
+/* gwo_frame under a record. */
+static inline uint32_t gwo_record_frame(const struct gwo_record *r, uint8_t *state, size_t state_len,
+                                        uint8_t *array, size_t array_len,
+                                        const uint8_t *frame, size_t frame_len,
+                                        uint32_t tail, uint32_t wp,
+                                        uint8_t *out, size_t out_len,
+                                        uint32_t *from, uint32_t *count)
+{
+    return gwo_frame(r->model, r->status_us, r->page_us, r->sector_us, r->block_us, r->chip_us,
+                     state, state_len, array, array_len, frame, frame_len, tail, wp,
+                     out, out_len, from, count);
+}
+
+/* gwo_wait under a record. */
+static inline uint32_t gwo_record_wait(const struct gwo_record *r, uint8_t *state, size_t state_len,
+                                       uint32_t us)
+{
+    return gwo_wait(r->model, r->status_us, r->page_us, r->sector_us, r->block_us, r->chip_us,
+                    state, state_len, us);
+}
+
+/* gwo_power_cycle under a record. */
+static inline uint32_t gwo_record_power_cycle(const struct gwo_record *r, uint8_t *state, size_t state_len)
+{
+    return gwo_power_cycle(r->model, r->status_us, r->page_us, r->sector_us, r->block_us, r->chip_us,
+                           state, state_len);
+}
+
+#ifdef __cplusplus
+}
+#endif
+
+#endif

@@ -1,0 +1,394 @@
+/*
+ * The independent model: 01's rules in its order, one small function a rule.
+ * Sheet lines: 000 is the KH25L512, 002 the KH25L2006E.
+ */
+#include "model.h"
+
+#include <stdbool.h>
+#include <string.h>
+
+enum { PAGE = 256, SECTOR = 4096, BLOCK = 65536, FRAME_LIMIT = 65541, STATE = 8 };
+
+enum {
+    WRITE_STATUS = 0x01, PROGRAM = 0x02, READ = 0x03, WRITE_DISABLE = 0x04,
+    READ_STATUS = 0x05, WRITE_ENABLE = 0x06, FAST_READ = 0x0B, SECTOR_ERASE = 0x20,
+    BLOCK_ERASE_52 = 0x52, CHIP_ERASE_60 = 0x60, READ_MAKER = 0x90, READ_ID = 0x9F,
+    WAKE = 0xAB, SLEEP = 0xB9, CHIP_ERASE_C7 = 0xC7, BLOCK_ERASE_D8 = 0xD8
+};
+
+enum { MAKER = 0xC2 };
+
+struct record {
+    uint32_t model, status_us, page_us, sector_us, block_us, chip_us;
+};
+
+struct state {
+    unsigned srwd, bp, wel, asleep;
+    uint32_t busy_us;
+};
+
+/* What differs between the models. Cells from locked[BP] on are protected. */
+struct chip {
+    uint32_t size;
+    uint8_t id[3];
+    uint8_t signature;
+    uint32_t locked[4];
+};
+
+static const struct chip chips[] = {
+    /* 000 L383-391, L126-131 */
+    {65536, {0xC2, 0x20, 0x10}, 0x05, {65536, 0, 0, 0}},
+    /* 002 L522-526, L273-276 */
+    {262144, {0xC2, 0x20, 0x12}, 0x11, {262144, 0x30000, 0x20000, 0}},
+};
+
+/* 01, Record. */
+static bool time_ok(uint32_t us)
+{
+    return us >= 1 && us <= 1000000000;
+}
+
+static bool record_ok(const struct record *r)
+{
+    return (r->model == 1 || r->model == 2) && time_ok(r->status_us) && time_ok(r->page_us) &&
+           time_ok(r->sector_us) && time_ok(r->block_us) && time_ok(r->chip_us);
+}
+
+static uint32_t larger(uint32_t a, uint32_t b)
+{
+    return a > b ? a : b;
+}
+
+static uint32_t longest(const struct record *r)
+{
+    return larger(larger(larger(r->status_us, r->page_us), larger(r->sector_us, r->block_us)),
+                  r->chip_us);
+}
+
+/* 01, State: 128 SRWD + 4 BP + 2 WEL + WIP. */
+static uint8_t status_byte(const struct state *s)
+{
+    return (uint8_t)(s->srwd << 7 | s->bp << 2 | s->wel << 1 | (s->busy_us > 0));
+}
+
+static void pack(const struct state *s, uint8_t *p)
+{
+    p[0] = status_byte(s);
+    p[1] = (uint8_t)s->asleep;
+    p[2] = 0;
+    p[3] = 0;
+    p[4] = (uint8_t)s->busy_us;
+    p[5] = (uint8_t)(s->busy_us >> 8);
+    p[6] = (uint8_t)(s->busy_us >> 16);
+    p[7] = (uint8_t)(s->busy_us >> 24);
+}
+
+/* False unless p holds the packing of a valid state. */
+static bool unpack(struct state *s, const uint8_t *p, size_t len, const struct record *r)
+{
+    if (len != STATE || (p[0] & 0x70) != 0 || p[1] > 1 || p[2] != 0 || p[3] != 0)
+        return false;
+    s->srwd = p[0] >> 7;
+    s->bp = p[0] >> 2 & 3;
+    s->wel = p[0] >> 1 & 1;
+    s->asleep = p[1];
+    s->busy_us = (uint32_t)p[4] | (uint32_t)p[5] << 8 | (uint32_t)p[6] << 16 | (uint32_t)p[7] << 24;
+    if ((p[0] & 1) != (s->busy_us > 0))
+        return false;
+    if (s->busy_us == 0)
+        return true;
+    return s->busy_us <= longest(r) && s->wel && !s->asleep;
+}
+
+/* The 24-bit address, high byte first, modulo the array length (a power of two). */
+static uint32_t address(const uint8_t *frame, uint32_t size)
+{
+    return ((uint32_t)frame[1] << 16 | (uint32_t)frame[2] << 8 | frame[3]) & (size - 1);
+}
+
+/* 01, Commands: 13 for an unknown one, 14 for a length or tail it doesn't allow, else 0. */
+static uint32_t form_refusal(uint8_t command, size_t len, uint32_t tail)
+{
+    bool ok;
+
+    switch (command) {
+    case WRITE_ENABLE: case WRITE_DISABLE: case SLEEP: case CHIP_ERASE_60: case CHIP_ERASE_C7:
+        ok = len == 1 && tail == 0;
+        break;
+    case READ_STATUS: case READ_ID:
+        ok = true;
+        break;
+    case WRITE_STATUS:
+        ok = len == 2 && tail == 0;
+        break;
+    case READ: case READ_MAKER:
+        ok = len >= 4;
+        break;
+    case FAST_READ:
+        ok = len >= 5;
+        break;
+    case SECTOR_ERASE: case BLOCK_ERASE_52: case BLOCK_ERASE_D8:
+        ok = len == 4 && tail == 0;
+        break;
+    case PROGRAM:
+        ok = len >= 5 && tail == 0;
+        break;
+    case WAKE:
+        ok = (len == 1 && tail == 0) || len >= 5;
+        break;
+    default:
+        return 13;
+    }
+    return ok ? 0 : 14;
+}
+
+/* 15, 16 and 17: only for the seven commands that need WEL. */
+static uint32_t write_refusal(const struct chip *chip, const struct state *s,
+                              const uint8_t *frame, uint32_t wp)
+{
+    switch (frame[0]) {
+    case WRITE_STATUS:
+        if (!s->wel)
+            return 15;
+        return s->srwd && wp == 0 ? 16 : 0;
+    case PROGRAM: case SECTOR_ERASE: case BLOCK_ERASE_52: case BLOCK_ERASE_D8:
+        if (!s->wel)
+            return 15;
+        return address(frame, chip->size) >= chip->locked[s->bp] ? 17 : 0;
+    case CHIP_ERASE_60: case CHIP_ERASE_C7:
+        if (!s->wel)
+            return 15;
+        return s->bp != 0 ? 17 : 0;
+    default:
+        return 0;
+    }
+}
+
+/* 01, Numbers returned, from 10 on. */
+static uint32_t frame_refusal(const struct chip *chip, const struct state *s, const uint8_t *frame,
+                              size_t len, uint32_t tail, uint32_t wp)
+{
+    uint32_t number;
+
+    if (len == 0)
+        return 10;
+    if (s->busy_us > 0 && frame[0] != READ_STATUS)
+        return 11;
+    if (s->asleep && frame[0] != WAKE)
+        return 12;
+    number = form_refusal(frame[0], len, tail);
+    if (number != 0)
+        return number;
+    return write_refusal(chip, s, frame, wp);
+}
+
+/* The address rises by one, from the last to 0. */
+static void read_cells(const uint8_t *array, uint32_t size, uint32_t at, uint8_t *out, size_t n)
+{
+    while (n > 0) {
+        size_t run = size - at;
+
+        if (run > n)
+            run = n;
+        memcpy(out, array + at, run);
+        out += run;
+        n -= run;
+        at = 0;
+    }
+}
+
+/*
+ * Byte i goes to offset (a + i) mod 256, the last one counts: of n bytes only the last
+ * 256 can, and no two of those share an offset. New cell = old AND data.
+ */
+static void program_page(uint8_t *page, uint32_t a, const uint8_t *sent, size_t n)
+{
+    size_t i;
+
+    for (i = n > PAGE ? n - PAGE : 0; i < n; i++)
+        page[(a + i) % PAGE] &= sent[i];
+}
+
+static void erase_unit(uint8_t *array, uint32_t at, uint32_t unit)
+{
+    memset(array + at / unit * unit, 0xFF, unit);
+}
+
+static void drive_id(const uint8_t id[3], uint8_t *out, size_t n)
+{
+    size_t i;
+    unsigned turn = 0;
+
+    for (i = 0; i < n; i++) {
+        out[i] = id[turn];
+        turn = turn == 2 ? 0 : turn + 1;
+    }
+}
+
+/* The maker and the signature by turns; an odd fourth byte puts the signature first. */
+static void drive_maker(uint8_t signature, unsigned fourth, uint8_t *out, size_t n)
+{
+    size_t i;
+
+    for (i = 0; i < n; i++)
+        out[i] = (fourth + i) % 2 == 0 ? MAKER : signature;
+}
+
+/* Positions from first on are driven, if there are such; first 0: none is. */
+static void driven(size_t first, size_t len, uint32_t *from, uint32_t *count)
+{
+    if (first > 0 && len > first) {
+        *from = (uint32_t)first;
+        *count = (uint32_t)(len - first);
+    }
+}
+
+/* The commands that drive bytes out; the first driven position, 0 for the other commands. */
+static size_t answer(const struct chip *chip, const struct state *s, const uint8_t *array,
+                     const uint8_t *frame, size_t len, uint8_t *out)
+{
+    switch (frame[0]) {
+    case READ_STATUS:
+        memset(out + 1, status_byte(s), len - 1);
+        return 1;
+    case READ_ID:
+        drive_id(chip->id, out + 1, len - 1);
+        return 1;
+    case READ:
+        read_cells(array, chip->size, address(frame, chip->size), out + 4, len - 4);
+        return 4;
+    case FAST_READ:
+        read_cells(array, chip->size, address(frame, chip->size), out + 5, len - 5);
+        return 5;
+    case READ_MAKER:
+        drive_maker(chip->signature, frame[3], out + 4, len - 4);
+        return 4;
+    case WAKE:
+        if (len < 5)
+            return 0;
+        memset(out + 4, chip->signature, len - 4); /* repeats: 000 L369, 002 L498 */
+        return 4;
+    default:
+        return 0;
+    }
+}
+
+/* The commands that change the state or the array. */
+static void carry_out(const struct chip *chip, const struct record *r, struct state *s,
+                      uint8_t *array, const uint8_t *frame, size_t len)
+{
+    switch (frame[0]) {
+    case WRITE_ENABLE:
+        s->wel = 1;
+        break;
+    case WRITE_DISABLE:
+        s->wel = 0;
+        break;
+    case SLEEP:
+        s->asleep = 1;
+        break;
+    case WAKE:
+        s->asleep = 0;
+        break;
+    case WRITE_STATUS:
+        s->srwd = frame[1] >> 7;
+        s->bp = frame[1] >> 2 & 3;
+        s->busy_us = r->status_us;
+        break;
+    case PROGRAM: {
+        uint32_t at = address(frame, chip->size);
+
+        program_page(array + at / PAGE * PAGE, at % PAGE, frame + 4, len - 4);
+        s->busy_us = r->page_us;
+        break;
+    }
+    case SECTOR_ERASE:
+        erase_unit(array, address(frame, chip->size), SECTOR);
+        s->busy_us = r->sector_us;
+        break;
+    case BLOCK_ERASE_52: case BLOCK_ERASE_D8:
+        erase_unit(array, address(frame, chip->size), BLOCK);
+        s->busy_us = r->block_us;
+        break;
+    case CHIP_ERASE_60: case CHIP_ERASE_C7:
+        memset(array, 0xFF, chip->size);
+        s->busy_us = r->chip_us;
+        break;
+    }
+}
+
+uint32_t ref_frame(uint32_t model, uint32_t status_us, uint32_t page_us,
+                   uint32_t sector_us, uint32_t block_us, uint32_t chip_us,
+                   uint8_t *state, size_t state_len, uint8_t *array, size_t array_len,
+                   const uint8_t *frame, size_t frame_len, uint32_t tail, uint32_t wp,
+                   uint8_t *out, size_t out_len, uint32_t *from, uint32_t *count)
+{
+    const struct record r = {model, status_us, page_us, sector_us, block_us, chip_us};
+    const struct chip *chip;
+    struct state s;
+    uint32_t number;
+    size_t first;
+
+    *from = 0;
+    *count = 0;
+    if (!record_ok(&r))
+        return 1;
+    chip = &chips[model - 1];
+    if (array_len != chip->size)
+        return 2;
+    if (!unpack(&s, state, state_len, &r))
+        return 3;
+    if (frame_len > FRAME_LIMIT || tail > 7)
+        return 4;
+    if (out_len < frame_len)
+        return 5;
+    number = frame_refusal(chip, &s, frame, frame_len, tail, wp);
+    if (number != 0)
+        return number;
+    first = answer(chip, &s, array, frame, frame_len, out);
+    driven(first, frame_len, from, count);
+    carry_out(chip, &r, &s, array, frame, frame_len);
+    pack(&s, state);
+    return 0;
+}
+
+/* The busy time falls, never below 0; when it comes to 0, WEL clears. */
+uint32_t ref_wait(uint32_t model, uint32_t status_us, uint32_t page_us,
+                  uint32_t sector_us, uint32_t block_us, uint32_t chip_us,
+                  uint8_t *state, size_t state_len, uint32_t us)
+{
+    const struct record r = {model, status_us, page_us, sector_us, block_us, chip_us};
+    struct state s;
+
+    if (!record_ok(&r))
+        return 1;
+    if (!unpack(&s, state, state_len, &r))
+        return 3;
+    if (us < s.busy_us) {
+        s.busy_us -= us;
+    } else if (s.busy_us > 0) {
+        s.busy_us = 0;
+        s.wel = 0;
+    }
+    pack(&s, state);
+    return 0;
+}
+
+/* SRWD and BP stay, the rest becomes 0. */
+uint32_t ref_power_cycle(uint32_t model, uint32_t status_us, uint32_t page_us,
+                         uint32_t sector_us, uint32_t block_us, uint32_t chip_us,
+                         uint8_t *state, size_t state_len)
+{
+    const struct record r = {model, status_us, page_us, sector_us, block_us, chip_us};
+    struct state s;
+
+    if (!record_ok(&r))
+        return 1;
+    if (!unpack(&s, state, state_len, &r))
+        return 3;
+    s.wel = 0;
+    s.asleep = 0;
+    s.busy_us = 0;
+    pack(&s, state);
+    return 0;
+}

@@ -1,0 +1,127 @@
+#!/bin/sh
+# All host tests, against the archive.
+#   host/test.sh [ARCHIVE]
+# ARCHIVE, or GWO_ARCHIVE, is the static library (target/staticlib/libpod.a if neither is given); the word
+# `model` takes the independent model in its place, to try the tests themselves. GWO_BUILD is where everything is
+# built (target/host). GWO_RUNNER is the script runner, a program or a command that starts it; without it
+# the runner is not compared. GWO_CALLS and GWO_SEED set the random comparison, GWO_LINES the length of the scripts.
+set -eu
+
+here=$(cd "$(dirname "$0")" && pwd)
+root=$(dirname "$here")
+host=$root/tools/host.sh
+GWO_BUILD=${GWO_BUILD:-$root/target/host}
+export GWO_BUILD
+archive=${1:-${GWO_ARCHIVE:-$root/target/staticlib/libpod.a}}
+if [ "$("$host" machine)" = native ]; then calls=1000000 lines=200000; else calls=100000 lines=20000; fi
+calls=${GWO_CALLS:-$calls}
+lines=${GWO_LINES:-$lines}
+obj=$GWO_BUILD/obj
+bin=$GWO_BUILD/bin
+flags="-O2 -Wall -Wextra -Wpedantic -I$here/include -I$here/model -I$here/test"
+passed=0
+failed=0
+finished=no
+# What does not compile or link is a failure as well.
+trap '[ $finished = yes ] || echo "$passed passed, $((failed + 1)) failed"' EXIT
+if [ "$archive" != model ] && [ ! -f "$archive" ]; then
+    echo "host/test.sh: there is no archive at $archive" >&2
+    exit 1
+fi
+rm -rf "$obj" "$bin"
+mkdir -p "$obj" "$bin"
+
+# check NAME COMMAND..: runs it; its last line stands for it, or all of it when it fails. (The shell does
+# not stop at an error inside: what a function here does is joined by &&.)
+check() {
+    name=$1
+    shift
+    if "$@" >"$GWO_BUILD/$name.out" 2>&1; then
+        passed=$((passed + 1))
+        echo "passed  $(tail -n 1 "$GWO_BUILD/$name.out")"
+    else
+        failed=$((failed + 1))
+        echo "FAILED  $name:"
+        head -n 40 "$GWO_BUILD/$name.out"
+    fi
+}
+
+compile() {
+    for source in "$here"/model/model.c "$here"/test/*.c "$here"/example/firmware.c; do
+        "$host" cc -std=c99 $flags -c "$source" -o "$obj/$(basename "$source" .c).o"
+    done
+}
+
+# The independent model under the archive's names.
+stand_in() {
+    echo "the independent model stands in for the archive: this tries the tests only"
+    archive=$obj/stand_in.o
+    "$host" cc -std=c99 $flags -Dref_frame=gwo_frame -Dref_wait=gwo_wait -Dref_power_cycle=gwo_power_cycle \
+        -c "$here/model/model.c" -o "$archive"
+}
+
+link() {
+    "$host" cc "$obj"/rules*.o "$obj/jig.o" "$obj/rig.o" "$archive" "$obj/model.o" -o "$bin/rules"
+    for program in compare twelve; do
+        "$host" cc "$obj/$program"*.o "$obj/rig.o" "$archive" "$obj/model.o" -o "$bin/$program"
+    done
+    "$host" cc "$obj/firmware.o" "$archive" "$obj/model.o" -o "$bin/example"
+    "$host" cc "$obj"/scripts*.o "$obj/rig.o" "$obj/model.o" -o "$bin/scripts"
+}
+
+# header LANGUAGE STANDARD: without a warning, and it links with the archive and runs.
+header() {
+    case $1 in c) compiler=cc ;; c++) compiler=cxx ;; esac
+    "$host" $compiler -x "$1" -std="$2" -Wall -Wextra -Wpedantic -Werror -I"$here/include" \
+        -c "$here/test/header.c" -o "$obj/header_$2.o" &&
+        "$host" $compiler "$obj/header_$2.o" "$archive" "$obj/model.o" -o "$bin/header_$2" &&
+        "$host" run "$bin/header_$2" "header as $2"
+}
+
+example() {
+    "$host" run "$bin/example" >"$GWO_BUILD/example.got" &&
+        diff "$here/example/output.txt" "$GWO_BUILD/example.got" &&
+        echo "example: the first record of last spring's table is overwritten, the mended one is whole"
+}
+
+# 01's script gives 01's log: this tries the program that the runner is compared with.
+sample() {
+    "$host" run "$bin/scripts" expect <"$here/test/sample.script" >"$GWO_BUILD/sample.got" &&
+        diff "$here/test/sample.log" "$GWO_BUILD/sample.got" &&
+        echo "scripts: the model's log of 01's script is 01's log"
+}
+
+faults() {
+    "$here/faults/run.sh" >"$GWO_BUILD/faults.out" 2>&1 || true
+    sed '$d' "$GWO_BUILD/faults.out"
+    counts=$(tail -n 1 "$GWO_BUILD/faults.out")
+    case $counts in
+    *" passed, "*" failed")
+        passed=$((passed + ${counts%% *}))
+        counts=${counts#*, }
+        failed=$((failed + ${counts%% *})) ;;
+    *)
+        echo "FAILED  faults: the run broke off: $counts"
+        failed=$((failed + 1)) ;;
+    esac
+}
+
+compile
+[ "$archive" != model ] || stand_in
+link
+for standard in c99 c11; do check "header-$standard" header c $standard; done
+for standard in c++98 c++17; do check "header-$standard" header c++ $standard; done
+check example example
+check rules "$host" run "$bin/rules"
+check compare "$host" run "$bin/compare" "$calls" ${GWO_SEED:-}
+check twelve "$host" run "$bin/twelve"
+check sample sample
+if [ -n "${GWO_RUNNER:-}" ]; then
+    check runner "$here/test/runner.sh" "$bin/scripts" "$lines" 1 2
+else
+    echo "NOT RUN runner: GWO_RUNNER does not say where the script runner is"
+fi
+faults
+finished=yes
+echo "$passed passed, $failed failed"
+[ $failed -eq 0 ]

@@ -1,0 +1,196 @@
+/*
+ * Random calls to the archive and to the independent model, side by side: the answer,
+ * state, array, output and frame must agree after every one. Arguments: how many calls
+ * (1,000,000), and the seed. It stops at the first difference.
+ */
+#include "compare.h"
+#include "model.h"
+
+#include <stdio.h>
+#include <stdlib.h>
+#include <string.h>
+
+struct side ours, model;
+
+/* How often each number was answered, and each command accepted. */
+static unsigned long answered[32], accepted[256];
+
+static void show(const struct call *c, const uint8_t *state, const char *what)
+{
+    static const char *const kinds[] = {"frame", "wait", "power cycle"};
+    const struct gwo_record *r = &c->record;
+    const uint8_t *frame = last_of(&model.frame, c->frame_len);
+    size_t i;
+
+    fail("call %lu: %s differs", rig_calls, what);
+    printf("  %s, record %lu %lu %lu %lu %lu %lu, state of %lu:", kinds[c->kind], (unsigned long)r->model,
+           (unsigned long)r->status_us, (unsigned long)r->page_us, (unsigned long)r->sector_us,
+           (unsigned long)r->block_us, (unsigned long)r->chip_us, (unsigned long)c->state_len);
+    for (i = 0; i < c->state_len && i < 16; i++)
+        printf(" %02X", state[i]);
+    if (c->kind == WAIT)
+        printf(", %lu us", (unsigned long)c->us);
+    printf("\n");
+    if (c->kind != FRAME)
+        return;
+    printf("  array of %lu, tail %lu, WP# %lu, output of %lu, frame of %lu:", (unsigned long)c->array_len,
+           (unsigned long)c->tail, (unsigned long)c->wp, (unsigned long)c->out_len, (unsigned long)c->frame_len);
+    for (i = 0; i < c->frame_len && i < 24; i++)
+        printf(" %02X", frame[i]);
+    printf("\n");
+}
+
+/* The last n bytes of both, with a margin before them. */
+static int same(const struct lent *a, const struct lent *b, size_t n)
+{
+    return agree(last_of(a, n + MARGIN), last_of(b, n + MARGIN), n + MARGIN);
+}
+
+/* What differs after the call, or null. */
+static const char *difference(const struct call *c)
+{
+    if (!same(&ours.state, &model.state, c->state_len))
+        return "the state";
+    if (c->kind != FRAME)
+        return NULL;
+    if (!same(&ours.numbers, &model.numbers, 8))
+        return "the first driven position or the count";
+    if (!same(&ours.out, &model.out, c->out_len))
+        return "the output";
+    if (!same(&ours.frame, &model.frame, c->frame_len))
+        return "the frame";
+    if (!agree(last_of(&ours.array, c->array_len), last_of(&model.array, c->array_len), c->array_len))
+        return "the array";
+    return NULL;
+}
+
+/* All that could ever be lent as an array, also what this call was not given. */
+static int same_everywhere(void)
+{
+    if (agree(ours.array.start, model.array.start, ARRAY_ROOM))
+        return 1;
+    fail("call %lu: cells outside the lent array differ", rig_calls);
+    return 0;
+}
+
+typedef uint32_t frame_call(uint32_t, uint32_t, uint32_t, uint32_t, uint32_t, uint32_t, uint8_t *, size_t,
+                            uint8_t *, size_t, const uint8_t *, size_t, uint32_t, uint32_t, uint8_t *, size_t,
+                            uint32_t *, uint32_t *);
+
+static uint32_t frame_on(frame_call *f, const struct side *s, const struct call *c)
+{
+    const struct gwo_record *r = &c->record;
+    uint32_t *numbers = (uint32_t *)(void *)last_of(&s->numbers, 8);
+
+    numbers[0] = numbers[1] = 0xA5A5A5A5;
+    return f(r->model, r->status_us, r->page_us, r->sector_us, r->block_us, r->chip_us,
+             last_of(&s->state, c->state_len), c->state_len, last_of(&s->array, c->array_len), c->array_len,
+             last_of(&s->frame, c->frame_len), c->frame_len, c->tail, c->wp,
+             last_of(&s->out, c->out_len), c->out_len, &numbers[0], &numbers[1]);
+}
+
+static uint32_t ours_gives(const struct call *c)
+{
+    uint8_t *state = last_of(&ours.state, c->state_len);
+
+    switch (c->kind) {
+    case FRAME: return frame_on(gwo_frame, &ours, c);
+    case WAIT: return gwo_record_wait(&c->record, state, c->state_len, c->us);
+    default: return gwo_record_power_cycle(&c->record, state, c->state_len);
+    }
+}
+
+static uint32_t model_gives(const struct call *c)
+{
+    const struct gwo_record *r = &c->record;
+    uint8_t *state = last_of(&model.state, c->state_len);
+
+    switch (c->kind) {
+    case FRAME:
+        return frame_on(ref_frame, &model, c);
+    case WAIT:
+        return ref_wait(r->model, r->status_us, r->page_us, r->sector_us, r->block_us, r->chip_us, state,
+                        c->state_len, c->us);
+    default:
+        return ref_power_cycle(r->model, r->status_us, r->page_us, r->sector_us, r->block_us, r->chip_us, state,
+                               c->state_len);
+    }
+}
+
+/* One call on both; false when they differ. */
+static int one_call(void)
+{
+    struct call c;
+    uint8_t state[STATE_ROOM];
+    uint32_t wanted, got;
+    const char *what;
+
+    choose(&c);
+    memcpy(state, last_of(&model.state, c.state_len), c.state_len);
+    rig_calls++;
+    wanted = model_gives(&c);
+    got = ours_gives(&c);
+    if (got != wanted) {
+        show(&c, state, "the answer");
+        printf("  answered %lu, the model says %lu\n", (unsigned long)got, (unsigned long)wanted);
+        return 0;
+    }
+    answered[wanted % 32]++;
+    if (wanted == 0 && c.kind == FRAME)
+        accepted[*last_of(&model.frame, c.frame_len)]++;
+    what = difference(&c);
+    if (what != NULL)
+        show(&c, state, what);
+    return what == NULL && (rig_calls % 64 != 0 || same_everywhere());
+}
+
+static void lend_side(struct side *s)
+{
+    s->state = lend(STATE_ROOM + MARGIN);
+    s->array = lend(ARRAY_ROOM);
+    s->frame = lend(FRAME_ROOM + MARGIN);
+    s->out = lend(OUT_ROOM + MARGIN);
+    s->numbers = lend(8 + MARGIN);
+}
+
+/* A long run has to have met every number and accepted every command, or it tested too little. */
+static void check_variety(void)
+{
+    static const uint8_t numbers[] = {0, 1, 2, 3, 4, 5, 10, 11, 12, 13, 14, 15, 16, 17};
+    static const uint8_t commands[] = {0x01, 0x02, 0x03, 0x04, 0x05, 0x06, 0x0B, 0x20,
+                                       0x52, 0x60, 0x90, 0x9F, 0xAB, 0xB9, 0xC7, 0xD8};
+    size_t i;
+
+    printf("  answers:");
+    for (i = 0; i < sizeof numbers; i++) {
+        printf(" %u:%lu", numbers[i], answered[numbers[i]]);
+        if (answered[numbers[i]] == 0)
+            fail("number %u was never answered", numbers[i]);
+    }
+    printf("\n  accepted:");
+    for (i = 0; i < sizeof commands; i++) {
+        printf(" %02X:%lu", commands[i], accepted[commands[i]]);
+        if (accepted[commands[i]] == 0)
+            fail("command %02X was never accepted", commands[i]);
+    }
+    printf("\n");
+}
+
+int main(int argc, char **argv)
+{
+    static char name[40];
+    unsigned long calls = argc > 1 ? strtoul(argv[1], NULL, 10) : 1000000;
+    uint64_t seed = argc > 2 ? strtoull(argv[2], NULL, 10) : 20250611;
+
+    choose_from(seed);
+    snprintf(name, sizeof name, "compare, seed %llu", (unsigned long long)seed);
+    rig_begin(name);
+    lend_side(&ours);
+    lend_side(&model);
+    fill_cells(0, ARRAY_ROOM);
+    while (rig_calls < calls && one_call())
+        continue;
+    if (failures() == 0 && same_everywhere() && calls >= 50000)
+        check_variety();
+    return rig_end();
+}

@@ -1,0 +1,73 @@
+/* The header as C and as C++: included twice, every inline used once through the archive. */
+#include "gwo.h"
+#include "gwo.h"
+
+#include <stdio.h>
+#include <string.h>
+
+static int failed;
+static const char *program = "header";
+
+static void check(int ok, const char *what)
+{
+    if (ok)
+        return;
+    printf("%s: FAIL: %s\n", program, what);
+    failed = 1;
+}
+
+/* Each number has a text of its own; any other has the one for no number. */
+static void texts(void)
+{
+    static const uint32_t numbers[] = {0, 1, 2, 3, 4, 5, 10, 11, 12, 13, 14, 15, 16, 17, 20, 6};
+    const size_t n = sizeof numbers / sizeof numbers[0];
+    size_t i, k;
+
+    for (i = 0; i < n; i++) {
+        check(strlen(gwo_text(numbers[i])) > 0, "a number without a text");
+        for (k = 0; k < i; k++)
+            check(strcmp(gwo_text(numbers[i]), gwo_text(numbers[k])) != 0, "two numbers with one text");
+    }
+    check(strcmp(gwo_text(6), gwo_text(0xFFFFFFFFu)) == 0, "two texts for no number");
+}
+
+static void lengths(void)
+{
+    check(gwo_array_length(1) == 65536 && gwo_array_length(2) == 262144, "array lengths");
+    check(gwo_array_length(0) == 0 && gwo_array_length(3) == 0, "array lengths of no model");
+}
+
+/* 06, 01 00, a wait and a power cycle under each bench record: the calls are taken, the state is packed as said. */
+static void calls(const struct gwo_record *r, uint8_t busy_low, uint8_t busy_high)
+{
+    static uint8_t array[GWO_MODEL_2_LENGTH];
+    static const uint8_t write_enable[] = {0x06}, write_status[] = {0x01, 0x00};
+    const uint8_t zero[GWO_STATE_LENGTH] = {0, 0, 0, 0, 0, 0, 0, 0};
+    const uint8_t busy[GWO_STATE_LENGTH] = {3, 0, 0, 0, busy_low, busy_high, 0, 0};
+    uint8_t state[GWO_STATE_LENGTH] = {0, 0, 0, 0, 0, 0, 0, 0}, out[2];
+    uint32_t from, count;
+
+    check(gwo_record_frame(r, state, sizeof state, array, gwo_array_length(r->model), write_enable, 1, 0, 1, out, 1,
+                           &from, &count) == GWO_DONE, "06");
+    check(gwo_record_frame(r, state, sizeof state, array, gwo_array_length(r->model), write_status, 2, 0, 1, out, 2,
+                           &from, &count) == GWO_DONE, "01 00");
+    check(memcmp(state, busy, sizeof state) == 0, "the state after 01 00");
+    check(gwo_record_frame(r, state, sizeof state, array, gwo_array_length(r->model), write_enable, 1, 0, 1, out, 1,
+                           &from, &count) == GWO_BUSY, "06 while busy");
+    check(gwo_record_wait(r, state, sizeof state, r->status_us) == GWO_DONE, "wait");
+    check(memcmp(state, zero, sizeof state) == 0, "the state after the wait");
+    check(gwo_record_power_cycle(r, state, sizeof state - 1) == GWO_BAD_STATE, "power cycle with a short state");
+    check(gwo_record_power_cycle(r, state, sizeof state) == GWO_DONE, "power cycle");
+}
+
+int main(int argc, char **argv)
+{
+    if (argc > 1)
+        program = argv[1];
+    texts();
+    lengths();
+    calls(&gwo_bench_model_1, 15000 & 255, 15000 >> 8);
+    calls(&gwo_bench_model_2, 40000 & 255, 40000 >> 8);
+    printf("%s: %s\n", program, failed ? "failed" : "compiles without a warning, links and runs");
+    return failed;
+}

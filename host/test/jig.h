@@ -1,0 +1,92 @@
+/*
+ * One call at a time: what is given, what 01 wants of it, and the comparison of
+ * everything that was lent. A test begins with jig_model. What it does not say stays:
+ * the default is a call that changes nothing and drives nothing.
+ */
+#ifndef JIG_H
+#define JIG_H
+
+#include "gwo.h"
+#include "rig.h"
+
+/* A label in printf's form, good until the next one. */
+#if defined(__GNUC__)
+__attribute__((format(printf, 1, 2)))
+#endif
+const char *named(const char *form, ...);
+
+enum { SECTOR = 4096, BLOCK = 65536, PAGE = 256, LONGEST_FRAME = 65541 };
+enum { FRAME_ROOM = 65600, OUT_ROOM = 65664, STATE_ROOM = 280 };
+
+/* 01's state, as fields. */
+struct condition {
+    unsigned srwd, bp, wel, asleep;
+    uint32_t busy_us;
+};
+
+/* All zero; and the same with WEL 1. */
+extern const struct condition power_on, enabled;
+
+/* What the next call is given. */
+struct given {
+    struct gwo_record record;
+    uint8_t state[STATE_ROOM];
+    size_t state_len;
+    size_t array_len;
+    uint8_t frame[FRAME_ROOM];
+    size_t frame_len;
+    uint32_t tail, wp;
+    size_t out_len;
+};
+extern struct given given;
+
+/* The bench record of a model, and its array length. */
+struct gwo_record bench(uint32_t model);
+uint32_t size_of(uint32_t model);
+
+/* The content of a cell before a call. */
+uint8_t cell(uint32_t address);
+
+/* A fresh call: bench record, power-on state, every cell as above, an empty frame, WP# high. */
+void jig_model(uint32_t model);
+
+/* The next call of the same chip: state and cells as the last one left them, an empty frame. */
+void jig_next(void);
+
+/* The longest of the given record's times. */
+uint32_t longest_us(void);
+
+void jig_state(struct condition c);
+
+/* The same by bytes, valid or not; n is at most STATE_ROOM. */
+void jig_packed(const uint8_t *bytes, size_t n);
+
+/* The frame, by capital hex digits; the output gets its length. */
+void jig_frame(const char *hex);
+
+/* A frame of a command byte, a 24-bit address and n bytes of value fill after them. */
+void jig_addressed(uint8_t command, uint32_t address, size_t n, uint8_t fill);
+
+/* A frame of n bytes: the command, the others fill. */
+void jig_filled(uint8_t command, size_t n, uint8_t fill);
+
+/* Sets n cells before the call, in what is given and in what is wanted alike. */
+void jig_cells(uint32_t at, uint32_t n, uint8_t value);
+
+/* What is wanted, where it differs from a call that changes nothing. */
+void want_state(struct condition c);
+void want_hex(uint32_t from, const char *hex);
+void want_cells(uint32_t at, uint32_t n, uint8_t value);
+
+/* Driven from a position to the frame's end: the bytes given, repeated. */
+void want_repeated(uint32_t from, const char *hex);
+
+/* Driven from a position to the frame's end: the cells from an address on, rising, from the last to 0. */
+void want_cells_driven(uint32_t from, uint32_t address);
+
+/* Make the call, and compare the answer and every lent byte. */
+void frame_gives(uint32_t number, const char *label);
+void wait_gives(uint32_t us, uint32_t number, const char *label);
+void power_cycle_gives(uint32_t number, const char *label);
+
+#endif

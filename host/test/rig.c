@@ -1,0 +1,145 @@
+#define _DEFAULT_SOURCE
+#include "rig.h"
+
+#include <signal.h>
+#include <stdarg.h>
+#include <stdio.h>
+#include <stdlib.h>
+#include <string.h>
+#include <sys/mman.h>
+#include <unistd.h>
+
+/* No machine in use has larger pages; an emulator protects by the host's. */
+enum { STRETCH = 65536 };
+
+unsigned long rig_calls;
+
+static const char *program = "?";
+static unsigned long failed;
+static int stop_at_first;
+
+struct lent lend(size_t room)
+{
+    size_t size = (room + STRETCH - 1) / STRETCH * STRETCH;
+    uint8_t *base = mmap(NULL, size + 3 * STRETCH, PROT_NONE, MAP_PRIVATE | MAP_ANONYMOUS, -1, 0);
+    struct lent l;
+
+    if (base == MAP_FAILED) {
+        printf("%s: no memory for a lent buffer\n", program);
+        exit(1);
+    }
+    l.start = (uint8_t *)(((uintptr_t)base + 2 * STRETCH - 1) / STRETCH * STRETCH);
+    l.end = l.start + size;
+    if (mprotect(l.start, size, PROT_READ | PROT_WRITE) != 0) {
+        printf("%s: a lent buffer can't be mapped\n", program);
+        exit(1);
+    }
+    return l;
+}
+
+static uint64_t word(const uint8_t *p)
+{
+    uint64_t w;
+
+    memcpy(&w, p, 8);
+    return w;
+}
+
+int agree(const uint8_t *a, const uint8_t *b, size_t n)
+{
+    uint64_t differ = 0;
+    size_t i;
+
+    for (i = 0; i + 32 <= n; i += 32)
+        differ |= (word(a + i) ^ word(b + i)) | (word(a + i + 8) ^ word(b + i + 8)) |
+                  (word(a + i + 16) ^ word(b + i + 16)) | (word(a + i + 24) ^ word(b + i + 24));
+    return differ == 0 && memcmp(a + i, b + i, n - i) == 0;
+}
+
+static void touched(int signal_number)
+{
+    char text[160];
+    int n = snprintf(text, sizeof text,
+                     "%s: FAIL: call %lu touched memory that was not lent to it (signal %d)\n",
+                     program, rig_calls, signal_number);
+
+    if (write(STDOUT_FILENO, text, (size_t)n) != n)
+        _exit(2);
+    _exit(1);
+}
+
+void rig_begin(const char *name)
+{
+    struct sigaction action;
+
+    program = name;
+    memset(&action, 0, sizeof action);
+    action.sa_handler = touched;
+    sigaction(SIGSEGV, &action, NULL);
+    sigaction(SIGBUS, &action, NULL);
+    setvbuf(stdout, NULL, _IONBF, 0);
+}
+
+void rig_stop_at_first(void)
+{
+    stop_at_first = 1;
+}
+
+void fail(const char *form, ...)
+{
+    va_list rest;
+
+    failed++;
+    if (failed > 10)
+        return;
+    printf("%s: FAIL: ", program);
+    va_start(rest, form);
+    vprintf(form, rest);
+    va_end(rest);
+    printf("%s\n", failed == 10 ? " (further ones are counted only)" : "");
+    if (stop_at_first)
+        exit(rig_end());
+}
+
+unsigned long failures(void)
+{
+    return failed;
+}
+
+int rig_end(void)
+{
+    printf("%s: %lu calls, %lu failures\n", program, rig_calls, failed);
+    return failed == 0 ? 0 : 1;
+}
+
+uint64_t roll(struct dice *d)
+{
+    uint64_t z = d->at += UINT64_C(0x9E3779B97F4A7C15);
+
+    z = (z ^ z >> 30) * UINT64_C(0xBF58476D1CE4E5B9);
+    z = (z ^ z >> 27) * UINT64_C(0x94D049BB133111EB);
+    return z ^ z >> 31;
+}
+
+uint32_t below(struct dice *d, uint32_t n)
+{
+    return (uint32_t)((roll(d) >> 32) * n >> 32);
+}
+
+unsigned chance(struct dice *d, unsigned percent)
+{
+    return below(d, 100) < percent;
+}
+
+void scatter(struct dice *d, uint8_t *bytes, size_t n)
+{
+    size_t i;
+
+    for (i = 0; i + 8 <= n; i += 8) {
+        uint64_t word = roll(d);
+
+        memcpy(bytes + i, &word, 8);
+    }
+    for (; i < n; i++)
+        bytes[i] = (uint8_t)(roll(d) >> 56);
+}

@@ -1,0 +1,63 @@
+/* What the test programs share: lent buffers, a count of failures, random numbers. */
+#ifndef RIG_H
+#define RIG_H
+
+#include <stddef.h>
+#include <stdint.h>
+
+/* Bytes that lie between two unmapped stretches: to touch one outside is a fault. */
+struct lent {
+    uint8_t *start, *end;
+};
+
+/* At least room bytes; .end is the first unmapped one. */
+struct lent lend(size_t room);
+
+/* The last n bytes, so that they end at the unmapped stretch. */
+static inline uint8_t *last_of(const struct lent *l, size_t n)
+{
+    return l->end - n;
+}
+
+/* True when n bytes agree: by words, which an emulator does faster than memcmp. */
+int agree(const uint8_t *a, const uint8_t *b, size_t n);
+
+/*
+ * Begins a test program. A touch of unmapped memory is from now on a failure
+ * of its own: the program says so with the calls made so far, and ends with status 1.
+ */
+void rig_begin(const char *name);
+
+/* From now on the first failure ends the program. */
+void rig_stop_at_first(void);
+
+/* Calls made so far; the programs count them up. */
+extern unsigned long rig_calls;
+
+/* One failure, in printf's form; the first ten are shown. */
+#if defined(__GNUC__)
+__attribute__((format(printf, 1, 2)))
+#endif
+void fail(const char *form, ...);
+
+unsigned long failures(void);
+
+/* Prints how it went; the exit status: 0 exactly when nothing failed. */
+int rig_end(void);
+
+/* Random numbers (splitmix64), the same for the same seed on every machine. */
+struct dice {
+    uint64_t at;
+};
+
+uint64_t roll(struct dice *d);
+
+/* 0 to n - 1; n is not 0. */
+uint32_t below(struct dice *d, uint32_t n);
+
+/* 1 in percent of the cases, else 0. */
+unsigned chance(struct dice *d, unsigned percent);
+
+void scatter(struct dice *d, uint8_t *bytes, size_t n);
+
+#endif

@@ -1,0 +1,192 @@
+/* 01, Bench sheet: each of its cases, as it stands there. Model 1 unless said. */
+#include "jig.h"
+#include "rules.h"
+
+static struct condition state(unsigned srwd, unsigned bp, unsigned wel, unsigned asleep, uint32_t busy_us)
+{
+    struct condition c = {0, 0, 0, 0, 0};
+
+    c.srwd = srwd;
+    c.bp = bp;
+    c.wel = wel;
+    c.asleep = asleep;
+    c.busy_us = busy_us;
+    return c;
+}
+
+static void given_frame(uint32_t model, struct condition c, const char *frame)
+{
+    jig_model(model);
+    jig_state(c);
+    jig_frame(frame);
+}
+
+static void next_frame(const char *frame)
+{
+    jig_next();
+    jig_frame(frame);
+}
+
+static void power_on_status(void)
+{
+    given_frame(1, power_on, "0500");
+    want_hex(1, "00");
+    frame_gives(0, "power-on, 05 00 drives 00");
+}
+
+static void tails(void)
+{
+    given_frame(1, power_on, "06");
+    given.tail = 1;
+    frame_gives(14, "06 with tail 1");
+    given_frame(1, power_on, "");
+    given.tail = 7;
+    frame_gives(10, "empty, tail 7");
+}
+
+static void refused_programs_and_erases(void)
+{
+    given_frame(1, state(0, 1, 0, 0, 0), "0200000000");
+    frame_gives(15, "02 with WEL 0 and BP 1");
+    given_frame(1, state(0, 1, 1, 0, 0), "20000000");
+    frame_gives(17, "WEL 1, BP 1, 20 at 0: WEL still 1");
+    given_frame(2, state(0, 1, 1, 0, 0), "2002FFFF");
+    want_cells(0x2F000, SECTOR, 0xFF);
+    want_state(state(0, 1, 1, 0, bench(2).sector_us));
+    frame_gives(0, "model 2, WEL 1, BP 1: 20 at 02FFFF");
+    given_frame(2, state(0, 1, 1, 0, 0), "20030000");
+    frame_gives(17, "model 2, WEL 1, BP 1: 20 at 030000");
+}
+
+static void folding(void)
+{
+    jig_model(1);
+    jig_state(enabled);
+    jig_cells(0, PAGE, 0xFF);
+    jig_addressed(0x02, 0, 257, 0x22);
+    given.frame[4] = 0x11;
+    want_cells(0, PAGE, 0x22);
+    want_state(state(0, 0, 1, 0, 5000));
+    frame_gives(0, "fresh page, 257 data bytes at 0: all 256 hold 22");
+    given_frame(1, enabled, "020000003C");
+    jig_cells(0, 1, 0xF0);
+    want_cells(0, 1, 0x30);
+    want_state(state(0, 0, 1, 0, 5000));
+    frame_gives(0, "cell F0, data 3C: 30");
+}
+
+static void status_lock(void)
+{
+    given_frame(1, state(1, 0, 1, 0, 0), "0100");
+    given.wp = 0;
+    frame_gives(16, "SRWD 1, WEL 1, 01 00, WP# low");
+    given_frame(1, state(1, 0, 1, 0, 0), "0100");
+    want_state(state(0, 0, 1, 0, 15000));
+    frame_gives(0, "SRWD 1, WEL 1, 01 00, WP# high");
+}
+
+static void status_8F_then_8C(void)
+{
+    given_frame(1, enabled, "01FF");
+    want_state(state(1, 3, 1, 0, 15000));
+    frame_gives(0, "01 FF");
+    next_frame("0500");
+    want_hex(1, "8F");
+    frame_gives(0, "status after 01 FF");
+    jig_next();
+    want_state(state(1, 3, 0, 0, 0));
+    wait_gives(15000, 0, "the wait after 01 FF");
+    next_frame("0500");
+    want_hex(1, "8C");
+    frame_gives(0, "status after the wait");
+}
+
+static void sleeping(void)
+{
+    given_frame(1, state(0, 0, 0, 1, 0), "0500");
+    frame_gives(12, "deep power-down, 05 00");
+    given_frame(1, state(0, 0, 0, 1, 0), "AB00000000");
+    want_state(power_on);
+    want_hex(4, "05");
+    frame_gives(0, "deep power-down, AB and four bytes drives 05");
+}
+
+static void last_cell_then_first(void)
+{
+    given_frame(1, power_on, "0300FFFF0000");
+    jig_cells(0xFFFF, 1, 0xA5);
+    jig_cells(0, 1, 0x5A);
+    want_hex(4, "A55A");
+    frame_gives(0, "03 00FFFF and two bytes");
+}
+
+static void sector_erase_time(void)
+{
+    given_frame(1, enabled, "20000000");
+    want_cells(0, SECTOR, 0xFF);
+    want_state(state(0, 0, 1, 0, 120000));
+    frame_gives(0, "20");
+    jig_next();
+    want_state(state(0, 0, 1, 0, 1));
+    wait_gives(119999, 0, "119,999 us after 20");
+    next_frame("0500");
+    want_hex(1, "03");
+    frame_gives(0, "status 119,999 us after 20");
+    jig_next();
+    want_state(power_on);
+    wait_gives(1, 0, "one more");
+    next_frame("0500");
+    want_hex(1, "00");
+    frame_gives(0, "status 120,000 us after 20");
+}
+
+static void last_line(void)
+{
+    given_frame(1, state(0, 0, 1, 0, 9), "FF");
+    frame_gives(11, "busy and unknown");
+    jig_model(1);
+    jig_filled(0x03, LONGEST_FRAME + 1, 0);
+    given.out_len = 100;
+    frame_gives(4, "65,542 bytes with a short output");
+    given_frame(1, power_on, "90000001000000");
+    want_hex(4, "05C205");
+    frame_gives(0, "90 00 00 01 and three bytes");
+}
+
+/* The first five calls of 01's log and the two reads: the program that folded. */
+static void folded_program_of_the_log(void)
+{
+    given_frame(1, power_on, "06");
+    jig_cells(0, 65536, 0xFF);
+    want_state(enabled);
+    frame_gives(0, "log line 1");
+    next_frame("020000FFA55A");
+    want_cells(0xFF, 1, 0xA5);
+    want_cells(0x00, 1, 0x5A);
+    want_state(state(0, 0, 1, 0, 5000));
+    frame_gives(0, "log line 3");
+    jig_next();
+    want_state(power_on);
+    wait_gives(5000, 0, "log line 5");
+    next_frame("0300000000");
+    want_hex(4, "5A");
+    frame_gives(0, "log line 7");
+    next_frame("030000FF0000");
+    want_hex(4, "A5FF");
+    frame_gives(0, "log line 8");
+}
+
+void bench_sheet(void)
+{
+    power_on_status();
+    tails();
+    refused_programs_and_erases();
+    folding();
+    status_lock();
+    status_8F_then_8C();
+    sleeping();
+    last_cell_then_first();
+    sector_erase_time();
+    last_line();
+    folded_program_of_the_log();
+}

@@ -1,0 +1,137 @@
+/* 01, Commands: 06, 04, B9, AB, 05 and 01, from every idle state. */
+#include "jig.h"
+#include "rules.h"
+
+/* The 32 idle states by number. */
+static struct condition idle(unsigned k)
+{
+    struct condition c = {0, 0, 0, 0, 0};
+
+    c.asleep = k % 2;
+    c.wel = k / 2 % 2;
+    c.bp = k / 4 % 4;
+    c.srwd = k / 16;
+    return c;
+}
+
+static const char *from_state(const char *frame, struct condition c)
+{
+    return named("%s from SRWD %u BP %u WEL %u asleep %u", frame, c.srwd, c.bp, c.wel, c.asleep);
+}
+
+/* A frame that takes an awake chip from one state to another; asleep it is refused. */
+static void awake_goes(uint32_t model, const char *frame, struct condition before, struct condition after)
+{
+    jig_model(model);
+    jig_state(before);
+    jig_frame(frame);
+    given.wp = before.bp % 2;
+    if (before.asleep == 0)
+        want_state(after);
+    frame_gives(before.asleep ? 12 : 0, from_state(frame, before));
+}
+
+/* 06 sets WEL, 04 clears it, B9 enters deep power-down: nothing else changes. */
+static void latch_and_sleep(uint32_t model, struct condition before)
+{
+    struct condition set = before, cleared = before, asleep = before;
+
+    set.wel = 1;
+    cleared.wel = 0;
+    asleep.asleep = 1;
+    awake_goes(model, "06", before, set);
+    awake_goes(model, "04", before, cleared);
+    awake_goes(model, "B9", before, asleep);
+}
+
+/* AB wakes and leaves WEL; the long one drives the signature too; other forms leave the chip asleep. */
+static void waking(uint32_t model, struct condition before)
+{
+    static const struct { const char *frame; uint32_t tail, number; } forms[] = {
+        {"AB", 0, 0}, {"AB", 1, 14}, {"AB", 7, 14}, {"AB00", 0, 14}, {"AB0000", 0, 14},
+        {"AB000000", 0, 14}, {"AB000000", 7, 14}, {"AB00000000", 0, 0}, {"ABFFFFFFFF", 5, 0},
+        {"AB123456789A", 7, 0}};
+    struct condition awake = before;
+    size_t i;
+
+    awake.asleep = 0;
+    for (i = 0; i < sizeof forms / sizeof forms[0]; i++) {
+        jig_model(model);
+        jig_state(before);
+        jig_frame(forms[i].frame);
+        given.tail = forms[i].tail;
+        if (forms[i].number == 0)
+            want_state(awake);
+        if (given.frame_len >= 5)
+            want_repeated(4, model == 1 ? "05" : "11");
+        frame_gives(forms[i].number, from_state(forms[i].frame, before));
+    }
+}
+
+/* 05: 128 SRWD + 4 BP + 2 WEL + WIP, from position 1 on, idle and busy. */
+static void status_read(uint32_t model, struct condition c)
+{
+    static const char digits[] = "0123456789ABCDEF";
+    unsigned low = 4 * c.bp + 2 * c.wel + (c.busy_us > 0 ? 1 : 0);
+    char byte[3] = {0, 0, 0};
+    size_t length;
+
+    byte[0] = c.srwd ? '8' : '0';
+    byte[1] = digits[low];
+    for (length = 1; length <= 6; length++) {
+        jig_model(model);
+        jig_state(c);
+        jig_filled(0x05, length, (uint8_t)(length * 37));
+        given.tail = (uint32_t)length;
+        if (length > 1)
+            want_repeated(1, byte);
+        frame_gives(0, from_state("05", c));
+    }
+}
+
+static void status_reads(uint32_t model)
+{
+    unsigned k;
+
+    for (k = 0; k < 32; k++) {
+        struct condition c = idle(k);
+
+        if (c.asleep)
+            continue;
+        status_read(model, c);
+        c.busy_us = c.wel ? 1 + k : 0;
+        status_read(model, c);
+        c.busy_us = c.wel ? longest_us() : 0;
+        status_read(model, c);
+    }
+}
+
+/* 01 takes SRWD, BP1 and BP0 from bits 7, 3 and 2, ignores the rest, and leaves WEL 1. */
+static void status_write(uint32_t model, unsigned value)
+{
+    const struct condition before = {value % 2, value / 2 % 4, 1, 0, 0};
+    const struct condition after = {value >> 7, value >> 2 & 3, 1, 0, bench(model).status_us};
+
+    jig_model(model);
+    jig_state(before);
+    jig_filled(0x01, 2, (uint8_t)value);
+    want_state(after);
+    frame_gives(0, named("01 %02X", value));
+}
+
+void state_commands(void)
+{
+    uint32_t model;
+    unsigned k;
+
+    for (model = 1; model <= 2; model++) {
+        for (k = 0; k < 32; k++) {
+            latch_and_sleep(model, idle(k));
+            waking(model, idle(k));
+        }
+        jig_model(model);
+        status_reads(model);
+        for (k = 0; k < 256; k++)
+            status_write(model, k);
+    }
+}

@@ -1,0 +1,12 @@
+/* The two halves of scripts.c. */
+#ifndef SCRIPTS_H
+#define SCRIPTS_H
+
+#include <stdint.h>
+
+enum { MOST_LINE = 640, MOST_BYTES = 300 };
+
+/* A script of so many lines on standard output; an odd seed leaves the last without its newline. */
+void generate(uint64_t seed, unsigned long lines);
+
+#endif

@@ -1,0 +1,125 @@
+#!/bin/sh
+# The one script that knows the machine. Everything that Rattle compiles is x86-64 code: on x86-64
+# the native compiler makes its C hosts and they run as they are; on Arm Debian's cross compiler makes
+# them, statically linked, and qemu-x86_64 runs them. A missing tool is installed with apt-get.
+#
+#   tools/host.sh machine              native or emulated
+#   tools/host.sh cc ARG..             compile and link C for x86-64
+#   tools/host.sh cxx ARG..            the same for C++
+#   tools/host.sh run PROGRAM ARG..    run an x86-64 program
+#   tools/host.sh count-flags          what the benchmark is compiled with, so that its rows can be counted
+#   tools/host.sh count DIR PROGRAM    run it, and print a line `ROW INSTRUCTIONS` for each stretch it
+#                                      marked; DIR takes what is left over
+#   tools/host.sh counter              what counts, with its version
+#
+# GWO_MACHINE=aarch64 on x86-64 takes Arm's way there, to try it.
+set -eu
+
+root=$(cd "$(dirname "$0")/.." && pwd)
+machine=${GWO_MACHINE:-$(uname -m)}
+case $machine in
+x86_64) way=native ;;
+aarch64) way=emulated ;;
+*) echo "tools/host.sh: no way is known for a machine of kind $machine" >&2; exit 1 ;;
+esac
+
+# need COMMAND PACKAGE..: installs the packages if the command is missing.
+need() {
+    command -v "$1" >/dev/null 2>&1 && return 0
+    wanted=$1
+    shift
+    echo "tools/host.sh: $wanted is missing, installing $*" >&2
+    export DEBIAN_FRONTEND=noninteractive
+    if ! apt-get install -y --no-install-recommends "$@" >&2; then
+        apt-get update >&2
+        apt-get install -y --no-install-recommends "$@" >&2
+    fi
+    command -v "$wanted" >/dev/null 2>&1 || { echo "tools/host.sh: $wanted is still missing" >&2; exit 1; }
+}
+
+native_cc() {
+    need gcc gcc libc6-dev
+}
+
+cc() {
+    if [ $way = native ]; then
+        native_cc
+        exec gcc "$@"
+    fi
+    need x86_64-linux-gnu-gcc gcc-x86-64-linux-gnu libc6-dev-amd64-cross
+    exec x86_64-linux-gnu-gcc -static "$@"
+}
+
+cxx() {
+    if [ $way = native ]; then
+        need g++ g++ libc6-dev
+        exec g++ "$@"
+    fi
+    need x86_64-linux-gnu-g++ g++-x86-64-linux-gnu libc6-dev-amd64-cross
+    exec x86_64-linux-gnu-g++ -static "$@"
+}
+
+run() {
+    [ $way = native ] && exec "$@"
+    need qemu-x86_64 qemu-user
+    exec qemu-x86_64 -cpu qemu64 "$@"
+}
+
+# Callgrind writes one file for each marked stretch: its mark in `desc: Trigger`, its count in `totals`.
+count_native() {
+    dir=$1
+    shift
+    need valgrind valgrind
+    rm -f "$dir"/stretch.*
+    valgrind --tool=callgrind --callgrind-out-file="$dir/stretch" "$@" >"$dir/valgrind.log" 2>&1 ||
+        { cat "$dir/valgrind.log" >&2; exit 1; }
+    awk '/^desc: Trigger: Client Request: / { row = $NF }
+         /^totals: / && row != "" { print row, $2; row = "" }' "$dir"/stretch.*
+}
+
+# The plugin's interface has had several versions; qemu says no to all but those it knows.
+count_emulated() {
+    dir=$1
+    shift
+    need qemu-x86_64 qemu-user
+    native_cc
+    for version in 1 2 3 4 5 6; do
+        gcc -O2 -shared -fPIC -DVERSION=$version -o "$dir/counter.so" "$root/host/bench/qemu_counter.c"
+        if qemu-x86_64 -cpu qemu64 -plugin "$dir/counter.so,counts=$dir/counts" "$@" >"$dir/qemu.log" 2>&1; then
+            cat "$dir/counts"
+            return 0
+        fi
+    done
+    cat "$dir/qemu.log" >&2
+    exit 1
+}
+
+action=${1:-}
+[ $# -gt 0 ] && shift
+case $action in
+machine) echo $way ;;
+cc) cc "$@" ;;
+cxx) cxx "$@" ;;
+run) run "$@" ;;
+count-flags)
+    if [ $way = native ]; then
+        need valgrind valgrind # its header too
+        echo -DCOUNT_BY_CALLGRIND
+    else
+        echo -DCOUNT_BY_QEMU
+    fi ;;
+count)
+    # One kind of memcpy and memset on every machine: 16 bytes at a time, as the archive's own code.
+    GLIBC_TUNABLES=glibc.cpu.hwcaps=-AVX2,-AVX512F,-AVX512VL,-AVX_Fast_Unaligned_Load,-ERMS,-FSRM,-SSSE3
+    export GLIBC_TUNABLES
+    count_$way "$@" ;;
+counter)
+    if [ $way = native ]; then
+        need valgrind valgrind
+        echo "callgrind of $(valgrind --version)"
+    else
+        need qemu-x86_64 qemu-user
+        echo "a counting plugin of $(qemu-x86_64 --version | head -n 1)"
+    fi ;;
+*) sed -n '2,/^set/{/^#/s/^# \{0,1\}//p}' "$0" >&2; exit 2 ;;
+esac
