@@ -11,7 +11,10 @@ use Rattle.rules.specs.Commands.{traitsOf}
 use Rattle.rules.specs.declared.Record.{Record}
 use Rattle.rules.specs.declared.State.{State}
 use Rattle.rules.specs.declared.Traits.{Traits}
+use Rattle.rules.specs.declared.Command.{Command}
+use Rattle.rules.specs.declared.Command.the-variants.{WriteEnable, WriteDisable, ReadStatus, WriteStatus, Read, FastRead, EraseSector, EraseBlock, EraseChip, Program, ReadId, Wake, ReadMaker, Sleep, Unknown}
 use Rattle.rules.specs.declared.Answer.{Answer}
+use Rattle.rules.specs.declared.Answer.the-variants.{Done}
 use Rattle.ladder.specs.declared.Head.{Head}
 use Rattle.ladder.specs.Ladder.{Rung, firstOf, ladder, refusalOf}
 use Rattle.ladder.specs.Stages.{givenOf, heardOf, allowedOf}
@@ -46,3 +49,36 @@ one-table rec s cells h room =
     let b = take 5 (drop 5 rows) in
     let c = drop 10 rows in
     joined a (b ++ c) refl ∙ ap (λ (x : Answer). cond (isDone (firstOf a)) x (firstOf a)) (joined b c refl)
+
+-- ---- where the code stops
+module _ (rec : Record) (s : State) (cells : ℕ) (h : Head) (room : ℕ) where
+  abbrev k : Traits
+  k = traitsOf (h .command)
+
+  pub stops-given : isDone (givenOf rec s cells h room k) ≡ false → refusalOf rec s cells h room ≡ givenOf rec s cells h room k
+  stops-given e = one-table rec s cells h room ∙ rw e
+
+  pub stops-heard : isDone (givenOf rec s cells h room k) ≡ true → isDone (heardOf rec s cells h room k) ≡ false → refusalOf rec s cells h room ≡ heardOf rec s cells h room k
+  stops-heard e f = one-table rec s cells h room ∙ rw (e, f)
+
+  pub goes-on : isDone (givenOf rec s cells h room k) ≡ true → isDone (heardOf rec s cells h room k) ≡ true → refusalOf rec s cells h room ≡ allowedOf rec s cells h room k
+  goes-on e f = one-table rec s cells h room ∙ rw (e, f)
+
+-- a command that needs no WEL is stopped by none of the last three rows
+pub harmless : (rec : Record) (s : State) (cells : ℕ) (h : Head) (room : ℕ) (c : Command) → traitsOf c .latch ≡ false → allowedOf rec s cells h room (traitsOf c) ≡ Done
+unfolding traitsOf allowedOf
+harmless rec s cells h room WriteEnable e = refl
+harmless rec s cells h room WriteDisable e = refl
+harmless rec s cells h room ReadStatus e = refl
+harmless rec s cells h room WriteStatus e = absurd (true≢false e)
+harmless rec s cells h room Read e = refl
+harmless rec s cells h room FastRead e = refl
+harmless rec s cells h room EraseSector e = absurd (true≢false e)
+harmless rec s cells h room EraseBlock e = absurd (true≢false e)
+harmless rec s cells h room EraseChip e = absurd (true≢false e)
+harmless rec s cells h room Program e = absurd (true≢false e)
+harmless rec s cells h room ReadId e = refl
+harmless rec s cells h room Wake e = refl
+harmless rec s cells h room ReadMaker e = refl
+harmless rec s cells h room Sleep e = refl
+harmless rec s cells h room Unknown e = refl

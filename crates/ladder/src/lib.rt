@@ -1,8 +1,6 @@
 // The refusals in their order. The stages are how; the one table of specs/Ladder.antt is what.
 ghost use mathlib.Core.Path.{_≡_};
-ghost use mathlib.Core.Bool.{cond};
 ghost use mathlib.Core.List.{_∷_, []};
-ghost use Rattle.rules.specs.Answers.{isDone};
 ghost use Rattle.ladder.specs.Ladder.{_gives_, firstOf, refusalOf};
 ghost use Rattle.ladder.specs.Stages.{givenOf, heardOf, allowedOf};
 use rules::Answer;
@@ -122,12 +120,6 @@ fn allowed(rec: Record, st: State, cells: usize, head: Head, room: usize, t: Tra
     )
 }
 
-fn prefer(a: Answer, b: Answer) -> Answer
-    ensures { λ r. ⌜ r ≡ cond (isDone a) b a ⌝ }
-{
-    if rules::is_done(a) { b } else { a }
-}
-
 // The first refusal that applies, and Done where none does: for a frame that is given an array of so many cells and an output of so
 // much room.
 pub fn refusal(rec: Record, st: State, cells: usize, head: Head, room: usize) -> Answer
@@ -135,11 +127,16 @@ pub fn refusal(rec: Record, st: State, cells: usize, head: Head, room: usize) ->
 {
     let command = head.command;
     let t = rules::traits_of(command);
-    prefer(
-        given(rec, st, cells, head, room, t),
-        prefer(
-            heard(rec, st, cells, head, room, t),
-            allowed(rec, st, cells, head, room, t),
-        ),
-    )
+    let first = given(rec, st, cells, head, room, t);
+    if !rules::is_done(first) {
+        return first;
+    }
+    let second = heard(rec, st, cells, head, room, t);
+    if !rules::is_done(second) {
+        return second;
+    }
+    if t.latch {
+        return allowed(rec, st, cells, head, room, t);
+    }
+    Answer::Done
 }

@@ -249,8 +249,11 @@ pub fn state_ok(rec: Record, st: State) -> bool
     ensures { λ r. ⌜ r ≡ stateOk rec st ⌝ }
 {
     let row = units::model_of(rec.model);
-    ((st.bp <= row.highest_bp) & (st.busy <= longest(rec)))
-        & ((st.busy == 0) | (st.wel & !st.asleep))
+    let level = st.bp <= row.highest_bp;
+    if st.busy == 0 {
+        return level;
+    }
+    (level & (st.busy <= longest(rec))) & (st.wel & !st.asleep)
 }
 
 fn bit(on: bool, value: u8) -> u8
