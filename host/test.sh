@@ -13,7 +13,7 @@ host=$root/tools/host.sh
 GWO_BUILD=${GWO_BUILD:-$root/target/host}
 export GWO_BUILD
 archive=${1:-${GWO_ARCHIVE:-$root/target/staticlib/libpod.a}}
-if [ "$("$host" machine)" = native ]; then calls=1000000 lines=200000; else calls=100000 lines=20000; fi
+if [ "$("$host" machine)" = native ]; then calls=1000000 lines=1000000; else calls=100000 lines=20000; fi
 calls=${GWO_CALLS:-$calls}
 lines=${GWO_LINES:-$lines}
 obj=$GWO_BUILD/obj

@@ -6,7 +6,8 @@
 #   tools/host.sh machine              native or emulated
 #   tools/host.sh cc ARG..             compile and link C for x86-64
 #   tools/host.sh cxx ARG..            the same for C++
-#   tools/host.sh run PROGRAM ARG..    run an x86-64 program
+#   tools/host.sh run PROGRAM ARG..    run an x86-64 program that `cc` or `cxx` linked
+#   tools/host.sh program PROGRAM      run an x86-64 program that `rt` linked
 #   tools/host.sh count-flags          what the benchmark is compiled with, so that its rows can be counted
 #   tools/host.sh count DIR PROGRAM    run it, and print a line `ROW INSTRUCTIONS` for each stretch it
 #                                      marked; DIR takes what is left over
@@ -65,6 +66,13 @@ run() {
     exec qemu-x86_64 -cpu qemu64 "$@"
 }
 
+# What `rt` links is loaded by the machine's own loader; on Arm by the one that the toolchain has beside its emulator.
+program() {
+    [ $way = native ] && exec "$@"
+    kit=${RATTLE_HOME:-$(dirname "$(dirname "$(readlink -f "$(command -v rt)")")")}/on/$machine/toolchain
+    exec "$kit/bin/qemu-x86_64" "$kit/lib/ld-linux-x86-64.so.2" --library-path "$kit/lib" "$@"
+}
+
 # Callgrind writes one file for each marked stretch: its mark in `desc: Trigger`, its count in `totals`.
 count_native() {
     dir=$1
@@ -101,6 +109,7 @@ machine) echo $way ;;
 cc) cc "$@" ;;
 cxx) cxx "$@" ;;
 run) run "$@" ;;
+program) program "$@" ;;
 count-flags)
     if [ $way = native ]; then
         need valgrind valgrind # its header too

@@ -7,10 +7,10 @@ failed=0
 
 # Runs a command, prints what it prints, and adds the counts of its last line; a command that does not end in one has failed.
 count() {
-    local log last
+    local log status last
     log=$(mktemp)
     "$@" 2>&1 | tee "$log"
-    local status=${PIPESTATUS[0]}
+    status=${PIPESTATUS[0]}
     last=$(tail -n 1 "$log")
     rm -f "$log"
     if [[ $last =~ ^([0-9]+)\ passed,\ ([0-9]+)\ failed$ ]]; then
@@ -24,9 +24,15 @@ count() {
 
 started=$SECONDS
 count rt ci
-for suite in host/test.sh scripts/test.sh; do
-    [ ! -x "$suite" ] || count "$suite"
-done
-echo "took $((SECONDS - started)) s"
+proved=$SECONDS
+if rt staticlib pod; then
+    GWO_RUNNER="$PWD/tools/host.sh program $PWD/target/bin/runner"
+    export GWO_RUNNER
+    count host/test.sh
+    count scripts/test.sh
+else
+    failed=$((failed + 1))
+fi
+echo "proofs and edits took $((proved - started)) s, the host tests $((SECONDS - proved)) s"
 echo "$passed passed, $failed failed"
 [ "$failed" -eq 0 ]

@@ -1,0 +1,151 @@
+#!/usr/bin/env bash
+# Every script of this folder goes through the runner, and its log has to be the one stored beside it. Then what no stored
+# log can show: empty input, lines that are typed, a line of 100 MB, an output that fails, an input that fails.
+#   scripts/test.sh
+# GWO_RUNNER is the runner (target/bin/runner): a program, or a command that starts it, as seen from the project's folder.
+set -u
+cd "$(dirname "$0")/.." || exit
+
+runner=${GWO_RUNNER:-target/bin/runner} # never quoted: it may be several words
+header=$'line\tanswer\tfrom\tbytes'
+patience=30       # seconds for what has to come by itself
+most_memory=65536 # kB, an emulator's own memory included; the long line has more
+passed=0
+failed=0
+work=$(mktemp -d)
+trap 'rm -rf "$work"' EXIT
+trap : PIPE # a runner that has gone does not end the tests
+
+# check NAME COMMAND..: what the command says is shown when it fails.
+check() {
+    local name=$1
+    shift
+    if "$@" >"$work/said" 2>&1; then
+        passed=$((passed + 1))
+        echo "ok $name"
+    else
+        failed=$((failed + 1))
+        echo "FAILED $name"
+        head -n 40 "$work/said" | cut -c 1-160
+    fi
+}
+
+# same_log SCRIPT LOG
+same_log() {
+    timeout "$patience" $runner <"$1" >"$work/log" || { echo "the runner ended with status $?"; return 1; }
+    diff -a "$2" "$work/log"
+}
+
+empty_input() {
+    echo "$header" >"$work/header"
+    same_log /dev/null "$work/header"
+}
+
+# start, row and finish: a runner at two pipes, 3 to write lines to and 4 to read its rows from.
+start() {
+    rm -f "$work/in" "$work/out"
+    mkfifo "$work/in" "$work/out"
+    $runner <"$work/in" >"$work/out" &
+    pid=$!
+    exec 3>"$work/in" 4<"$work/out"
+    row "$header"
+}
+
+# row WANTED: the next row is there now.
+row() {
+    local got
+    IFS= read -r -t "$patience" -u 4 got || { echo "no row came, wanted: $1"; return 1; }
+    [ "$got" = "$1" ] || { echo "the row is: $got, wanted: $1"; return 1; }
+}
+
+# The input ends, and the run with it; no row is left.
+finish() {
+    local ended=0
+    exec 3>&-
+    timeout "$patience" cat <&4 >"$work/rest" || { echo "the run did not end with its input"; ended=1; }
+    exec 4<&-
+    [ $ended -eq 0 ] || kill "$pid"
+    wait "$pid" || { echo "the runner ended with status $?"; ended=1; }
+    [ ! -s "$work/rest" ] || { echo "rows too many:"; cat "$work/rest"; ended=1; }
+    return $ended
+}
+
+# Each row is there before the next line is typed; a line typed in two halves is one line.
+typed_lines() {
+    local well=0
+    start && printf 'F\t1\t0\t06\n' >&3 && row $'1\t0\t-\t-' &&
+        printf 'W\t5' >&3 && sleep 0.2 && printf '\n' >&3 && row $'2\t0\t-\t-' &&
+        printf 'F\t1\t0\t05' >&3 && sleep 0.2 && printf '00\n' >&3 && row $'3\t0\t1\t02' || well=1
+    finish || well=1
+    return $well
+}
+
+# 100 MB without a newline are one bad line: one row, the state as before, and the line is not kept in memory.
+long_line() {
+    local well=0
+    start && printf 'F\t1\t0\t06\n' >&3 && row $'1\t0\t-\t-' &&
+        printf 'F\t1\t0\t04' >&3 && head -c 100000000 /dev/zero | timeout "$patience" tr '\0' 0 >&3 &&
+        printf '\n' >&3 && row $'2\t20\t-\t-' && small_enough &&
+        printf 'F\t1\t0\t0500\n' >&3 && row $'3\t0\t1\t02' || well=1
+    finish || well=1
+    return $well
+}
+
+small_enough() {
+    local peak
+    peak=$(awk '$1 == "VmHWM:" { print $2 }' "/proc/$pid/status")
+    [ "$peak" -le "$most_memory" ] || { echo "the runner took $peak kB"; return 1; }
+}
+
+# ended STATUS: it ran and came to its end, whatever its status.
+ended() {
+    case $1 in
+    124) echo "the run went on for $patience s"; return 1 ;;
+    126 | 127) echo "the runner did not start"; return 1 ;;
+    esac
+}
+
+# An endless input, and a reader that takes one line and goes.
+closed_output() {
+    yes P 2>/dev/null | timeout "$patience" $runner | head -n 1 >"$work/log"
+    ended "${PIPESTATUS[1]}" && echo "$header" | diff -a - "$work/log"
+}
+
+# The same where no signal ends the runner and only its write fails.
+closed_output_unsignalled() (
+    trap '' PIPE
+    closed_output
+)
+
+full_output() {
+    yes P 2>/dev/null | timeout "$patience" $runner >/dev/full
+    ended "${PIPESTATUS[1]}"
+}
+
+# A folder cannot be read: the header comes, and standard error names the input.
+failing_input() {
+    timeout "$patience" $runner <. >"$work/log" 2>"$work/error"
+    ended $? && echo "$header" | diff -a - "$work/log" || return 1
+    grep -q 'standard input' "$work/error" || { echo "standard error does not name it:"; cat "$work/error"; return 1; }
+}
+
+no_script() {
+    echo "there is no script to $1"
+    return 1
+}
+
+for script in scripts/*.txt; do
+    check "$(basename "$script" .txt)" same_log "$script" "${script%.txt}.log"
+done
+for log in scripts/*.log; do
+    [ -f "${log%.log}.txt" ] || check "$(basename "$log" .log)" no_script "$log"
+done
+check 'empty input' empty_input
+check 'typed lines' typed_lines
+check 'line of 100 MB' long_line
+check 'closed output' closed_output
+check 'closed output, no signal' closed_output_unsignalled
+check 'full output' full_output
+check 'failing input' failing_input
+echo "$passed passed, $failed failed"
+[ "$failed" -eq 0 ]
