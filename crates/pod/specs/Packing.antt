@@ -20,7 +20,8 @@ spelt (b ∷ bs) = b + 256 * spelt bs
 unfoldable pub packOf : State → List ℕ
 packOf s = statusOf s ∷ bit (s .asleep) 1 ∷ 0 ∷ 0 ∷ bytesOf 4 (s .busy)
 
--- the state that bytes spell: SRWD is bit 7, BP bits 5 to 2, WEL bit 1
+-- the state that bytes spell: SRWD is bit 7, BP bits 5 to 2 (above the model's highest it is not valid), WEL bit 1. WIP is not read:
+-- it has to be what the busy time makes it
 unfoldable pub readOf : List ℕ → State
 readOf xs =
     record {

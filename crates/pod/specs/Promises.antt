@@ -1,4 +1,4 @@
--- What is shown of the packing and of the calls; proofs/Promises.antt proves each under the same name. Assumes nothing.
+-- What is shown of the packing and of the calls; proofs/Promises.antt proves each under its name in small letters. Assumes nothing.
 use mathlib.Core.Bool.{true, not, cond}
 use mathlib.Core.List.{List}
 use mathlib.Core.Path.{_≡_}

@@ -113,7 +113,7 @@ fn record_of(
     }
 }
 
-// Any frame. WP# is low where wp is 0.
+// Any frame: its answer's number. WP# is low where wp is 0. from and count get the first driven position and how many, both 0 when none.
 #[no_mangle]
 pub extern "C" fn gwo_frame(
     model: u32,
@@ -143,7 +143,7 @@ pub extern "C" fn gwo_frame(
     keep(answer, next, state)
 }
 
-// Any wait.
+// Any wait, in microseconds: its answer's number.
 #[no_mangle]
 pub extern "C" fn gwo_wait(
     model: u32,
@@ -165,7 +165,7 @@ pub extern "C" fn gwo_wait(
     keep(answer, next, state)
 }
 
-// Any power cycle.
+// Any power cycle: its answer's number.
 #[no_mangle]
 pub extern "C" fn gwo_power_cycle(
     model: u32,
