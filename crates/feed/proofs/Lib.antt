@@ -1,3 +1,4 @@
--- `Turns`: one turn. `Feeds`: turns one after the other, and the input's end.
+-- `Turns`: one turn. `Feeds`: turns one after the other, and the input's end. `Script`: a whole script.
 pub mod Turns
 pub mod Feeds
+pub mod Script
