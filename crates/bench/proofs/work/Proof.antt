@@ -1,0 +1,32 @@
+-- `bench::work` ends: each line ends past where it began. Assumes nothing.
+use mathlib.Core.Path.{_≡_, refl}
+use Prim.Native.Nat.{_-_}
+use lib.ListN.{length}
+use borrow.Author.Needs.{needs}
+use Rattle.bench.proofs.work.Statement.{statement}
+use Rattle.bench.proofs.work.Tie as tie
+
+abbrev Inv-loop : tie.InvT-loop
+Inv-loop script array₀ out₀ bench₀ at₀ array out bench at = (length array ≡ length array₀) × (length out ≡ length out₀)
+
+abbrev μ-loop : tie.MeasureT-loop
+μ-loop script array₀ out₀ bench₀ at₀ array out bench at = length script - at
+
+pub work-spec : {M : Type 1} → statement M
+work-spec =
+    tie.close
+    (tie.spec
+    Inv-loop
+    μ-loop
+    (λ c. (refl, refl))
+    (λ c κs. search needs)
+    (λ c. search needs)
+    (λ c. search needs)
+    (λ c. search needs)
+    (λ c κs. search needs)
+    (λ c. search needs)
+    (λ c. search needs)
+    (λ c. search needs)
+    (λ c. search needs)
+    (λ c. search needs)
+    (λ c. search needs))
