@@ -189,19 +189,25 @@ fn send(
     }
 }
 
-fn send_long(rec: Record, st: State, says: &[u8; 16], array: &mut [u8], out: &mut [u8]) -> Played {
-    let count = number(says[0], says[1], says[2]) as usize;
-    let room = number(says[3], says[4], says[5]) as usize;
+// Eight bytes, and then one byte over and over.
+fn long_frame(says: &[u8; 16]) -> [u8; 65600] {
     let mut frame = [0u8; 65600];
     cells::fill(&mut frame, says[7]);
     let all = &says[..];
     text::put_all(&all[8..16], &mut frame, 0);
+    frame
+}
+
+fn send_long(rec: Record, st: State, says: &[u8; 16], array: &mut [u8], out: &mut [u8]) -> Played {
+    let count = number(says[0], says[1], says[2]) as usize;
+    let room = number(says[3], says[4], says[5]) as usize;
     if 65600 < count {
         return set_to(st);
     }
     if out.len() < room {
         return set_to(st);
     }
+    let frame = long_frame(says);
     send(rec, st, array, &frame[0..count], says[6], &mut out[0..room])
 }
 
@@ -230,7 +236,7 @@ fn with_look(bench: Bench, look: u32) -> Bench {
     next
 }
 
-fn step(bench: Bench, line: &[u8], array: &mut [u8], out: &mut [u8]) -> Bench {
+fn step(bench: Bench, line: &[u8], array: &mut [u8], out: &mut [u8; 65600]) -> Bench {
     let rec = record_of(bench.model);
     let last = bench.last;
     let st = last.state;
@@ -268,7 +274,7 @@ fn place_of(byte: u8, text: &[u8], from: usize) -> usize
 }
 
 // A step, and its row where it has a note.
-fn step_done(bench: Bench, line: &[u8], array: &mut [u8], out: &mut [u8]) -> Bench {
+fn step_done(bench: Bench, line: &[u8], array: &mut [u8], out: &mut [u8; 65600]) -> Bench {
     let end = place_of(b'|', line, 0);
     let next = step(bench, &line[0..end], array, out);
     if end < line.len() {
@@ -278,7 +284,7 @@ fn step_done(bench: Bench, line: &[u8], array: &mut [u8], out: &mut [u8]) -> Ben
 }
 
 // Any line. All but a fresh chip's step sees the chip's array only.
-fn line_done(bench: Bench, line: &[u8], array: &mut [u8], out: &mut [u8]) -> Bench {
+fn line_done(bench: Bench, line: &[u8], array: &mut [u8], out: &mut [u8; 65600]) -> Bench {
     if letter(line) == b'M' {
         let says = read(line);
         return fresh(says[0], says[1], array);
@@ -291,7 +297,7 @@ fn line_done(bench: Bench, line: &[u8], array: &mut [u8], out: &mut [u8]) -> Ben
 }
 
 // Line after line; the last may lack its newline.
-fn work(first: Bench, script: &[u8], array: &mut [u8], out: &mut [u8]) {
+fn work(first: Bench, script: &[u8], array: &mut [u8; 262144], out: &mut [u8; 65600]) {
     let mut bench = first;
     let mut at = 0;
     while at < script.len() {
@@ -309,14 +315,10 @@ fn play_all(script: &[u8]) {
     work(first, script, &mut array, &mut out);
 }
 
-// Writes the header, reads standard input, and writes the rows. An input of 262,144 bytes or more is refused.
+// Writes the header, reads standard input, of which there are at most 262,144 bytes, and writes the rows.
 pub fn run(header: &[u8]) {
     say(header);
     let mut script = [0u8; 262144];
     let n = io::read_full(STDIN_FILENO, &mut script);
-    if n < 262144 {
-        play_all(&script[..n]);
-    } else {
-        say(b"the input is too long\n");
-    }
+    play_all(&script[..n]);
 }

@@ -1,5 +1,4 @@
 -- `bench::work` ends: each line ends past where it began. Assumes nothing.
-use mathlib.Core.Path.{_≡_, refl}
 use Prim.Native.Nat.{_-_}
 use lib.ListN.{length}
 use borrow.Author.Needs.{needs}
@@ -7,7 +6,7 @@ use Rattle.bench.proofs.work.Statement.{statement}
 use Rattle.bench.proofs.work.Tie as tie
 
 abbrev Inv-loop : tie.InvT-loop
-Inv-loop script array₀ out₀ bench₀ at₀ array out bench at = (length array ≡ length array₀) × (length out ≡ length out₀)
+Inv-loop script array₀ out₀ bench₀ at₀ array out bench at = Unit {0}
 
 abbrev μ-loop : tie.MeasureT-loop
 μ-loop script array₀ out₀ bench₀ at₀ array out bench at = length script - at
@@ -18,7 +17,7 @@ work-spec =
     (tie.spec
     Inv-loop
     μ-loop
-    (λ c. (refl, refl))
+    (λ c. tt)
     (λ c κs. search needs)
     (λ c. search needs)
     (λ c. search needs)
@@ -26,7 +25,5 @@ work-spec =
     (λ c κs. search needs)
     (λ c. search needs)
     (λ c. search needs)
-    (λ c. search needs)
-    (λ c. search needs)
-    (λ c. search needs)
-    (λ c. search needs))
+    (λ c. tt)
+    (λ c. tt))
