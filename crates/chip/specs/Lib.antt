@@ -1,3 +1,4 @@
 pub mod Effects
 pub mod Frames
 pub mod Time
+pub mod Units

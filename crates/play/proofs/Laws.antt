@@ -20,6 +20,7 @@ use Rattle.ladder.specs.declared.Head.{Head}
 use Rattle.chip.specs.declared.Reply.{Reply}
 use Rattle.chip.specs.Effects.{Effect, Gives, stateOnly, drives, readStatus, readFrom, eraseSector, eraseBlock, eraseChip, programPage, readId, wake, readMaker}
 use Rattle.chip.specs.Frames.{headOf, acceptedOf, frameOf}
+use Rattle.chip.proofs.Sorts.{kind, within}
 use Rattle.script.specs.declared.Line.{Line}
 use Rattle.script.specs.declared.Line.the-variants.{Frame, Wait, Power, Bad}
 use Rattle.script.specs.Hex.{bytesOf, Unhexed}
@@ -65,37 +66,6 @@ pub at-line : (rec : Record) (s : State) (cells shown line : List ℕ) {l : Line
 at-line rec s cells shown line {l} {r} {xs} {os} e k f p = subst (λ (z : Line). Plays (turnOf rec s cells shown line z) r xs os) (sym f ∙ e) p
 
 -- ---- what a line drives lies in its frame
-drives-within : (s : State) (from n : ℕ) → drives s from n .from + drives s from n .count ≤ n
-unfolding drives
-drives-within s from n = go (ltb from n) refl
-  where
-    go : (b : Bool) → ltb from n ≡ b → cond b from 0 + (n - from) ≤ n
-    go true e =
-        let l : from < n = ltb-true from n e in
-        omega arith
-    go false e =
-        let l : n ≤ from = ltb-false from n e in
-        omega arith
-
-accepted-within : (rec : Record) (s : State) (c : Command) (cells : List ℕ) (at : Address) (bytes out : List ℕ)
-    → acceptedOf rec s c cells at bytes out .reply .from + acceptedOf rec s c cells at bytes out .reply .count ≤ length bytes
-unfolding acceptedOf readStatus readFrom eraseSector eraseBlock eraseChip programPage readId wake readMaker
-accepted-within rec s WriteEnable cells at bytes out = omega arith
-accepted-within rec s WriteDisable cells at bytes out = omega arith
-accepted-within rec s ReadStatus cells at bytes out = drives-within s 1 (length bytes)
-accepted-within rec s WriteStatus cells at bytes out = omega arith
-accepted-within rec s Read cells at bytes out = drives-within s 4 (length bytes)
-accepted-within rec s FastRead cells at bytes out = drives-within s 5 (length bytes)
-accepted-within rec s EraseSector cells at bytes out = omega arith
-accepted-within rec s EraseBlock cells at bytes out = omega arith
-accepted-within rec s EraseChip cells at bytes out = omega arith
-accepted-within rec s Program cells at bytes out = omega arith
-accepted-within rec s ReadId cells at bytes out = drives-within s 1 (length bytes)
-accepted-within rec s Wake cells at bytes out = drives-within _ 4 (length bytes)
-accepted-within rec s ReadMaker cells at bytes out = drives-within s 4 (length bytes)
-accepted-within rec s Sleep cells at bytes out = omega arith
-accepted-within rec s Unknown cells at bytes out = omega arith
-
 frame-within : (rec : Record) (s : State) (cells bytes : List ℕ) (tail : ℕ) (wp : Bool) (out : List ℕ)
     → frameOf rec s cells bytes tail wp out .reply .from + frameOf rec s cells bytes tail wp out .reply .count ≤ length bytes
 unfolding frameOf
@@ -108,7 +78,7 @@ frame-within rec s cells bytes tail wp out = go (isDone (refusalOf rec s (length
     e b = cond b (acceptedOf rec s (h .command) cells (h .address) bytes out) (stateOnly (refusalOf rec s (length cells) h (length out)) s cells out)
 
     go : (b : Bool) → e b .reply .from + e b .reply .count ≤ length bytes
-    go true = accepted-within rec s (h .command) cells (h .address) bytes out
+    go true = within (kind rec s cells (h .address) bytes out (h .command))
     go false = omega arith
 
 turn-within : (rec : Record) (s : State) (cells shown line : List ℕ) (l : Line)

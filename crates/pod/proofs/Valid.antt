@@ -25,6 +25,7 @@ use Rattle.chip.specs.declared.Reply.{Reply}
 use Rattle.chip.specs.Effects.{stateOnly, drives, latched, dozing, working, written, readStatus, readFrom, eraseSector, eraseBlock, eraseChip, programPage, readId, wake, readMaker}
 use Rattle.chip.specs.Frames.{headOf, acceptedOf, frameOf}
 use Rattle.chip.specs.Time.{later, cycled, ifValid}
+use Rattle.chip.proofs.Sorts.{Move, stays, latches, dozes, works, writes, kind, is-done, moves}
 use Rattle.pod.specs.Packing.{isPacking, noState, unpackOf}
 use Rattle.pod.proofs.Packing.{Small, unpack-none}
 
@@ -95,35 +96,24 @@ cycled-small s h = record { level = h .level; short = omega arith }
 
 -- ---- what an accepted frame replies
 pub record Done-small (r : Reply) : Type 0 where
-  pub done : r .answer ≡ Done
+  pub done : isDone (r .answer) ≡ true
   pub small : Small (r .state)
 
 module _ (rec : Record) (s : State) (cells : List ℕ) (at : Address) (bytes out : List ℕ) (ok : recordOk rec ≡ true) (h : Small s) where
   busy-for : (us : ℕ) → us ≤ longestOf rec → us < 2 ^ 32
   busy-for us l = omega (arith, longest-bound rec ok)
 
-  works : (us : ℕ) → us ≤ longestOf rec → Small (working s us)
+  works-small : (us : ℕ) → us ≤ longestOf rec → Small (working s us)
   unfolding working
-  works us l = record { level = h .level; short = busy-for us l }
+  works-small us l = record { level = h .level; short = busy-for us l }
 
-  accepted : (c : Command) → Done-small (acceptedOf rec s c cells at bytes out .reply)
-  unfolding acceptedOf latched dozing written readStatus readFrom eraseSector eraseBlock eraseChip programPage readId wake readMaker drives
-  accepted WriteEnable = record { done = refl; small = record { level = h .level; short = h .short } }
-  accepted WriteDisable = record { done = refl; small = record { level = h .level; short = h .short } }
-  accepted ReadStatus = record { done = refl; small = h }
-  accepted WriteStatus =
-      record { done = refl; small = record { level = omega arith; short = busy-for _ (status-write-le rec) } }
-  accepted Read = record { done = refl; small = h }
-  accepted FastRead = record { done = refl; small = h }
-  accepted EraseSector = record { done = refl; small = works _ (sector-le rec) }
-  accepted EraseBlock = record { done = refl; small = works _ (block-le rec) }
-  accepted EraseChip = record { done = refl; small = works _ (chip-le rec) }
-  accepted Program = record { done = refl; small = works _ (page-le rec) }
-  accepted ReadId = record { done = refl; small = h }
-  accepted Wake = record { done = refl; small = record { level = h .level; short = h .short } }
-  accepted ReadMaker = record { done = refl; small = h }
-  accepted Sleep = record { done = refl; small = record { level = h .level; short = h .short } }
-  accepted Unknown = record { done = refl; small = h }
+  moved : {t : State} → Move rec s t → Small t
+  unfolding latched dozing written
+  moved stays = h
+  moved (latches b z) = record { level = h .level; short = h .short }
+  moved (dozes b z) = record { level = h .level; short = h .short }
+  moved (works us l w a) = works-small us l
+  moved (writes b us l w a) = record { level = omega arith; short = busy-for us l }
 
 -- ---- frames
 module _ (rec : Record) (s : State) (cells bytes : List ℕ) (tail : ℕ) (wp : Bool) (out : List ℕ) where
@@ -138,7 +128,8 @@ module _ (rec : Record) (s : State) (cells bytes : List ℕ) (tail : ℕ) (wp : 
   unfolding frameOf
   goes e =
       let p = passed rec s (length cells) H (length out) e in
-      record { valid = p .valid; replied = rw e (accepted rec s cells (H .address) bytes out (p .right) (valid-small rec s (p .right) (p .valid)) (H .command)) }
+      let k = kind rec s cells (H .address) bytes out (H .command) in
+      record { valid = p .valid; replied = rw e (record { done = is-done k; small = moved rec s cells (H .address) bytes out (p .right) (valid-small rec s (p .right) (p .valid)) (moves k (record { listens = p .listens; awake = p .awake; enabled = p .enabled })) }) }
 
   pub taken : isDone (frameOf rec s cells bytes tail wp out .reply .answer) ≡ true → Taken
   unfolding frameOf
@@ -156,5 +147,5 @@ module _ (rec : Record) (s : State) (cells bytes : List ℕ) (tail : ℕ) (wp : 
     where
       go : (b : Bool) → isDone (refusalOf rec s (length cells) H (length out)) ≡ b
           → frameOf rec s cells bytes tail wp out ≡ stateOnly (frameOf rec s cells bytes tail wp out .reply .answer) s cells out
-      go true e = absurd (true≢false (sym (ap isDone (goes e .replied .done)) ∙ d))
+      go true e = absurd (true≢false (sym (goes e .replied .done) ∙ d))
       go false e = rw e

@@ -24,17 +24,18 @@ use Rattle.rules.specs.declared.State.{State}
 use Rattle.rules.specs.declared.Answer.{Answer}
 use Rattle.rules.specs.declared.Answer.the-variants.{Done, BadRecord, BadState}
 use Rattle.rules.specs.declared.Command.{Command}
-use Rattle.rules.specs.declared.Command.the-variants.{WriteEnable, WriteDisable, ReadStatus, WriteStatus, Read, FastRead, EraseSector, EraseBlock, EraseChip, Program, ReadId, Wake, ReadMaker, Sleep, Unknown}
+use Rattle.rules.specs.declared.Command.the-variants.{Program}
 use Rattle.rules.proofs.States.{sound, valid}
 use Rattle.ladder.specs.Ladder.{refusalOf}
 use Rattle.ladder.specs.declared.Head.{Head}
 use Rattle.chip.specs.declared.Reply.{Reply}
 use Rattle.chip.specs.declared.After.{After}
-use Rattle.chip.specs.Effects.{Effect, Gives, stateOnly, drives, readStatus, readFrom, eraseSector, eraseBlock, eraseChip, programPage, readId, wake, readMaker}
+use Rattle.chip.specs.Effects.{Effect, Gives, stateOnly, programPage}
 use Rattle.chip.specs.Frames.{Ready, headOf, acceptedOf, frameOf}
 use Rattle.chip.specs.Time.{later, cycled, ifValid, waitOf, powerOf}
-use Rattle.chip.proofs.Ready.{ready, page-fits, sector-fits, block-fits}
-use Rattle.promises.specs.Laws.{WaitsAdd, RefusedFrame, RefusedWait, RefusedCycle, Extent, unitOf, OnlyItsUnit, ProgramFalls, OneAnswer, OneFrame, OneWait, OneCycle}
+use Rattle.chip.proofs.Ready.{ready, page-fits}
+use Rattle.chip.proofs.Sorts.{kind, is-done, changes-only}
+use Rattle.promises.specs.Laws.{WaitsAdd, RefusedFrame, RefusedWait, RefusedCycle, OnlyItsUnit, ProgramFalls, OneAnswer, OneFrame, OneWait, OneCycle}
 use Rattle.promises.proofs.Valid.{later-sound}
 use Rattle.promises.proofs.Steps.{refused-frame, wait-taken}
 
@@ -92,25 +93,6 @@ waits-add rec s a b = go (recordOk rec) refl (stateOk rec s) refl
         ∙ sym (wait-taken rec s (a + b) p q)
 
 -- ---- refused calls
-accepted-done : (rec : Record) (s : State) (c : Command) (cells : List ℕ) (at : Address) (bytes out : List ℕ)
-    → isDone (acceptedOf rec s c cells at bytes out .reply .answer) ≡ true
-unfolding acceptedOf drives readStatus readFrom eraseSector eraseBlock eraseChip programPage readId wake readMaker
-accepted-done rec s WriteEnable cells at bytes out = refl
-accepted-done rec s WriteDisable cells at bytes out = refl
-accepted-done rec s ReadStatus cells at bytes out = refl
-accepted-done rec s WriteStatus cells at bytes out = refl
-accepted-done rec s Read cells at bytes out = refl
-accepted-done rec s FastRead cells at bytes out = refl
-accepted-done rec s EraseSector cells at bytes out = refl
-accepted-done rec s EraseBlock cells at bytes out = refl
-accepted-done rec s EraseChip cells at bytes out = refl
-accepted-done rec s Program cells at bytes out = refl
-accepted-done rec s ReadId cells at bytes out = refl
-accepted-done rec s Wake cells at bytes out = refl
-accepted-done rec s ReadMaker cells at bytes out = refl
-accepted-done rec s Sleep cells at bytes out = refl
-accepted-done rec s Unknown cells at bytes out = refl
-
 pub refused : RefusedFrame
 unfolding frameOf
 refused rec s cells bytes tail wp out d = go (isDone a) refl d
@@ -127,7 +109,7 @@ refused rec s cells bytes tail wp out d = go (isDone a) refl d
     go true e f = absurd (true≢false (sym (done (h .command)) ∙ f))
       where
         done : (c : Command) → isDone (acceptedOf rec s c cells (h .address) bytes out .reply .answer) ≡ true
-        done c = accepted-done rec s c cells (h .address) bytes out
+        done c = is-done (kind rec s cells (h .address) bytes out c)
     go false e f = refl
 
 if-valid-refused : (rec : Record) (s next : State) → isDone (ifValid rec s next .answer) ≡ false → ifValid rec s next .state ≡ s
@@ -154,29 +136,6 @@ page-only : (cells : List ℕ) (at : Address) (sent : List ℕ) (k : ℕ) → pa
     → getD (programmed cells at sent) k 0 ≡ getD cells k 0
 page-only cells at sent k h o = outside-stays cells at sent k h (λ e. ⊎-elim (λ l. omega arith) (λ l. omega arith) o)
 
-erased-only : {start size : ℕ} {xs ys : List ℕ} (k : ℕ) → ErasesOnly start size xs ys → (k < start) ⊎ (start + size ≤ k) → getD ys k 0 ≡ getD xs k 0
-erased-only k e o = ⊎-elim (λ l. e .before k l) (λ l. e .behind k l) o
-
-accepted-unit : (rec : Record) (s : State) (c : Command) (cells : List ℕ) (at : Address) (bytes out : List ℕ) (k : ℕ) → Ready rec s c cells at bytes out
-    → (k < unitOf c at (length cells) .start) ⊎ (unitOf c at (length cells) .start + unitOf c at (length cells) .size ≤ k)
-    → getD (acceptedOf rec s c cells at bytes out .cells) k 0 ≡ getD cells k 0
-unfolding acceptedOf unitOf eraseSector eraseBlock eraseChip programPage
-accepted-unit rec s WriteEnable cells at bytes out k r o = refl
-accepted-unit rec s WriteDisable cells at bytes out k r o = refl
-accepted-unit rec s ReadStatus cells at bytes out k r o = refl
-accepted-unit rec s WriteStatus cells at bytes out k r o = refl
-accepted-unit rec s Read cells at bytes out k r o = refl
-accepted-unit rec s FastRead cells at bytes out k r o = refl
-accepted-unit rec s EraseSector cells at bytes out k r o = erased-only k (sector-erase cells (sectorOf at) (sector-fits rec cells at (r .inside) (r .whole) .1)) o
-accepted-unit rec s EraseBlock cells at bytes out k r o = erased-only k (block-erase cells (blockOf at) (block-fits rec cells at (r .inside) (r .whole) .1)) o
-accepted-unit rec s EraseChip cells at bytes out k r o = erased-only k (chip-erase cells) o
-accepted-unit rec s Program cells at bytes out k r o = page-only cells at (drop 4 bytes) k (page-fits rec cells at (r .inside) (r .whole)) o
-accepted-unit rec s ReadId cells at bytes out k r o = refl
-accepted-unit rec s Wake cells at bytes out k r o = refl
-accepted-unit rec s ReadMaker cells at bytes out k r o = refl
-accepted-unit rec s Sleep cells at bytes out k r o = refl
-accepted-unit rec s Unknown cells at bytes out k r o = refl
-
 pub only-its-unit : OnlyItsUnit
 unfolding frameOf
 only-its-unit rec s cells bytes tail wp out k o = go (isDone (refusalOf rec s (length cells) h (length out))) refl
@@ -186,7 +145,9 @@ only-its-unit rec s cells bytes tail wp out k o = go (isDone (refusalOf rec s (l
 
     go : (b : Bool) → isDone (refusalOf rec s (length cells) h (length out)) ≡ b
         → getD (cond b (acceptedOf rec s (h .command) cells (h .address) bytes out) (stateOnly (refusalOf rec s (length cells) h (length out)) s cells out) .cells) k 0 ≡ getD cells k 0
-    go true e = accepted-unit rec s (h .command) cells (h .address) bytes out k (ready rec s cells bytes tail wp out {h = h} refl refl e) o
+    go true e =
+        let r = ready rec s cells bytes tail wp out {h = h} refl refl e in
+        changes-only (kind rec s cells (h .address) bytes out (h .command)) (r .inside) (r .whole) .rest k o
     go false e = refl
 
 -- ---- programs

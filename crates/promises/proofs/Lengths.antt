@@ -18,31 +18,13 @@ use Rattle.ladder.specs.Ladder.{refusalOf}
 use Rattle.ladder.specs.declared.Head.{Head}
 use Rattle.chip.specs.Effects.{Effect, stateOnly, readStatus, readFrom, eraseSector, eraseBlock, eraseChip, programPage, readId, wake, readMaker}
 use Rattle.chip.specs.Frames.{Ready, headOf, acceptedOf, frameOf}
-use Rattle.chip.proofs.Ready.{ready, page-fits, sector-fits, block-fits}
+use Rattle.chip.proofs.Ready.{ready}
+use Rattle.chip.proofs.Sorts.{kind, changes-only}
 use Rattle.promises.specs.Calls.{Call, sends, waits, cycles, World, ours, after, run}
 use Rattle.promises.specs.Histories.{factory, SameLength, AnyHistory}
 use Rattle.promises.specs.Twelve.{Job, Bench, Fits}
 use Rattle.promises.proofs.Valid.{valid-histories}
 use Rattle.promises.proofs.Twelve.{twelve-calls}
-
-accepted-length : (rec : Record) (s : State) (c : Command) (cells : List ℕ) (at : Address) (bytes out : List ℕ)
-    → Ready rec s c cells at bytes out → length (acceptedOf rec s c cells at bytes out .cells) ≡ length cells
-unfolding acceptedOf eraseSector eraseBlock eraseChip programPage
-accepted-length rec s WriteEnable cells at bytes out r = refl
-accepted-length rec s WriteDisable cells at bytes out r = refl
-accepted-length rec s ReadStatus cells at bytes out r = refl
-accepted-length rec s WriteStatus cells at bytes out r = refl
-accepted-length rec s Read cells at bytes out r = refl
-accepted-length rec s FastRead cells at bytes out r = refl
-accepted-length rec s EraseSector cells at bytes out r = length-sectorErased cells (sectorOf at) (sector-fits rec cells at (r .inside) (r .whole) .1)
-accepted-length rec s EraseBlock cells at bytes out r = length-blockErased cells (blockOf at) (block-fits rec cells at (r .inside) (r .whole) .1)
-accepted-length rec s EraseChip cells at bytes out r = length-allErased cells
-accepted-length rec s Program cells at bytes out r = length-programmed cells at _ (page-fits rec cells at (r .inside) (r .whole))
-accepted-length rec s ReadId cells at bytes out r = refl
-accepted-length rec s Wake cells at bytes out r = refl
-accepted-length rec s ReadMaker cells at bytes out r = refl
-accepted-length rec s Sleep cells at bytes out r = refl
-accepted-length rec s Unknown cells at bytes out r = refl
 
 pub frame-length : (rec : Record) (s : State) (cells bytes : List ℕ) (tail : ℕ) (wp : Bool) (out : List ℕ)
     → length (frameOf rec s cells bytes tail wp out .cells) ≡ length cells
@@ -54,7 +36,9 @@ frame-length rec s cells bytes tail wp out = go (isDone (refusalOf rec s (length
 
     go : (b : Bool) → isDone (refusalOf rec s (length cells) h (length out)) ≡ b
         → length (cond b (acceptedOf rec s (h .command) cells (h .address) bytes out) (stateOnly (refusalOf rec s (length cells) h (length out)) s cells out) .cells) ≡ length cells
-    go true e = accepted-length rec s (h .command) cells (h .address) bytes out (ready rec s cells bytes tail wp out {h = h} refl refl e)
+    go true e =
+        let r = ready rec s cells bytes tail wp out {h = h} refl refl e in
+        changes-only (kind rec s cells (h .address) bytes out (h .command)) (r .inside) (r .whole) .long
     go false e = refl
 
 call-length : (rec : Record) (seen : List Call) (c : Call) (x : World) → length (after ours rec seen c x .cells) ≡ length (x .cells)

@@ -27,10 +27,12 @@ use Rattle.ladder.specs.declared.Head.{Head}
 use Rattle.chip.specs.declared.Reply.{Reply}
 use Rattle.chip.specs.Effects.{Effect, Gives, stateOnly, drives, readStatus, readFrom, eraseSector, eraseBlock, eraseChip, programPage, readId, wake, readMaker}
 use Rattle.chip.specs.Frames.{headOf, acceptedOf, frameOf}
+use Rattle.chip.proofs.Sorts.{kind, counts}
 use Rattle.promises.specs.Calls.{Call, sends, waits, cycles, Pod, World, after, answer, run, answers}
 use Rattle.promises.specs.Histories.{factory}
 use Rattle.promises.specs.Twelve.{Job, Bench, Fits, twelve, eleven, wait₁, call₂, at, lastEffect, Recovers, TwelveCalls}
-use Rattle.promises.specs.Pods.{RefusesAll, SameByte, KeepsCells, sentBefore, OnlyOnce, Worthless, drivenBytes, NumberFixed}
+use Rattle.chip.specs.Units.{drivenBytes}
+use Rattle.promises.specs.Pods.{RefusesAll, SameByte, KeepsCells, sentBefore, OnlyOnce, Worthless, NumberFixed}
 use Rattle.promises.proofs.Valid.{valid-histories}
 
 -- one set-up: model 1 with bench values, all cells 0, one byte d to address 0
@@ -138,25 +140,6 @@ pub worthless : Worthless
 worthless = record { refuses-all = refuses-all; same-byte = same-byte; keeps-cells = keeps-cells; only-once = only-once }
 
 -- ---- the number of driven bytes
-accepted-count : (rec : Record) (s : State) (c : Command) (cells : List ℕ) (at : Address) (bytes out : List ℕ)
-    → acceptedOf rec s c cells at bytes out .reply .count ≡ drivenBytes c (length bytes)
-unfolding acceptedOf drivenBytes drives readStatus readFrom eraseSector eraseBlock eraseChip programPage readId wake readMaker
-accepted-count rec s WriteEnable cells at bytes out = refl
-accepted-count rec s WriteDisable cells at bytes out = refl
-accepted-count rec s ReadStatus cells at bytes out = refl
-accepted-count rec s WriteStatus cells at bytes out = refl
-accepted-count rec s Read cells at bytes out = refl
-accepted-count rec s FastRead cells at bytes out = refl
-accepted-count rec s EraseSector cells at bytes out = refl
-accepted-count rec s EraseBlock cells at bytes out = refl
-accepted-count rec s EraseChip cells at bytes out = refl
-accepted-count rec s Program cells at bytes out = refl
-accepted-count rec s ReadId cells at bytes out = refl
-accepted-count rec s Wake cells at bytes out = refl
-accepted-count rec s ReadMaker cells at bytes out = refl
-accepted-count rec s Sleep cells at bytes out = refl
-accepted-count rec s Unknown cells at bytes out = refl
-
 pub number-fixed : NumberFixed
 unfolding frameOf headOf
 number-fixed rec s cells bytes tail wp out r xs os g d =
@@ -170,5 +153,5 @@ number-fixed rec s cells bytes tail wp out r xs os g d =
 
     go : (b : Bool) → isDone a ≡ b → isDone (cond b (acceptedOf rec s (h .command) cells (h .address) bytes out) (stateOnly a s cells out) .reply .answer) ≡ true
         → cond b (acceptedOf rec s (h .command) cells (h .address) bytes out) (stateOnly a s cells out) .reply .count ≡ drivenBytes (decodeOf (getD bytes 0 0)) (length bytes)
-    go true e f = accepted-count rec s (h .command) cells (h .address) bytes out
+    go true e f = counts (kind rec s cells (h .address) bytes out (h .command))
     go false e f = absurd (true≢false (sym f ∙ e))

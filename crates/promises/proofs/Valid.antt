@@ -29,6 +29,7 @@ use Rattle.ladder.proofs.Passed.{passed}
 use Rattle.chip.specs.declared.After.{After}
 use Rattle.chip.specs.Effects.{Effect, stateOnly, drives, latched, dozing, working, written, readStatus, readFrom, eraseSector, eraseBlock, eraseChip, programPage, readId, wake, readMaker}
 use Rattle.chip.specs.Frames.{headOf, acceptedOf, frameOf}
+use Rattle.chip.proofs.Sorts.{Move, stays, latches, dozes, works, writes, kind, moves}
 use Rattle.chip.specs.Time.{later, cycled, ifValid, waitOf, powerOf}
 use Rattle.promises.specs.Calls.{Call, sends, waits, cycles, World, ours, after, run}
 use Rattle.promises.specs.Histories.{factory, ValidHistories}
@@ -79,31 +80,13 @@ module _ (rec : Record) (s : State) (p : Sound rec s) where
   unfolding cycled
   cycled-sound = record { level = p .level; time = omega arith; mood = inl refl }
 
--- the test for 11 fails at a command that is not taken while busy: the chip is idle
-idle : (busy : ℕ) → (not (eqb busy 0) && not false) ≡ false → busy ≡ 0
-idle busy i = eqb-true busy 0 (not-false _ (only-if (not (eqb busy 0)) false i refl))
-
--- an accepted command, by what the refusals have shown
-module _ (rec : Record) (s : State) (p : Sound rec s) (cells : List ℕ) (at : Address) (bytes out : List ℕ) where
-  accepted-sound : (c : Command) → (not (eqb (s .busy) 0) && not (traitsOf c .«while_busy»)) ≡ false
-      → (s .asleep && not (traitsOf c .«while_asleep»)) ≡ false → (traitsOf c .latch && not (s .wel)) ≡ false
-      → Sound rec (acceptedOf rec s c cells at bytes out .reply .state)
-  unfolding acceptedOf traitsOf drives readStatus readFrom eraseSector eraseBlock eraseChip programPage readId wake readMaker
-  accepted-sound WriteEnable i a e = latched-sound rec s p true (idle (s .busy) i)
-  accepted-sound WriteDisable i a e = latched-sound rec s p false (idle (s .busy) i)
-  accepted-sound ReadStatus i a e = p
-  accepted-sound WriteStatus i a e = written-sound rec s p (getD bytes 1 0) (rec .«status_write») (status-write-le rec) (unless true (s .wel) e refl) (only-if (s .asleep) false a refl)
-  accepted-sound Read i a e = p
-  accepted-sound FastRead i a e = p
-  accepted-sound EraseSector i a e = working-sound rec s p (rec .sector) (sector-le rec) (unless true (s .wel) e refl) (only-if (s .asleep) false a refl)
-  accepted-sound EraseBlock i a e = working-sound rec s p (rec .block) (block-le rec) (unless true (s .wel) e refl) (only-if (s .asleep) false a refl)
-  accepted-sound EraseChip i a e = working-sound rec s p (rec .chip) (chip-le rec) (unless true (s .wel) e refl) (only-if (s .asleep) false a refl)
-  accepted-sound Program i a e = working-sound rec s p (rec .page) (page-le rec) (unless true (s .wel) e refl) (only-if (s .asleep) false a refl)
-  accepted-sound ReadId i a e = p
-  accepted-sound Wake i a e = dozing-sound rec s p false (idle (s .busy) i)
-  accepted-sound ReadMaker i a e = p
-  accepted-sound Sleep i a e = dozing-sound rec s p true (idle (s .busy) i)
-  accepted-sound Unknown i a e = p
+-- however an accepted command moves the state
+moved-sound : (rec : Record) (s : State) (p : Sound rec s) {t : State} → Move rec s t → Sound rec t
+moved-sound rec s p stays = p
+moved-sound rec s p (latches b z) = latched-sound rec s p b z
+moved-sound rec s p (dozes b z) = dozing-sound rec s p b z
+moved-sound rec s p (works t l w a) = working-sound rec s p t l w a
+moved-sound rec s p (writes b t l w a) = written-sound rec s p b t l w a
 
 -- a frame, whatever it is given
 pub frame-sound : (rec : Record) (s : State) (cells bytes : List ℕ) (tail : ℕ) (wp : Bool) (out : List ℕ)
@@ -118,7 +101,7 @@ frame-sound rec s cells bytes tail wp out p = go (isDone (refusalOf rec s (lengt
         → Sound rec (cond b (acceptedOf rec s (h .command) cells (h .address) bytes out) (stateOnly (refusalOf rec s (length cells) h (length out)) s cells out) .reply .state)
     go true e =
         let q = passed rec s (length cells) h (length out) e in
-        accepted-sound rec s p cells (h .address) bytes out (h .command) (q .listens) (q .awake) (q .enabled)
+        moved-sound rec s p (moves (kind rec s cells (h .address) bytes out (h .command)) (record { listens = q .listens; awake = q .awake; enabled = q .enabled }))
     go false e = p
 
 if-valid-sound : (rec : Record) (s next : State) → Sound rec s → Sound rec next → Sound rec (ifValid rec s next .state)

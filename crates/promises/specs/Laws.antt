@@ -6,17 +6,17 @@ use mathlib.Core.Logic.{_⊎_}
 use Prim.Native.Nat.{ℕ, _+_, _≤_, _<_}
 use lib.ListN.{length, getD}
 use Rattle.units.specs.declared.Address.{Address}
-use Rattle.units.specs.Kinds.{sectorOf, blockOf, pageStart, sectorStart, blockStart}
 use Rattle.cells.specs.Cell.{bit}
 use Rattle.rules.specs.Answers.{isDone}
 use Rattle.rules.specs.declared.Record.{Record}
 use Rattle.rules.specs.declared.State.{State}
 use Rattle.rules.specs.declared.Command.{Command}
-use Rattle.rules.specs.declared.Command.the-variants.{WriteEnable, WriteDisable, ReadStatus, WriteStatus, Read, FastRead, EraseSector, EraseBlock, EraseChip, Program, ReadId, Wake, ReadMaker, Sleep, Unknown}
+use Rattle.rules.specs.declared.Command.the-variants.{Program}
 use Rattle.chip.specs.declared.Reply.{Reply}
 use Rattle.chip.specs.declared.After.{After}
 use Rattle.chip.specs.Effects.{Gives, stateOnly}
 use Rattle.chip.specs.Frames.{headOf, frameOf}
+use Rattle.chip.specs.Units.{Extent, unitOf}
 use Rattle.chip.specs.Time.{waitOf, powerOf}
 
 -- waiting a and then b is waiting a + b, for any record and state
@@ -35,31 +35,6 @@ RefusedWait = (rec : Record) (s : State) (us : ℕ) → isDone (waitOf rec s us 
 
 abbrev pub RefusedCycle : Type 0
 RefusedCycle = (rec : Record) (s : State) → isDone (powerOf rec s .answer) ≡ false → powerOf rec s .state ≡ s
-
--- the cells that a command can change: where they start, and how many there are
-pub record Extent : Type 0 where
-  pub start : ℕ
-  pub size : ℕ
-
-abbrev pub extent : ℕ → ℕ → Extent
-extent start size = record { start = start; size = size }
-
-unfoldable pub unitOf : Command → Address → ℕ → Extent
-unitOf WriteEnable at n = extent 0 0
-unitOf WriteDisable at n = extent 0 0
-unitOf ReadStatus at n = extent 0 0
-unitOf WriteStatus at n = extent 0 0
-unitOf Read at n = extent 0 0
-unitOf FastRead at n = extent 0 0
-unitOf EraseSector at n = extent (sectorStart (sectorOf at)) 4096
-unitOf EraseBlock at n = extent (blockStart (blockOf at)) 65536
-unitOf EraseChip at n = extent 0 n
-unitOf Program at n = extent (pageStart at) 256
-unitOf ReadId at n = extent 0 0
-unitOf Wake at n = extent 0 0
-unitOf ReadMaker at n = extent 0 0
-unitOf Sleep at n = extent 0 0
-unitOf Unknown at n = extent 0 0
 
 -- a frame changes at most the unit that it addresses
 abbrev pub OnlyItsUnit : Type 0

@@ -10,11 +10,10 @@ use Rattle.rules.specs.Commands.{decodeOf}
 use Rattle.rules.specs.declared.Record.{Record}
 use Rattle.rules.specs.declared.State.{State}
 use Rattle.rules.specs.declared.Answer.the-variants.{Done}
-use Rattle.rules.specs.declared.Command.{Command}
-use Rattle.rules.specs.declared.Command.the-variants.{WriteEnable, WriteDisable, ReadStatus, WriteStatus, Read, FastRead, EraseSector, EraseBlock, EraseChip, Program, ReadId, Wake, ReadMaker, Sleep, Unknown}
 use Rattle.chip.specs.declared.Reply.{Reply}
 use Rattle.chip.specs.Effects.{Effect, Gives, stateOnly}
 use Rattle.chip.specs.Frames.{frameOf}
+use Rattle.chip.specs.Units.{drivenBytes}
 use Rattle.promises.specs.Calls.{Call, sends, waits, cycles, Pod}
 use Rattle.promises.specs.Twelve.{TwelveCalls}
 
@@ -57,24 +56,6 @@ pub record Worthless : Type 0 where
   pub same-byte : (p : Pod) (b : ℕ) → SameByte p b → TwelveCalls p → ⊥
   pub keeps-cells : (p : Pod) → KeepsCells p → TwelveCalls p → ⊥
   pub only-once : (p : Pod) → OnlyOnce p → TwelveCalls p → ⊥
-
--- how many bytes an accepted frame of n bytes drives
-unfoldable pub drivenBytes : Command → ℕ → ℕ
-drivenBytes WriteEnable n = 0
-drivenBytes WriteDisable n = 0
-drivenBytes ReadStatus n = n - 1
-drivenBytes WriteStatus n = 0
-drivenBytes Read n = n - 4
-drivenBytes FastRead n = n - 5
-drivenBytes EraseSector n = 0
-drivenBytes EraseBlock n = 0
-drivenBytes EraseChip n = 0
-drivenBytes Program n = 0
-drivenBytes ReadId n = n - 1
-drivenBytes Wake n = n - 4
-drivenBytes ReadMaker n = n - 4
-drivenBytes Sleep n = 0
-drivenBytes Unknown n = 0
 
 -- a made-up number of driven bytes falls: what satisfies the contract of a frame drives as many as the command and the length say
 abbrev pub NumberFixed : Type 0
