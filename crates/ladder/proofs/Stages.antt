@@ -39,9 +39,9 @@ joined (r ∷ rs) ys h = go (r .bad) (joined rs ys (k .1))
 pub one-table : (rec : Record) (s : State) (cells : ℕ) (h : Head) (room : ℕ)
     → (let k : Traits = traitsOf (h .command) in
     refusalOf rec s cells h room
-    ≡ cond (isDone (givenOf rec s cells h room k))
+    ≡ cond (isDone (givenOf rec s cells h room))
     (cond (isDone (heardOf rec s cells h room k)) (allowedOf rec s cells h room k) (heardOf rec s cells h room k))
-    (givenOf rec s cells h room k))
+    (givenOf rec s cells h room))
 unfolding refusalOf givenOf heardOf allowedOf
 one-table rec s cells h room =
     let rows = ladder rec s cells h room (traitsOf (h .command)) in
@@ -55,13 +55,13 @@ module _ (rec : Record) (s : State) (cells : ℕ) (h : Head) (room : ℕ) where
   abbrev k : Traits
   k = traitsOf (h .command)
 
-  pub stops-given : isDone (givenOf rec s cells h room k) ≡ false → refusalOf rec s cells h room ≡ givenOf rec s cells h room k
+  pub stops-given : isDone (givenOf rec s cells h room) ≡ false → refusalOf rec s cells h room ≡ givenOf rec s cells h room
   stops-given e = one-table rec s cells h room ∙ rw e
 
-  pub stops-heard : isDone (givenOf rec s cells h room k) ≡ true → isDone (heardOf rec s cells h room k) ≡ false → refusalOf rec s cells h room ≡ heardOf rec s cells h room k
+  pub stops-heard : isDone (givenOf rec s cells h room) ≡ true → isDone (heardOf rec s cells h room k) ≡ false → refusalOf rec s cells h room ≡ heardOf rec s cells h room k
   stops-heard e f = one-table rec s cells h room ∙ rw (e, f)
 
-  pub goes-on : isDone (givenOf rec s cells h room k) ≡ true → isDone (heardOf rec s cells h room k) ≡ true → refusalOf rec s cells h room ≡ allowedOf rec s cells h room k
+  pub goes-on : isDone (givenOf rec s cells h room) ≡ true → isDone (heardOf rec s cells h room k) ≡ true → refusalOf rec s cells h room ≡ allowedOf rec s cells h room k
   goes-on e f = one-table rec s cells h room ∙ rw (e, f)
 
 -- a command that needs no WEL is stopped by none of the last three rows

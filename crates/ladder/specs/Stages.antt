@@ -2,6 +2,7 @@
 -- Assumes nothing.
 use Prim.Native.Nat.{ℕ}
 use lib.ListN.{take, drop}
+use Rattle.rules.specs.Commands.{traitsOf}
 use Rattle.rules.specs.declared.Record.{Record}
 use Rattle.rules.specs.declared.State.{State}
 use Rattle.rules.specs.declared.Traits.{Traits}
@@ -9,8 +10,9 @@ use Rattle.rules.specs.declared.Answer.{Answer}
 use Rattle.ladder.specs.declared.Head.{Head}
 use Rattle.ladder.specs.Ladder.{firstOf, ladder}
 
-unfoldable pub givenOf : Record → State → ℕ → Head → ℕ → Traits → Answer
-givenOf rec s cells h room k = firstOf (take 5 (ladder rec s cells h room k))
+-- no row of the first five looks at the command
+unfoldable pub givenOf : Record → State → ℕ → Head → ℕ → Answer
+givenOf rec s cells h room = firstOf (take 5 (ladder rec s cells h room (traitsOf (h .command))))
 
 unfoldable pub heardOf : Record → State → ℕ → Head → ℕ → Traits → Answer
 heardOf rec s cells h room k = firstOf (take 5 (drop 5 (ladder rec s cells h room k)))

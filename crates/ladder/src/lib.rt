@@ -1,7 +1,6 @@
 // The refusals in their order. The stages are how; the one table of specs/Ladder.antt is what.
 ghost use mathlib.Core.Path.{_≡_};
-ghost use mathlib.Core.List.{_∷_, []};
-ghost use Rattle.ladder.specs.Ladder.{_gives_, firstOf, refusalOf};
+ghost use Rattle.ladder.specs.Ladder.{refusalOf};
 ghost use Rattle.ladder.specs.Stages.{givenOf, heardOf, allowedOf};
 use rules::Answer;
 use rules::Command;
@@ -19,76 +18,28 @@ pub struct Head {
     pub address: Address,
 }
 
-fn given_rungs(record: bool, array: bool, state: bool, frame: bool, out: bool) -> Answer
-    ensures { λ r. ⌜ r ≡ firstOf ((«record» gives Answer.BadRecord) ∷ (array gives Answer.BadArray) ∷ (state gives Answer.BadState) ∷ (frame gives Answer.BadFrame) ∷ (out gives Answer.ShortOut) ∷ []) ⌝ }
+// 1 to 5: what the call is given at all.
+fn given(rec: Record, st: State, cells: usize, head: Head, room: usize) -> Answer
+    ensures { λ r. ⌜ r ≡ givenOf rec st cells head room ⌝ }
 {
-    if record {
+    if !rules::record_ok(rec) {
         return Answer::BadRecord;
     }
-    if array {
+    let row = units::model_of(rec.model);
+    if cells != row.length as usize {
         return Answer::BadArray;
     }
-    if state {
+    if !rules::state_ok(rec, st) {
         return Answer::BadState;
     }
-    if frame {
+    let n = head.count;
+    if (65541 < n) | (7 < head.tail) {
         return Answer::BadFrame;
     }
-    if out {
+    if room < n {
         return Answer::ShortOut;
     }
     Answer::Done
-}
-
-fn heard_rungs(empty: bool, busy: bool, asleep: bool, unknown: bool, length: bool) -> Answer
-    ensures { λ r. ⌜ r ≡ firstOf ((empty gives Answer.Empty) ∷ (busy gives Answer.Busy) ∷ (asleep gives Answer.Asleep) ∷ (unknown gives Answer.NoCommand) ∷ (length gives Answer.BadLength) ∷ []) ⌝ }
-{
-    if empty {
-        return Answer::Empty;
-    }
-    if busy {
-        return Answer::Busy;
-    }
-    if asleep {
-        return Answer::Asleep;
-    }
-    if unknown {
-        return Answer::NoCommand;
-    }
-    if length {
-        return Answer::BadLength;
-    }
-    Answer::Done
-}
-
-fn allowed_rungs(latch: bool, lock: bool, guard: bool) -> Answer
-    ensures { λ r. ⌜ r ≡ firstOf ((latch gives Answer.NotEnabled) ∷ (lock gives Answer.Locked) ∷ (guard gives Answer.Protected) ∷ []) ⌝ }
-{
-    if latch {
-        return Answer::NotEnabled;
-    }
-    if lock {
-        return Answer::Locked;
-    }
-    if guard {
-        return Answer::Protected;
-    }
-    Answer::Done
-}
-
-// 1 to 5: what the call is given at all.
-fn given(rec: Record, st: State, cells: usize, head: Head, room: usize, t: Traits) -> Answer
-    ensures { λ r. ⌜ r ≡ givenOf rec st cells head room t ⌝ }
-{
-    let row = units::model_of(rec.model);
-    let n = head.count;
-    given_rungs(
-        !rules::record_ok(rec),
-        cells != row.length as usize,
-        !rules::state_ok(rec, st),
-        (65541 < n) | (7 < head.tail),
-        room < n,
-    )
 }
 
 // 10 to 14: whether the chip hears a frame of that command and length.
@@ -97,27 +48,41 @@ fn heard(rec: Record, st: State, cells: usize, head: Head, room: usize, t: Trait
 {
     let n = head.count;
     let tail = head.tail;
-    heard_rungs(
-        n == 0,
-        (st.busy != 0) & !t.while_busy,
-        st.asleep & !t.while_asleep,
-        !t.known,
-        !rules::length_ok(t, n, tail),
-    )
+    if n == 0 {
+        return Answer::Empty;
+    }
+    if (st.busy != 0) & !t.while_busy {
+        return Answer::Busy;
+    }
+    if st.asleep & !t.while_asleep {
+        return Answer::Asleep;
+    }
+    if !t.known {
+        return Answer::NoCommand;
+    }
+    if !rules::length_ok(t, n, tail) {
+        return Answer::BadLength;
+    }
+    Answer::Done
 }
 
 // 15 to 17: whether the chip may do it.
 fn allowed(rec: Record, st: State, cells: usize, head: Head, room: usize, t: Traits) -> Answer
     ensures { λ r. ⌜ r ≡ allowedOf rec st cells head room t ⌝ }
 {
+    if t.latch & !st.wel {
+        return Answer::NotEnabled;
+    }
+    if t.lock & (st.srwd & !head.wp) {
+        return Answer::Locked;
+    }
     let model = rec.model;
     let bp = st.bp;
     let at = head.address;
-    allowed_rungs(
-        t.latch & !st.wel,
-        t.lock & (st.srwd & !head.wp),
-        (t.unit & units::is_protected(model, bp, at.in_block())) | (t.whole & (bp != 0)),
-    )
+    if (t.unit & units::is_protected(model, bp, at.in_block())) | (t.whole & (bp != 0)) {
+        return Answer::Protected;
+    }
+    Answer::Done
 }
 
 // The first refusal that applies, and Done where none does: for a frame that is given an array of so many cells and an output of so
@@ -125,12 +90,12 @@ fn allowed(rec: Record, st: State, cells: usize, head: Head, room: usize, t: Tra
 pub fn refusal(rec: Record, st: State, cells: usize, head: Head, room: usize) -> Answer
     ensures { λ r. ⌜ r ≡ refusalOf rec st cells head room ⌝ }
 {
-    let command = head.command;
-    let t = rules::traits_of(command);
-    let first = given(rec, st, cells, head, room, t);
+    let first = given(rec, st, cells, head, room);
     if !rules::is_done(first) {
         return first;
     }
+    let command = head.command;
+    let t = rules::traits_of(command);
     let second = heard(rec, st, cells, head, room, t);
     if !rules::is_done(second) {
         return second;

@@ -11,52 +11,44 @@ use borrow.Author.Needs.{needs}
 use Rattle.ladder.proofs.refusal.Statement.{statement}
 use Rattle.ladder.proofs.refusal.Tie as tie
 
+-- the first stage passed
+first : (c : tie.Else1) → (let a = c .before .before .before .args in isDone (givenOf (a .rec) (a .st) (a .cells) (a .head) (a .room)) ≡ true)
+first c = sym (ap isDone (c .before .before .given .ensures)) ∙ sym (c .before .is-done .ensures) ∙ not-false _ (c .if1 .left)
+
+-- what the second stage says
+second : (c : tie.After-heard) → (let a = c .before .before .before .before .before .args in c .heard .result ≡ heardOf (a .rec) (a .st) (a .cells) (a .head) (a .room) (traitsOf (a .head .command)))
+second c = let a = c .before .before .before .before .before .args in c .heard .ensures ∙ ap (heardOf (a .rec) (a .st) (a .cells) (a .head) (a .room)) (c .before .traits-of .ensures)
+
+heard : (c : tie.Else2) → (let a = c .before .before .before .before .before .before .before .args in isDone (heardOf (a .rec) (a .st) (a .cells) (a .head) (a .room) (traitsOf (a .head .command))) ≡ true)
+heard c = sym (ap isDone (second (c .before .before))) ∙ sym (c .before .is-done2 .ensures) ∙ not-false _ (c .if2 .left)
+
 returns : tie.Need-returns
 returns c =
-    let a = c .before .before .before .before .args in
-    let first : c .before .before .given .result ≡ givenOf (a .rec) (a .st) (a .cells) (a .head) (a .room) (traitsOf (a .head .command)) = c .before .before .given .ensures ∙ ap (givenOf (a .rec) (a .st) (a .cells) (a .head) (a .room)) (c .before .before .before .traits-of .ensures) in
-    let stopped : isDone (givenOf (a .rec) (a .st) (a .cells) (a .head) (a .room) (traitsOf (a .head .command))) ≡ false = sym (ap isDone first) ∙ sym (c .before .is-done .ensures) ∙ not-true _ (c .if1 .taken) in
-    first ∙ sym (stops-given (a .rec) (a .st) (a .cells) (a .head) (a .room) stopped)
+    let a = c .before .before .before .args in
+    c .before .before .given .ensures
+    ∙ sym (stops-given (a .rec) (a .st) (a .cells) (a .head) (a .room) (sym (ap isDone (c .before .before .given .ensures)) ∙ sym (c .before .is-done .ensures) ∙ not-true _ (c .if1 .taken)))
 
 returns-2 : tie.Need-returns-2
 returns-2 c =
     let a = c .before .before .before .before .before .before .before .args in
-    let first : c .before .before .before .before .before .given .result ≡ givenOf (a .rec) (a .st) (a .cells) (a .head) (a .room) (traitsOf (a .head .command)) = c .before .before .before .before .before .given .ensures ∙ ap (givenOf (a .rec) (a .st) (a .cells) (a .head) (a .room)) (c .before .before .before .before .before .before .traits-of .ensures) in
-    let passed : isDone (givenOf (a .rec) (a .st) (a .cells) (a .head) (a .room) (traitsOf (a .head .command))) ≡ true = sym (ap isDone first) ∙ sym (c .before .before .before .before .is-done .ensures) ∙ not-false _ (c .before .before .before .if1 .left) in
-    let second : c .before .before .heard .result ≡ heardOf (a .rec) (a .st) (a .cells) (a .head) (a .room) (traitsOf (a .head .command)) = c .before .before .heard .ensures ∙ ap (heardOf (a .rec) (a .st) (a .cells) (a .head) (a .room)) (c .before .before .before .before .before .before .traits-of .ensures) in
-    let stopped : isDone (heardOf (a .rec) (a .st) (a .cells) (a .head) (a .room) (traitsOf (a .head .command))) ≡ false = sym (ap isDone second) ∙ sym (c .before .is-done2 .ensures) ∙ not-true _ (c .if2 .taken) in
-    second ∙ sym (stops-heard (a .rec) (a .st) (a .cells) (a .head) (a .room) passed stopped)
+    let s = second (c .before .before) in
+    s ∙ sym (stops-heard (a .rec) (a .st) (a .cells) (a .head) (a .room) (first (c .before .before .before .before)) (sym (ap isDone s) ∙ sym (c .before .is-done2 .ensures) ∙ not-true _ (c .if2 .taken)))
 
 returns-3 : tie.Need-returns-3
 returns-3 c =
-    let a = c .before .before .before .before .before .before .before .before .before .args in
-    let first : c .before .before .before .before .before .before .before .given .result ≡ givenOf (a .rec) (a .st) (a .cells) (a .head) (a .room) (traitsOf (a .head .command)) = c .before .before .before .before .before .before .before .given .ensures ∙ ap (givenOf (a .rec) (a .st) (a .cells) (a .head) (a .room)) (c .before .before .before .before .before .before .before .before .traits-of .ensures) in
-    let passed : isDone (givenOf (a .rec) (a .st) (a .cells) (a .head) (a .room) (traitsOf (a .head .command))) ≡ true = sym (ap isDone first) ∙ sym (c .before .before .before .before .before .before .is-done .ensures) ∙ not-false _ (c .before .before .before .before .before .if1 .left) in
-    let second : c .before .before .before .before .heard .result ≡ heardOf (a .rec) (a .st) (a .cells) (a .head) (a .room) (traitsOf (a .head .command)) = c .before .before .before .before .heard .ensures ∙ ap (heardOf (a .rec) (a .st) (a .cells) (a .head) (a .room)) (c .before .before .before .before .before .before .before .before .traits-of .ensures) in
-    let heard : isDone (heardOf (a .rec) (a .st) (a .cells) (a .head) (a .room) (traitsOf (a .head .command))) ≡ true = sym (ap isDone second) ∙ sym (c .before .before .before .is-done2 .ensures) ∙ not-false _ (c .before .before .if2 .left) in
-    c .allowed .ensures ∙ ap (allowedOf (a .rec) (a .st) (a .cells) (a .head) (a .room)) (c .before .before .before .before .before .before .before .before .traits-of .ensures) ∙ sym (goes-on (a .rec) (a .st) (a .cells) (a .head) (a .room) passed heard)
+    let e = c .before .before in
+    let a = e .before .before .before .before .before .before .before .args in
+    c .allowed .ensures ∙ ap (allowedOf (a .rec) (a .st) (a .cells) (a .head) (a .room)) (e .before .before .before .traits-of .ensures)
+    ∙ sym (goes-on (a .rec) (a .st) (a .cells) (a .head) (a .room) (first (e .before .before .before .before)) (heard e))
 
 returns-4 : tie.Need-returns-4
 returns-4 c =
-    let a = c .before .before .before .before .before .before .before .before .args in
-    let first : c .before .before .before .before .before .before .given .result ≡ givenOf (a .rec) (a .st) (a .cells) (a .head) (a .room) (traitsOf (a .head .command)) = c .before .before .before .before .before .before .given .ensures ∙ ap (givenOf (a .rec) (a .st) (a .cells) (a .head) (a .room)) (c .before .before .before .before .before .before .before .traits-of .ensures) in
-    let passed : isDone (givenOf (a .rec) (a .st) (a .cells) (a .head) (a .room) (traitsOf (a .head .command))) ≡ true = sym (ap isDone first) ∙ sym (c .before .before .before .before .before .is-done .ensures) ∙ not-false _ (c .before .before .before .before .if1 .left) in
-    let second : c .before .before .before .heard .result ≡ heardOf (a .rec) (a .st) (a .cells) (a .head) (a .room) (traitsOf (a .head .command)) = c .before .before .before .heard .ensures ∙ ap (heardOf (a .rec) (a .st) (a .cells) (a .head) (a .room)) (c .before .before .before .before .before .before .before .traits-of .ensures) in
-    let heard : isDone (heardOf (a .rec) (a .st) (a .cells) (a .head) (a .room) (traitsOf (a .head .command))) ≡ true = sym (ap isDone second) ∙ sym (c .before .before .is-done2 .ensures) ∙ not-false _ (c .before .if2 .left) in
-    let off : traitsOf (a .head .command) .latch ≡ false = sym (ap (λ (t : Traits). t .latch) (c .before .before .before .before .before .before .before .traits-of .ensures)) ∙ c .if3 .left in
-    sym (goes-on (a .rec) (a .st) (a .cells) (a .head) (a .room) passed heard ∙ harmless (a .rec) (a .st) (a .cells) (a .head) (a .room) (a .head .command) off)
+    let e = c .before in
+    let a = e .before .before .before .before .before .before .before .args in
+    let off : traitsOf (a .head .command) .latch ≡ false = sym (ap (λ (t : Traits). t .latch) (e .before .before .before .traits-of .ensures)) ∙ c .if3 .left in
+    sym (goes-on (a .rec) (a .st) (a .cells) (a .head) (a .room) (first (e .before .before .before .before)) (heard e) ∙ harmless (a .rec) (a .st) (a .cells) (a .head) (a .room) (a .head .command) off)
 
 pub refusal-spec : {M : Type 1} → statement M
 refusal-spec =
     tie.close
-    (tie.spec
-    (λ c κs. search needs)
-    (λ c κs. search needs)
-    (λ c κs. search needs)
-    returns
-    (λ c κs. search needs)
-    (λ c κs. search needs)
-    returns-2
-    (λ c κs. search needs)
-    returns-3
-    returns-4)
+    (tie.spec (λ c κs. search needs) (λ c κs. search needs) returns (λ c κs. search needs) (λ c κs. search needs) (λ c κs. search needs) returns-2 (λ c κs. search needs) returns-3 returns-4)
