@@ -4,7 +4,7 @@ use mathlib.Core.List.{List}
 use Prim.Native.Nat.{ℕ, zero, suc, _+_, _%_}
 use lib.Dec.{eqb}
 use lib.ListN.{length, getD}
-use Rattle.cells.specs.Cell.{FF, erased, programmedCell}
+use Rattle.cells.specs.Cell.{FF, programmedCell}
 use Rattle.cells.specs.Parts.{byIndex}
 
 -- of the first n bytes sent, from offset a on, the one that counts at offset k: the last whose offset (a + i) mod 256 is k; FF where none is
@@ -19,7 +19,3 @@ cellAfter a sent k old = programmedCell old (counts a sent (length sent) k)
 -- the page after the program, offset by offset
 unfoldable pub pageAfter : ℕ → List ℕ → List ℕ → List ℕ
 pageAfter a sent page = byIndex (cellAfter a sent) page
-
--- the bytes that count, one for each offset of a page
-unfoldable pub folded : ℕ → List ℕ → List ℕ
-folded a sent = byIndex (λ (k old : ℕ). counts a sent (length sent) k) (erased 256)

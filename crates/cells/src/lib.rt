@@ -7,8 +7,8 @@ ghost use Prim.Native.Nat.{_+_, _-_, _%_, _≤_, _<_};
 ghost use lib.ListN.{length, replicate};
 ghost use Rattle.units.specs.Kinds.{sectorStart, blockStart, pageStart};
 ghost use Rattle.cells.specs.Parts.{lay};
-ghost use Rattle.cells.specs.Cell.{erased, anded};
-ghost use Rattle.cells.specs.Fold.{pageAfter, folded};
+ghost use Rattle.cells.specs.Cell.{anded};
+ghost use Rattle.cells.specs.Fold.{pageAfter};
 ghost use Rattle.cells.specs.Ring.{ring};
 ghost use Rattle.cells.specs.Arrays.{sectorErased, blockErased, allErased, programmed, pageOf};
 
@@ -76,24 +76,23 @@ fn program_page(page: &mut [u8], offset: u8, sent: &[u8])
     }
 }
 
-// The same, of at most 256 bytes: through a copy that holds the byte that counts at each offset.
+// The same, of at most 256 bytes: a run to the page's end, and what goes beyond it from the page's start.
 fn fold_in(page: &mut [u8], offset: u8, sent: &[u8])
     requires { ⌜ (length (now page) ≡ 256) × (length (now sent) ≤ 256) ⌝ }
     ensures { λ _. ⌜ now (page .exit) ≡ pageAfter offset (now (sent .entry)) (now (page .entry)) ⌝ }
 {
-    let mut copy = [0xFFu8; 256];
-    fold_over(&mut copy, offset, sent);
-    and_into(page, &copy);
-}
-
-// Puts each byte sent at its offset of a page that is all FF, a later one over an earlier one.
-fn fold_over(page: &mut [u8], offset: u8, sent: &[u8])
-    requires { ⌜ now page ≡ erased 256 ⌝ }
-    ensures { λ _. ⌜ now (page .exit) ≡ folded offset (now (sent .entry)) ⌝ }
-{
     let start = offset as usize;
-    for i in 0..sent.len() {
-        page[(start + i) % 256] = sent[i];
+    let n = sent.len();
+    let room = 256 - start;
+    if n <= room {
+        let end = start + n;
+        and_into(&mut page[start..end], sent);
+    } else {
+        let end = start + room;
+        let rest = n - room;
+        let last = room + rest;
+        and_into(&mut page[start..end], &sent[0..room]);
+        and_into(&mut page[0..rest], &sent[room..last]);
     }
 }
 
