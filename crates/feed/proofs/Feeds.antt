@@ -11,8 +11,8 @@ use Rattle.text.specs.Put.{Put}
 use Rattle.text.proofs.PutLaws.{put-none, put-as, put-then, put-same}
 use Rattle.lines.specs.Lines.{linesFrom, lastLine}
 use Rattle.lines.specs.Cutting.{Holds}
-use Rattle.play.specs.declared.Logged.{Logged}
-use Rattle.play.specs.Play.{rowText, Logs, logFrom}
+use Rattle.stepper.specs.declared.Logged.{Logged}
+use Rattle.stepper.specs.Rows.{rowText, Logs, logFrom}
 use Rattle.feed.specs.declared.Run.{Run}
 use Rattle.feed.specs.Feed.{Start, Ready, Did, Turned, Fed, Finished}
 use Rattle.feed.proofs.Turns.{clip-row}

@@ -22,8 +22,9 @@ use Rattle.lines.specs.declared.Cut.the-variants.{Here, Joined, Open}
 use Rattle.lines.specs.Lines.{linesFrom}
 use Rattle.lines.specs.Cutting.{firstLine, cutOf, heldOf, Cuts, Holds}
 use Rattle.lines.proofs.Says.{holds-none, length-held, here-in, joined-in, open-in, says-here, says-joined, says-open}
-use Rattle.play.specs.declared.Logged.{Logged}
-use Rattle.play.specs.Play.{Turn, turnOf, playOf, lineTurn, rowText, Logs, next, logFrom}
+use Rattle.stepper.specs.declared.Logged.{Logged}
+use Rattle.play.specs.Play.{Turn, turnOf, playOf}
+use Rattle.stepper.specs.Rows.{lineTurn, rowText, Logs, next, logFrom}
 use Rattle.feed.specs.declared.Run.{Run}
 use Rattle.feed.specs.Feed.{Ready, Goes, Did, Turned}
 

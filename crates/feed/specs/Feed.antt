@@ -7,8 +7,8 @@ use Rattle.rules.specs.declared.Record.{Record}
 use Rattle.text.specs.Put.{Put}
 use Rattle.lines.specs.Lines.{linesFrom, lastLine}
 use Rattle.lines.specs.Cutting.{Holds}
-use Rattle.play.specs.declared.Logged.{Logged}
-use Rattle.play.specs.Play.{next, logFrom}
+use Rattle.stepper.specs.declared.Logged.{Logged}
+use Rattle.stepper.specs.Rows.{next, logFrom}
 use Rattle.feed.specs.declared.Run.{Run}
 
 -- where a feed starts

@@ -6,7 +6,7 @@ use lib.ListN.{length, drop}
 use Rattle.rules.specs.declared.Record.{Record}
 use Rattle.rules.specs.declared.State.{State}
 use Rattle.lines.specs.Lines.{linesFrom, linesOf, lastLine}
-use Rattle.play.specs.Play.{logFrom}
+use Rattle.stepper.specs.Rows.{logFrom}
 
 -- where a run stands: the chip's state and array, the number of the next line, and what there is of that line
 pub record Point : Type 0 where

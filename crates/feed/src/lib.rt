@@ -4,9 +4,9 @@ ghost use Prim.Native.Nat.{_+_, _≤_, _<_};
 ghost use lib.ListN.{length};
 ghost use Rattle.feed.specs.Feed.{Start, Ready, Goes, Turned, Fed, Finished};
 use lines::Cut;
-use play::Logged;
 use rules::Record;
 use rules::State;
+use stepper::Logged;
 
 // What goes on from line to line: the chip's state, the number of the next line, how many bytes of it are held from the blocks before,
 // the place in the block, and how much of the log is filled.
@@ -52,11 +52,11 @@ fn turn(
     let cut = lines::cut_line(held, used, block, at);
     match cut {
         Cut::Here { end } => {
-            let done = play::log_line(number, &block[at..end], rec, chip, array, log, filled);
+            let done = stepper::log_line(number, &block[at..end], rec, chip, array, log, filled);
             line_done(done, number, end + 1)
         }
         Cut::Joined { used: n, end } => {
-            let done = play::log_line(number, &held[0..n], rec, chip, array, log, filled);
+            let done = stepper::log_line(number, &held[0..n], rec, chip, array, log, filled);
             line_done(done, number, end + 1)
         }
         Cut::Open { used: n } => Run {
@@ -105,6 +105,6 @@ pub fn finish(run: Run, rec: Record, held: &[u8], array: &mut [u8], log: &mut [u
     if used == 0 {
         return filled;
     }
-    let done = play::log_line(run.number, &held[0..used], rec, chip, array, log, filled);
+    let done = stepper::log_line(run.number, &held[0..used], rec, chip, array, log, filled);
     done.next
 }

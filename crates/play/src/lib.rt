@@ -1,10 +1,8 @@
-// A script line played on the chip, and its row of the log.
+// A script line played on the chip.
 ghost use mathlib.Core.Path.{_≡_};
-ghost use Prim.Native.Nat.{_+_, _≤_};
-ghost use lib.ListN.{length};
 ghost use Rattle.chip.specs.Time.{waitOf, powerOf};
 ghost use Rattle.script.specs.Reading.{lineOf};
-ghost use Rattle.play.specs.Play.{Plays, passedOf, frameTurn, playOf, Logs};
+ghost use Rattle.play.specs.Play.{Plays, passedOf, frameTurn, playOf};
 use chip::After;
 use rules::Record;
 use rules::State;
@@ -44,9 +42,9 @@ fn play_frame(
 ) -> Played
     ensures { λ r. ⌜ Plays (frameTurn rec st (now (array .entry)) (now (shown .entry)) (now (line .entry)) wp tail) r (now (array .exit)) (now (shown .exit)) ⌝ }
 {
-    let mut frame = [0u8; 300];
-    let n = script::frame_bytes(line, &mut frame);
-    let r = stepper::stepped(st, rec, array, &frame[0..n], tail as u32, wp, shown);
+    let mut sent = [0u8; 300];
+    let n = script::frame_bytes(line, &mut sent);
+    let r = chip::frame(rec, st, array, &sent[0..n], tail as u32, wp, shown);
     let answer = r.answer;
     let state = r.state;
     Played {
@@ -64,8 +62,8 @@ pub fn play(line: &[u8], rec: Record, st: State, array: &mut [u8], shown: &mut [
     let said = script::read_line(line);
     match said {
         Line::Frame { wp, tail, count: _ } => play_frame(line, wp, tail, rec, st, array, shown),
-        Line::Wait(us) => passed(stepper::waited(st, rec, us)),
-        Line::Power => passed(stepper::cycled(st, rec)),
+        Line::Wait(us) => passed(chip::wait(rec, st, us)),
+        Line::Power => passed(chip::power_cycle(rec, st)),
         Line::Bad => Played {
             answer: 20,
             from: 0,
@@ -73,32 +71,4 @@ pub fn play(line: &[u8], rec: Record, st: State, array: &mut [u8], shown: &mut [
             state: st,
         },
     }
-}
-
-// The place past the row, and the state after.
-pub struct Logged {
-    pub next: usize,
-    pub state: State,
-}
-
-// Plays a line and puts its row into the log from `at` on, which has room for the longest row.
-pub fn log_line(
-    number: u64,
-    line: &[u8],
-    rec: Record,
-    st: State,
-    array: &mut [u8],
-    log: &mut [u8],
-    at: usize,
-) -> Logged
-    requires { ⌜ at + 665 ≤ length (now log) ⌝ }
-    ensures { λ r. ⌜ Logs rec st (now (array .entry)) number (now (line .entry)) (now (log .entry)) at r (now (array .exit)) (now (log .exit)) ⌝ }
-{
-    let mut shown = [0u8; 300];
-    let p = play(line, rec, st, array, &mut shown);
-    let from = p.from as usize;
-    let end = from + p.count as usize;
-    let next = log::put_row(number, p.answer, p.from, &shown[from..end], log, at);
-    let state = p.state;
-    Logged { next, state }
 }

@@ -16,13 +16,13 @@ returns-2 : tie.Need-returns-2
 unfolding turnOf
 returns-2 c =
     let a = c .before .before .before .before .before .before .before .before .before .args in
-    at-line (a .rec) (a .st) (a .array .now) (a .shown .now) (a .line .now) (c .before .before .before .before .before .read-line .ensures .is) _ (c .before .before .before .said2 .given .1) (record { played = c .passed .ensures ∙ ap passedOf (c .before .waited .ensures); cells = refl; shown = refl })
+    at-line (a .rec) (a .st) (a .array .now) (a .shown .now) (a .line .now) (c .before .before .before .before .before .read-line .ensures .is) _ (c .before .before .before .said2 .given .1) (record { played = c .passed .ensures ∙ ap passedOf (c .before .wait .ensures); cells = refl; shown = refl })
 
 returns-3 : tie.Need-returns-3
 unfolding turnOf
 returns-3 c =
     let a = c .before .before .before .before .before .before .before .before .args in
-    at-line (a .rec) (a .st) (a .array .now) (a .shown .now) (a .line .now) (c .before .before .before .before .read-line .ensures .is) _ (c .before .before .enum-told .given .1) (record { played = c .passed2 .ensures ∙ ap passedOf (c .before .cycled .ensures); cells = refl; shown = refl })
+    at-line (a .rec) (a .st) (a .array .now) (a .shown .now) (a .line .now) (c .before .before .before .before .read-line .ensures .is) _ (c .before .before .enum-told .given .1) (record { played = c .passed2 .ensures ∙ ap passedOf (c .before .power-cycle .ensures); cells = refl; shown = refl })
 
 returns-4 : tie.Need-returns-4
 unfolding turnOf

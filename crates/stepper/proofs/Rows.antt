@@ -1,0 +1,62 @@
+-- The row of a line that was played. Assumes nothing.
+use mathlib.Core.Path.{_≡_, ap, subst, _∙_}
+use mathlib.Core.Bool.{true}
+use mathlib.Core.List.{List}
+use Prim.Native.Nat.{ℕ, _+_, _-_, _≤_}
+use native.Mathlib.Omega.{arith}
+use lib.Dec.{leb}
+use lib.ListN.{length, take, drop, replicate, length-take, length-drop}
+use borrow.Author.Tests.{le-leb}
+use Rattle.cells.specs.Parts.{part}
+use Rattle.rules.specs.declared.Record.{Record}
+use Rattle.rules.specs.declared.State.{State}
+use Rattle.text.specs.Put.{Put}
+use Rattle.log.specs.Row.{logText, roomOf, Rowed}
+use Rattle.log.proofs.Laws.{row-most}
+use Rattle.play.specs.declared.Played.{Played}
+use Rattle.play.specs.Play.{Plays}
+use Rattle.play.proofs.Laws.{played-within}
+use Rattle.stepper.specs.Rows.{lineTurn, rowText, Logs}
+
+pub row-logs : (rec : Record) (s : State) (cells : List ℕ) (number : ℕ) (line d : List ℕ) (at : ℕ) {r : Played} {next : ℕ} {xs os e : List ℕ} → at + 665 ≤ length d
+    → Plays (lineTurn rec s cells line) r xs os → length os ≡ 300
+    → Rowed (roomOf (length (take (r .from + r .count - r .from) (drop (r .from) os)))) (logText number (r .answer) (r .from) (take (r .from + r .count - r .from) (drop (r .from) os))) d at e next
+    → Logs rec s cells number line d at (record { next = next; state = r .state }) xs e
+unfolding rowText
+row-logs rec s cells number line d at {r} {next} {xs} {os} {e} room p l w =
+    record {
+      row = subst (λ (z : List ℕ). Put z d at e next) text put;
+      most = omega (arith, put .next, few, long);
+      state = ap (λ (q : Played). q .state) (p .played);
+      cells′ = p .cells;
+    }
+  where
+    shown : List ℕ
+    shown = take (r .from + r .count - r .from) (drop (r .from) os)
+
+    within : r .from + r .count ≤ 300
+    within = played-within rec s cells (replicate 300 0) line (p .played)
+
+    long : length shown ≤ 300
+    long = omega (arith, length-take (r .from + r .count - r .from) (drop (r .from) os), length-drop (r .from) os)
+
+    few : length (logText number (r .answer) (r .from) shown) ≤ roomOf (length shown)
+    few = row-most number (r .answer) (r .from) shown
+
+    fits : leb (at + roomOf (length shown)) (length d) ≡ true
+    fits = le-leb (at + roomOf (length shown)) (length d) (omega (arith, long))
+
+    put : Put (logText number (r .answer) (r .from) shown) d at e next
+    put =
+        record {
+          room = omega (arith, few, long);
+          is = w .is ∙ rw fits;
+          next = w .next ∙ rw fits;
+        }
+
+    text : logText number (r .answer) (r .from) shown ≡ logText number (lineTurn rec s cells line .played .answer) (lineTurn rec s cells line .played .from) (part (lineTurn rec s cells line .shown) (lineTurn rec s cells line .played .from) (lineTurn rec s cells line .played .count))
+    text =
+        let k : r .from + r .count - r .from ≡ r .count = omega arith in
+        ap (λ (n : ℕ). logText number (r .answer) (r .from) (take n (drop (r .from) os))) k
+        ∙ ap (λ (z : List ℕ). logText number (r .answer) (r .from) (part z (r .from) (r .count))) (p .shown)
+        ∙ ap (λ (q : Played). logText number (q .answer) (q .from) (part (lineTurn rec s cells line .shown) (q .from) (q .count))) (p .played)
