@@ -2,7 +2,7 @@
 ghost use mathlib.Core.Path.{_≡_};
 ghost use Prim.Native.Nat.{_+_, _≤_, _<_};
 ghost use lib.ListN.{length};
-ghost use Rattle.feed.specs.Feed.{Start, Ready, Goes, Turned, Fed, Finished};
+ghost use Rattle.feed.specs.Feed.{Start, Ready, goesOn, standing, feedTurn, feedOf, lastOf, Stands, Ends};
 use lines::Cut;
 use rules::Record;
 use rules::State;
@@ -20,7 +20,7 @@ pub struct Run {
 
 // After a line: nothing is held, and the next line has the next number.
 fn line_done(done: Logged, number: u64, at: usize) -> Run
-    ensures { λ r. ⌜ Goes done number at r ⌝ }
+    ensures { λ r. ⌜ r ≡ goesOn done number at ⌝ }
 {
     let chip = done.state;
     Run {
@@ -42,7 +42,7 @@ fn turn(
     log: &mut [u8],
 ) -> Run
     requires { ⌜ Ready run (now held) (now block) (now log) ⌝ }
-    ensures { λ r. ⌜ Turned rec run (now (held .entry)) (now (block .entry)) (now (array .entry)) (now (log .entry)) r (now (held .exit)) (now (array .exit)) (now (log .exit)) ⌝ }
+    ensures { λ r. ⌜ Stands (feedTurn rec (now (block .entry)) (standing run (now (held .entry)) (now (array .entry)) (now (log .entry)))) r (now (held .exit)) (now (array .exit)) (now (log .exit)) ⌝ }
 {
     let chip = run.chip;
     let number = run.number;
@@ -79,7 +79,7 @@ pub fn feed(
     log: &mut [u8],
 ) -> Run
     requires { ⌜ Start first (now held) (now block) (now log) ⌝ }
-    ensures { λ r. ⌜ Fed rec first (now (held .entry)) (now (block .entry)) (now (array .entry)) (now (log .entry)) r (now (held .exit)) (now (array .exit)) (now (log .exit)) ⌝ }
+    ensures { λ r. ⌜ Stands (feedOf rec (now (block .entry)) (standing first (now (held .entry)) (now (array .entry)) (now (log .entry)))) r (now (held .exit)) (now (array .exit)) (now (log .exit)) ⌝ }
 {
     let mut run = first;
     let mut at = first.at;
@@ -97,7 +97,7 @@ pub fn feed(
 // The input has ended: a line that is held is the last one. How much of the log is filled comes back.
 pub fn finish(run: Run, rec: Record, held: &[u8], array: &mut [u8], log: &mut [u8]) -> usize
     requires { ⌜ (length (now held) ≡ 641) × (run .used ≤ 641) × (run .filled + 665 ≤ length (now log)) ⌝ }
-    ensures { λ r. ⌜ Finished rec run (now (held .entry)) (now (array .entry)) (now (log .entry)) r (now (log .exit)) ⌝ }
+    ensures { λ r. ⌜ Ends (lastOf rec (standing run (now (held .entry)) (now (array .entry)) (now (log .entry)))) r (now (array .exit)) (now (log .exit)) ⌝ }
 {
     let used = run.used;
     let filled = run.filled;

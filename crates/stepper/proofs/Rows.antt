@@ -1,5 +1,5 @@
 -- The row of a line that was played. Assumes nothing.
-use mathlib.Core.Path.{_≡_, ap, subst, _∙_}
+use mathlib.Core.Path.{_≡_, refl, ap, subst, _∙_}
 use mathlib.Core.Bool.{true}
 use mathlib.Core.List.{List}
 use Prim.Native.Nat.{ℕ, _+_, _-_, _≤_}
@@ -14,7 +14,7 @@ use Rattle.text.specs.Put.{Put}
 use Rattle.log.specs.Row.{logText, roomOf, Rowed}
 use Rattle.log.proofs.Laws.{row-most}
 use Rattle.play.specs.declared.Played.{Played}
-use Rattle.play.specs.Play.{Plays}
+use Rattle.play.specs.Play.{Turn, Plays}
 use Rattle.play.proofs.Laws.{played-within}
 use Rattle.stepper.specs.Rows.{lineTurn, rowText, Logs}
 
@@ -60,3 +60,13 @@ row-logs rec s cells number line d at {r} {next} {xs} {os} {e} room p l w =
         ap (λ (n : ℕ). logText number (r .answer) (r .from) (take n (drop (r .from) os))) k
         ∙ ap (λ (z : List ℕ). logText number (r .answer) (r .from) (part z (r .from) (r .count))) (p .shown)
         ∙ ap (λ (q : Played). logText number (q .answer) (q .from) (part (lineTurn rec s cells line .shown) (q .from) (q .count))) (p .played)
+
+-- no row of a line is longer than 665 bytes
+pub row-short : (rec : Record) (s : State) (cells : List ℕ) (number : ℕ) (line : List ℕ) → length (rowText rec s cells number line) ≤ 665
+unfolding rowText
+row-short rec s cells number line =
+    let t : Turn = lineTurn rec s cells line in
+    let within : t .played .from + t .played .count ≤ 300 = played-within rec s cells (replicate 300 0) line refl in
+    let few = row-most number (t .played .answer) (t .played .from) (part (t .shown) (t .played .from) (t .played .count)) in
+    let long : length (part (t .shown) (t .played .from) (t .played .count)) ≤ t .played .count = omega (arith, length-take (t .played .count) (drop (t .played .from) (t .shown))) in
+    omega (arith, few, long, within)

@@ -35,3 +35,8 @@ abbrev pub logFrom : Record → State → List ℕ → ℕ → List (List ℕ) �
 logFrom rec s cells n [] = []
 logFrom rec s cells n (line ∷ lines) =
     let t : Turn = lineTurn rec s cells line in rowText rec s cells n line ++ logFrom rec (t .played .state) (t .cells) (next n) lines
+
+-- the array after them
+abbrev pub cellsFrom : Record → State → List ℕ → List (List ℕ) → List ℕ
+cellsFrom rec s cells [] = cells
+cellsFrom rec s cells (line ∷ lines) = let t : Turn = lineTurn rec s cells line in cellsFrom rec (t .played .state) (t .cells) lines

@@ -3,6 +3,7 @@ use Prim.Native.Nat.{_-_, _+_, _≤_, _<_}
 use native.Mathlib.Omega.{arith}
 use lib.ListN.{length}
 use borrow.Author.Needs.{needs}
+use Rattle.feed.proofs.Feeds.{stands-fed}
 use Rattle.runner.proofs.feed_block.Statement.{statement}
 use Rattle.runner.proofs.feed_block.Tie as tie
 use Rattle.runner.proofs.feed_block.Reads as reads
@@ -53,19 +54,21 @@ flush-requires c κs = search needs
 
 -- src/main.rt:74:13
 returns : tie.Need-returns Inv-loop μ-loop
-returns c = rw (c .before .before .before .before .emptied .ensures) (c .before .before .before .before .before .feed .ensures .used)
+returns c = rw (c .before .before .before .before .emptied .ensures) (stands-fed (c .before .before .before .before .before .feed .ensures) (search needs) .used)
 
 -- src/main.rt:69:5
 loop-less : tie.Need-loop-less Inv-loop μ-loop
 loop-less c =
     let h = c .before .before .before .before .before .before .before .before .before .before .loop in
     let n : length (h .log) ≡ 65536 = search needs in
-    let o = c .before .before .before .before .before .feed .ensures .on (omega (arith, h .inv .0)) (omega (arith, h .inv .3)) in
+    let o = stands-fed (c .before .before .before .before .before .feed .ensures) (search needs) .on (omega (arith, h .inv .0)) (omega (arith, h .inv .3)) in
     omega (arith, h .inv .0)
 
 -- src/main.rt:69:5
 loop-again : tie.Need-loop-again Inv-loop μ-loop
-loop-again c = rw (c .before .before .before .before .emptied .ensures) (refl, c .before .before .before .before .before .feed .ensures .inside, c .before .before .before .before .before .feed .ensures .used, refl)
+loop-again c =
+    let f = stands-fed (c .before .before .before .before .before .feed .ensures) (search needs) in
+    rw (c .before .before .before .before .emptied .ensures) (refl, f .inside, f .used, refl)
 
 -- src/main.rt:54:1
 returns-2 : tie.Need-returns-2 Inv-loop μ-loop
