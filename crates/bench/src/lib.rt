@@ -15,8 +15,8 @@ ghost use lib.ListN.{length};
 use libc::STDIN_FILENO;
 use libc::STDOUT_FILENO;
 use play::Played;
-use rules::Record;
-use rules::State;
+use states::Record;
+use states::State;
 use units::Address;
 
 // The chip on the bench: its model, the length of its array, the first of the cells that are looked at, and what the last step came to.
@@ -74,7 +74,7 @@ fn say_driven(from: u32, count: u32, out: &[u8]) {
 // The status byte, the deep power-down flag and the busy time.
 fn say_state(st: State) {
     if st.bp < 32 {
-        let byte = [rules::status(st)];
+        let byte = [states::status(st)];
         say_hex(&byte);
     }
     say(b"\t");
@@ -86,7 +86,7 @@ fn say_state(st: State) {
 fn say_cells(array: &[u8], look: u32) {
     if 0 < array.len() {
         let mut seen = [0u8; 8];
-        cells::read_part(array, Address(look), &mut seen, 0, 8);
+        flash::read_part(array, Address(look), &mut seen, 0, 8);
         say_hex(&seen);
     }
 }
@@ -122,9 +122,9 @@ fn number(high: u8, middle: u8, low: u8) -> u32
 // The bench record of the model; of a number that no model has, one with that number.
 fn record_of(model: u8) -> Record {
     if model == 2 {
-        return rules::bench_kh25l2006e();
+        return states::bench_kh25l2006e();
     }
-    let mut rec = rules::bench_kh25l512();
+    let mut rec = states::bench_kh25l512();
     rec.model = wide(model);
     rec
 }
@@ -140,8 +140,8 @@ fn set_to(state: State) -> Played {
 }
 
 fn fresh(model: u8, blocks: u8, array: &mut [u8]) -> Bench {
-    cells::erase_all(array);
-    let last = set_to(rules::power_on());
+    flash::erase_all(array);
+    let last = set_to(states::power_on());
     Bench {
         model,
         size: 65536 * wide(blocks) as usize,
@@ -182,7 +182,7 @@ fn send(
     let answer = r.answer;
     let state = r.state;
     Played {
-        answer: rules::number_of(answer),
+        answer: answers::number_of(answer),
         from: r.from,
         count: r.count,
         state,
@@ -192,7 +192,7 @@ fn send(
 // Eight bytes, and then one byte over and over.
 fn long_frame(says: &[u8; 16]) -> [u8; 65600] {
     let mut frame = [0u8; 65600];
-    cells::fill(&mut frame, says[7]);
+    parts::fill(&mut frame, says[7]);
     let all = &says[..];
     text::put_all(&all[8..16], &mut frame, 0);
     frame

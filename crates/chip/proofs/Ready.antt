@@ -14,35 +14,21 @@ use Rattle.units.specs.Kinds.{sectorOf, blockOf, pageStart, sectorStart, blockS
 use Rattle.units.specs.Models.{modelOf, addressOf}
 use Rattle.units.proofs.Bools.{both, either}
 use Rattle.units.proofs.Rules.{row-rules, units-inside}
-use Rattle.rules.specs.Answers.{isDone}
-use Rattle.rules.specs.Commands.{traitsOf, lengthOk}
-use Rattle.rules.specs.declared.Record.{Record}
-use Rattle.rules.specs.declared.State.{State}
-use Rattle.rules.specs.declared.Traits.{Traits}
-use Rattle.rules.specs.declared.Command.{Command}
-use Rattle.rules.specs.declared.Command.the-variants.{WriteEnable, WriteDisable, ReadStatus, WriteStatus, Read, FastRead, EraseSector, EraseBlock, EraseChip, Program, ReadId, Wake, ReadMaker, Sleep, Unknown}
-use Rattle.rules.specs.declared.Answer.{Answer}
-use Rattle.rules.proofs.States.{sound, highest-bp}
+use Rattle.answers.specs.Answers.{isDone}
+use Rattle.commands.specs.Commands.{traitsOf, lengthOk}
+use Rattle.states.specs.declared.Record.{Record}
+use Rattle.states.specs.declared.State.{State}
+use Rattle.commands.specs.declared.Traits.{Traits}
+use Rattle.commands.specs.declared.Command.{Command}
+use Rattle.commands.specs.declared.Command.the-variants.{WriteEnable, WriteDisable, ReadStatus, WriteStatus, Read, FastRead, EraseSector, EraseBlock, EraseChip, Program, ReadId, Wake, ReadMaker, Sleep, Unknown}
+use Rattle.answers.specs.declared.Answer.{Answer}
+use Rattle.states.proofs.States.{sound, highest-bp}
 use Rattle.ladder.specs.Ladder.{refusalOf}
 use Rattle.ladder.specs.declared.Head.{Head}
 use Rattle.ladder.proofs.Passed.{Passed, passed}
-use Rattle.chip.specs.declared.Reply.{Reply}
-use Rattle.chip.specs.Effects.{Gives, quiet, stateOnly}
+use Rattle.effects.specs.declared.Reply.{Reply}
+use Rattle.effects.specs.Effects.{Gives, quiet, stateOnly}
 use Rattle.chip.specs.Frames.{Room, Ready, fewest, headOf, acceptedOf, frameOf}
-
--- the units of an address of the array lie in it
-module _ (rec : Record) (cells : List ℕ) (at : Address) (h : at .0 < length cells) (e : length cells ≡ modelOf (rec .model) .length) where
-  below : at .0 < modelOf (rec .model) .length
-  below = omega arith
-
-  pub page-fits : pageStart at + 256 ≤ length cells
-  page-fits = omega (arith, units-inside (rec .model) at below .page)
-
-  pub sector-fits : (sectorOf at .0 < 1048576) × (sectorStart (sectorOf at) + 4096 ≤ length cells)
-  sector-fits = (omega (arith, row-rules (rec .model) .reach), omega (arith, units-inside (rec .model) at below .sector))
-
-  pub block-fits : (blockOf at .0 < 65536) × (blockStart (blockOf at) + 65536 ≤ length cells)
-  block-fits = (omega (arith, row-rules (rec .model) .reach), omega (arith, units-inside (rec .model) at below .block))
 
 -- an arm of the dispatch: what its command asks for and gives is what the command in hand does
 pub room-at : {c k : Command} {bytes out : List ℕ} → c ≡ k → Room (fewest (traitsOf c)) bytes out → Room (fewest (traitsOf k)) bytes out

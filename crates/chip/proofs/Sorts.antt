@@ -12,25 +12,25 @@ use Rattle.units.specs.declared.Address.{Address}
 use Rattle.units.specs.Kinds.{sectorOf, blockOf, pageStart, pageOffset, sectorStart, blockStart}
 use Rattle.units.specs.Models.{modelOf}
 use Rattle.units.proofs.Bools.{unless, only-if}
-use Rattle.cells.specs.Parts.{lay}
-use Rattle.cells.specs.Ring.{ring}
-use Rattle.cells.specs.Arrays.{sectorErased, blockErased, allErased, programmed}
-use Rattle.cells.specs.Sheet.{ErasesOnly}
-use Rattle.cells.proofs.Arrays.{length-sectorErased, length-blockErased, length-allErased, length-programmed, sector-erase, block-erase, chip-erase, outside-stays}
-use Rattle.rules.specs.Answers.{isDone}
-use Rattle.rules.specs.Commands.{traitsOf}
-use Rattle.rules.specs.States.{statusOf, longestOf}
-use Rattle.rules.specs.declared.Record.{Record}
-use Rattle.rules.specs.declared.State.{State}
-use Rattle.rules.specs.declared.Answer.the-variants.{Done}
-use Rattle.rules.specs.declared.Command.{Command}
-use Rattle.rules.specs.declared.Command.the-variants.{WriteEnable, WriteDisable, ReadStatus, WriteStatus, Read, FastRead, EraseSector, EraseBlock, EraseChip, Program, ReadId, Wake, ReadMaker, Sleep, Unknown}
-use Rattle.rules.proofs.States.{status-write-le, page-le, sector-le, block-le, chip-le}
-use Rattle.chip.specs.declared.Reply.{Reply}
-use Rattle.chip.specs.Effects.{Effect, Shown, Changed, shown, changed, stateOnly, quiet, drives, latched, dozing, working, written, idBytes, makerBytes, readStatus, readFrom, eraseSector, eraseBlock, eraseChip, programPage, readId, wake, readMaker}
+use Rattle.parts.specs.Parts.{lay}
+use Rattle.rings.specs.Ring.{ring}
+use Rattle.flash.specs.Arrays.{sectorErased, blockErased, allErased, programmed}
+use Rattle.flash.specs.Sheet.{ErasesOnly}
+use Rattle.flash.proofs.Arrays.{length-sectorErased, length-blockErased, length-allErased, length-programmed, sector-erase, block-erase, chip-erase, outside-stays}
+use Rattle.answers.specs.Answers.{isDone}
+use Rattle.commands.specs.Commands.{traitsOf}
+use Rattle.states.specs.States.{statusOf, longestOf}
+use Rattle.states.specs.declared.Record.{Record}
+use Rattle.states.specs.declared.State.{State}
+use Rattle.answers.specs.declared.Answer.the-variants.{Done}
+use Rattle.commands.specs.declared.Command.{Command}
+use Rattle.commands.specs.declared.Command.the-variants.{WriteEnable, WriteDisable, ReadStatus, WriteStatus, Read, FastRead, EraseSector, EraseBlock, EraseChip, Program, ReadId, Wake, ReadMaker, Sleep, Unknown}
+use Rattle.states.proofs.States.{status-write-le, page-le, sector-le, block-le, chip-le}
+use Rattle.effects.specs.declared.Reply.{Reply}
+use Rattle.effects.specs.Effects.{Effect, Shown, Changed, shown, changed, stateOnly, quiet, drives, latched, dozing, working, written, idBytes, makerBytes, readStatus, readFrom, eraseSector, eraseBlock, eraseChip, programPage, readId, wake, readMaker}
 use Rattle.chip.specs.Frames.{acceptedOf}
 use Rattle.chip.specs.Units.{Extent, extent, unitOf, drivenBytes}
-use Rattle.chip.proofs.Ready.{page-fits, sector-fits, block-fits}
+use Rattle.effects.proofs.Fits.{page-fits, sector-fits, block-fits}
 
 -- ---- how the state moves, and what a command that moves it so has been asked
 pub data Move (rec : Record) (s : State) : State → Type 0 where

@@ -7,18 +7,18 @@ use lib.Dec.{eqb}
 use lib.ListN.{length, getD}
 use Rattle.units.specs.declared.Address.{Address}
 use Rattle.units.specs.Models.{modelOf, addressOf}
-use Rattle.rules.specs.Answers.{isDone}
-use Rattle.rules.specs.Commands.{decodeOf, traitsOf}
-use Rattle.rules.specs.declared.Record.{Record}
-use Rattle.rules.specs.declared.State.{State}
-use Rattle.rules.specs.declared.Traits.{Traits}
-use Rattle.rules.specs.declared.Command.{Command}
-use Rattle.rules.specs.declared.Command.the-variants.{WriteEnable, WriteDisable, ReadStatus, WriteStatus, Read, FastRead, EraseSector, EraseBlock, EraseChip, Program, ReadId, Wake, ReadMaker, Sleep, Unknown}
-use Rattle.rules.specs.declared.Answer.{Answer}
-use Rattle.rules.specs.declared.Answer.the-variants.{Done}
+use Rattle.answers.specs.Answers.{isDone}
+use Rattle.commands.specs.Commands.{decodeOf, traitsOf}
+use Rattle.states.specs.declared.Record.{Record}
+use Rattle.states.specs.declared.State.{State}
+use Rattle.commands.specs.declared.Traits.{Traits}
+use Rattle.commands.specs.declared.Command.{Command}
+use Rattle.commands.specs.declared.Command.the-variants.{WriteEnable, WriteDisable, ReadStatus, WriteStatus, Read, FastRead, EraseSector, EraseBlock, EraseChip, Program, ReadId, Wake, ReadMaker, Sleep, Unknown}
+use Rattle.answers.specs.declared.Answer.{Answer}
+use Rattle.answers.specs.declared.Answer.the-variants.{Done}
 use Rattle.ladder.specs.Ladder.{refusalOf}
 use Rattle.ladder.specs.declared.Head.{Head}
-use Rattle.chip.specs.Effects.{Effect, shown, changed, stateOnly, latched, dozing, written, readStatus, readFrom, eraseSector, eraseBlock, eraseChip, programPage, readId, wake, readMaker}
+use Rattle.effects.specs.Effects.{Effect, shown, changed, stateOnly, latched, dozing, written, readStatus, readFrom, eraseSector, eraseBlock, eraseChip, programPage, readId, wake, readMaker}
 
 -- the command is the first byte, the address the next three
 unfoldable pub headOf : ℕ → List ℕ → ℕ → Bool → Head
@@ -59,12 +59,6 @@ frameOf rec s cells bytes tail wp out =
 -- what the refusals have shown of an accepted frame, for the code below them
 abbrev pub fewest : Traits → ℕ
 fewest k = cond (eqb (k .exact) 0) (k .least) (k .exact)
-
--- a frame of at least `first` bytes, none longer than is allowed, and room for it in the output
-pub record Room (first : ℕ) (bytes out : List ℕ) : Type 0 where
-  pub long : first ≤ length bytes
-  pub short : length bytes ≤ 65541
-  pub room : length bytes ≤ length out
 
 pub record Ready (rec : Record) (s : State) (c : Command) (cells : List ℕ) (at : Address) (bytes out : List ℕ) : Type 0 where
   pub level : s .bp ≤ 15

@@ -8,7 +8,7 @@ use lib.Dec.{ltb}
 use lib.ListN.{length, take, drop, length-take}
 use lib.Seq.{take-at, drop-length}
 use borrow.Author.Tests.{ltb-true, ltb-false}
-use Rattle.rules.specs.declared.Record.{Record}
+use Rattle.states.specs.declared.Record.{Record}
 use Rattle.text.specs.Put.{Put}
 use Rattle.text.proofs.PutLaws.{put-same}
 use Rattle.lines.specs.Lines.{linesFrom}

@@ -8,8 +8,8 @@ use lib.Dec.{leb, lit<}
 use lib.ListN.{length, take, drop, replicate}
 use lib.Seq.{length-take-le, take-all, drop-length}
 use borrow.Author.Tests.{leb-true, leb-false}
-use Rattle.rules.specs.declared.Record.{Record}
-use Rattle.rules.specs.declared.State.{State}
+use Rattle.states.specs.declared.Record.{Record}
+use Rattle.states.specs.declared.State.{State}
 use Rattle.script.specs.declared.Line.the-variants.{Bad}
 use Rattle.script.specs.Reading.{lineOf}
 use Rattle.script.proofs.Agree.{clipped}

@@ -3,7 +3,7 @@ use mathlib.Core.Path.{_≡_}
 use mathlib.Core.List.{List, _++_}
 use Prim.Native.Nat.{ℕ, _+_, _≤_, _<_}
 use lib.ListN.{length, drop}
-use Rattle.rules.specs.declared.Record.{Record}
+use Rattle.states.specs.declared.Record.{Record}
 use Rattle.text.specs.Put.{Put}
 use Rattle.lines.specs.Lines.{linesFrom, lastLine}
 use Rattle.lines.specs.Cutting.{Holds}

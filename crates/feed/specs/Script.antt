@@ -5,7 +5,7 @@ use mathlib.Core.List.{List, [], _∷_, _++_}
 use Prim.Native.Nat.{ℕ, zero, suc, _≤_}
 use lib.Dec.{ltb}
 use lib.ListN.{length, take}
-use Rattle.rules.specs.declared.Record.{Record}
+use Rattle.states.specs.declared.Record.{Record}
 use Rattle.lines.specs.Lines.{linesFrom}
 use Rattle.lines.specs.Cutting.{Holds}
 use Rattle.stepper.specs.Rows.{logFrom}

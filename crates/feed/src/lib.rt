@@ -4,8 +4,8 @@ ghost use Prim.Native.Nat.{_+_, _≤_, _<_};
 ghost use lib.ListN.{length};
 ghost use Rattle.feed.specs.Feed.{Start, Ready, goesOn, standing, feedTurn, feedOf, lastOf, Stands, Ends};
 use lines::Cut;
-use rules::Record;
-use rules::State;
+use states::Record;
+use states::State;
 use stepper::Logged;
 
 // What goes on from line to line: the chip's state, the number of the next line, how many bytes of it are held from the blocks before,

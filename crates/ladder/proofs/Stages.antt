@@ -6,15 +6,15 @@ use Prim.Native.Nat.{ℕ}
 use lib.ListN.{take, drop}
 use borrow.Author.Tests.{not-true}
 use Rattle.units.proofs.Bools.{both}
-use Rattle.rules.specs.Answers.{isDone}
-use Rattle.rules.specs.Commands.{traitsOf}
-use Rattle.rules.specs.declared.Record.{Record}
-use Rattle.rules.specs.declared.State.{State}
-use Rattle.rules.specs.declared.Traits.{Traits}
-use Rattle.rules.specs.declared.Command.{Command}
-use Rattle.rules.specs.declared.Command.the-variants.{WriteEnable, WriteDisable, ReadStatus, WriteStatus, Read, FastRead, EraseSector, EraseBlock, EraseChip, Program, ReadId, Wake, ReadMaker, Sleep, Unknown}
-use Rattle.rules.specs.declared.Answer.{Answer}
-use Rattle.rules.specs.declared.Answer.the-variants.{Done}
+use Rattle.answers.specs.Answers.{isDone}
+use Rattle.commands.specs.Commands.{traitsOf}
+use Rattle.states.specs.declared.Record.{Record}
+use Rattle.states.specs.declared.State.{State}
+use Rattle.commands.specs.declared.Traits.{Traits}
+use Rattle.commands.specs.declared.Command.{Command}
+use Rattle.commands.specs.declared.Command.the-variants.{WriteEnable, WriteDisable, ReadStatus, WriteStatus, Read, FastRead, EraseSector, EraseBlock, EraseChip, Program, ReadId, Wake, ReadMaker, Sleep, Unknown}
+use Rattle.answers.specs.declared.Answer.{Answer}
+use Rattle.answers.specs.declared.Answer.the-variants.{Done}
 use Rattle.ladder.specs.declared.Head.{Head}
 use Rattle.ladder.specs.Ladder.{Rung, firstOf, ladder, refusalOf}
 use Rattle.ladder.specs.Stages.{givenOf, heardOf, allowedOf}

@@ -5,13 +5,13 @@ use Prim.Native.Nat.{ℕ}
 use lib.Dec.{eqb, ltb}
 use Rattle.units.specs.Kinds.{blockOf}
 use Rattle.units.specs.Models.{modelOf, isProtected}
-use Rattle.rules.specs.Commands.{traitsOf, lengthOk}
-use Rattle.rules.specs.States.{recordOk, stateOk}
-use Rattle.rules.specs.declared.Record.{Record}
-use Rattle.rules.specs.declared.State.{State}
-use Rattle.rules.specs.declared.Traits.{Traits}
-use Rattle.rules.specs.declared.Answer.{Answer}
-use Rattle.rules.specs.declared.Answer.the-variants.{Done, BadRecord, BadArray, BadState, BadFrame, ShortOut, Empty, Busy, Asleep, NoCommand, BadLength, NotEnabled, Locked, Protected}
+use Rattle.commands.specs.Commands.{traitsOf, lengthOk}
+use Rattle.states.specs.States.{recordOk, stateOk}
+use Rattle.states.specs.declared.Record.{Record}
+use Rattle.states.specs.declared.State.{State}
+use Rattle.commands.specs.declared.Traits.{Traits}
+use Rattle.answers.specs.declared.Answer.{Answer}
+use Rattle.answers.specs.declared.Answer.the-variants.{Done, BadRecord, BadArray, BadState, BadFrame, ShortOut, Empty, Busy, Asleep, NoCommand, BadLength, NotEnabled, Locked, Protected}
 use Rattle.ladder.specs.declared.Head.{Head}
 
 -- a row of the table: a test, and the answer where it holds

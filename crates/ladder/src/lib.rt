@@ -2,11 +2,11 @@
 ghost use mathlib.Core.Path.{_≡_};
 ghost use Rattle.ladder.specs.Ladder.{refusalOf};
 ghost use Rattle.ladder.specs.Stages.{givenOf, heardOf, allowedOf};
-use rules::Answer;
-use rules::Command;
-use rules::Record;
-use rules::State;
-use rules::Traits;
+use answers::Answer;
+use commands::Command;
+use states::Record;
+use states::State;
+use commands::Traits;
 use units::Address;
 
 // What the refusals look at of one frame: its whole bytes, tail bits and WP# level, its command, and its address in the array.
@@ -22,14 +22,14 @@ pub struct Head {
 fn given(rec: Record, st: State, cells: usize, head: Head, room: usize) -> Answer
     ensures { λ r. ⌜ r ≡ givenOf rec st cells head room ⌝ }
 {
-    if !rules::record_ok(rec) {
+    if !states::record_ok(rec) {
         return Answer::BadRecord;
     }
     let row = units::model_of(rec.model);
     if cells != row.length as usize {
         return Answer::BadArray;
     }
-    if !rules::state_ok(rec, st) {
+    if !states::state_ok(rec, st) {
         return Answer::BadState;
     }
     let n = head.count;
@@ -60,7 +60,7 @@ fn heard(rec: Record, st: State, cells: usize, head: Head, room: usize, t: Trait
     if !t.known {
         return Answer::NoCommand;
     }
-    if !rules::length_ok(t, n, tail) {
+    if !commands::length_ok(t, n, tail) {
         return Answer::BadLength;
     }
     Answer::Done
@@ -91,13 +91,13 @@ pub fn refusal(rec: Record, st: State, cells: usize, head: Head, room: usize) ->
     ensures { λ r. ⌜ r ≡ refusalOf rec st cells head room ⌝ }
 {
     let first = given(rec, st, cells, head, room);
-    if !rules::is_done(first) {
+    if !answers::is_done(first) {
         return first;
     }
     let command = head.command;
-    let t = rules::traits_of(command);
+    let t = commands::traits_of(command);
     let second = heard(rec, st, cells, head, room, t);
-    if !rules::is_done(second) {
+    if !answers::is_done(second) {
         return second;
     }
     if t.latch {

@@ -6,13 +6,13 @@ use Prim.Native.Nat.{ℕ, zero, suc, _+_, _-_, _≤_}
 use native.Mathlib.Omega.{arith}
 use lib.ListN.{length, take, drop, length-take}
 use lib.Seq.{take-at}
-use Rattle.rules.specs.Answers.{isDone, numberOf}
-use Rattle.rules.specs.declared.Record.{Record}
-use Rattle.rules.specs.declared.State.{State}
+use Rattle.answers.specs.Answers.{isDone, numberOf}
+use Rattle.states.specs.declared.Record.{Record}
+use Rattle.states.specs.declared.State.{State}
 use Rattle.ladder.specs.Ladder.{refusalOf}
 use Rattle.ladder.specs.declared.Head.{Head}
-use Rattle.chip.specs.declared.Reply.{Reply}
-use Rattle.chip.specs.Effects.{Effect, Gives, stateOnly}
+use Rattle.effects.specs.declared.Reply.{Reply}
+use Rattle.effects.specs.Effects.{Effect, Gives, stateOnly}
 use Rattle.chip.specs.Frames.{headOf, acceptedOf, frameOf}
 use Rattle.chip.proofs.Sorts.{kind, within}
 use Rattle.script.specs.declared.Line.{Line}

@@ -4,13 +4,13 @@ use mathlib.Core.Bool.{Bool}
 use mathlib.Core.List.{List}
 use Prim.Native.Nat.{ℕ}
 use lib.ListN.{drop, take}
-use Rattle.rules.specs.Answers.{numberOf}
-use Rattle.rules.specs.declared.Record.{Record}
-use Rattle.rules.specs.declared.State.{State}
-use Rattle.chip.specs.declared.After.{After}
-use Rattle.chip.specs.Effects.{Effect}
+use Rattle.answers.specs.Answers.{numberOf}
+use Rattle.states.specs.declared.Record.{Record}
+use Rattle.states.specs.declared.State.{State}
+use Rattle.time.specs.declared.After.{After}
+use Rattle.effects.specs.Effects.{Effect}
 use Rattle.chip.specs.Frames.{frameOf}
-use Rattle.chip.specs.Time.{waitOf, powerOf}
+use Rattle.time.specs.Time.{waitOf, powerOf}
 use Rattle.script.specs.declared.Line.{Line}
 use Rattle.script.specs.declared.Line.the-variants.{Frame, Wait, Power, Bad}
 use Rattle.script.specs.Hex.{bytesOf}

@@ -1,11 +1,11 @@
 // A script line played on the chip.
 ghost use mathlib.Core.Path.{_≡_};
-ghost use Rattle.chip.specs.Time.{waitOf, powerOf};
+ghost use Rattle.time.specs.Time.{waitOf, powerOf};
 ghost use Rattle.script.specs.Reading.{lineOf};
 ghost use Rattle.play.specs.Play.{Plays, passedOf, frameTurn, playOf};
-use chip::After;
-use rules::Record;
-use rules::State;
+use time::After;
+use states::Record;
+use states::State;
 use script::Line;
 
 // What a line came to: the answer's number, the first driven position and how many bytes are driven, and the state after.
@@ -23,7 +23,7 @@ fn passed(a: After) -> Played
     let answer = a.answer;
     let state = a.state;
     Played {
-        answer: rules::number_of(answer),
+        answer: answers::number_of(answer),
         from: 0,
         count: 0,
         state,
@@ -48,7 +48,7 @@ fn play_frame(
     let answer = r.answer;
     let state = r.state;
     Played {
-        answer: rules::number_of(answer),
+        answer: answers::number_of(answer),
         from: r.from,
         count: r.count,
         state,
@@ -62,8 +62,8 @@ pub fn play(line: &[u8], rec: Record, st: State, array: &mut [u8], shown: &mut [
     let said = script::read_line(line);
     match said {
         Line::Frame { wp, tail, count: _ } => play_frame(line, wp, tail, rec, st, array, shown),
-        Line::Wait(us) => passed(chip::wait(rec, st, us)),
-        Line::Power => passed(chip::power_cycle(rec, st)),
+        Line::Wait(us) => passed(time::wait(rec, st, us)),
+        Line::Power => passed(time::power_cycle(rec, st)),
         Line::Bad => Played {
             answer: 20,
             from: 0,

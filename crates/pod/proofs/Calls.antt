@@ -4,16 +4,16 @@ use mathlib.Core.Bool.{true, not}
 use mathlib.Core.List.{List}
 use Prim.Native.Nat.{ℕ}
 use lib.Dec.{eqb}
-use Rattle.rules.specs.Answers.{numberOf, isDone}
-use Rattle.rules.specs.States.{stateOk}
-use Rattle.rules.specs.declared.Record.{Record}
-use Rattle.rules.specs.declared.State.{State}
-use Rattle.rules.specs.declared.Answer.{Answer}
-use Rattle.chip.specs.declared.Reply.{Reply}
-use Rattle.chip.specs.declared.After.{After}
-use Rattle.chip.specs.Effects.{Effect, Gives}
+use Rattle.answers.specs.Answers.{numberOf, isDone}
+use Rattle.states.specs.States.{stateOk}
+use Rattle.states.specs.declared.Record.{Record}
+use Rattle.states.specs.declared.State.{State}
+use Rattle.answers.specs.declared.Answer.{Answer}
+use Rattle.effects.specs.declared.Reply.{Reply}
+use Rattle.time.specs.declared.After.{After}
+use Rattle.effects.specs.Effects.{Effect, Gives}
 use Rattle.chip.specs.Frames.{frameOf}
-use Rattle.chip.specs.Time.{later, cycled, ifValid, waitOf, powerOf}
+use Rattle.time.specs.Time.{later, cycled, ifValid, waitOf, powerOf}
 use Rattle.pod.specs.Packing.{unpackOf}
 use Rattle.pod.specs.Calls.{keptOf, answeredOf, calledFrame, calledWait, calledCycle, Leaves, Answers, Fits}
 use Rattle.pod.proofs.Packing.{Small, packing-length}

@@ -8,8 +8,8 @@ use lib.Dec.{eqb, leb}
 use lib.ListN.{length, getD, drop, drop-of-length-le}
 use lib.Seq.{sets, sets-eq}
 use mir.Val.{boolByte}
-use Rattle.rules.specs.States.{bit, statusOf}
-use Rattle.rules.specs.declared.State.{State}
+use Rattle.states.specs.States.{bit, statusOf}
+use Rattle.states.specs.declared.State.{State}
 use Rattle.pod.specs.Packing.{bytesOf, spelt, packOf, readOf, isPacking, noState, unpackOf}
 use Rattle.pod.proofs.Bytes.{spelt-bytes, bytes-spelt, same-refl, same-eq, last-four}
 use Rattle.pod.proofs.Status.{flag-byte, flag-back, srwd-back, bp-back, wel-back, status-test, flag-test}

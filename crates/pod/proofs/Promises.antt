@@ -7,15 +7,15 @@ use lib.Dec.{eqb}
 use lib.ListN.{length}
 use borrow.Author.Tests.{ne-eqb}
 use Rattle.units.specs.Models.{modelOf}
-use Rattle.rules.specs.Answers.{numberOf, isDone}
-use Rattle.rules.specs.States.{recordOk, stateOk}
-use Rattle.rules.specs.declared.Record.{Record}
-use Rattle.rules.specs.declared.State.{State}
-use Rattle.rules.specs.declared.Answer.{Answer}
+use Rattle.answers.specs.Answers.{numberOf, isDone}
+use Rattle.states.specs.States.{recordOk, stateOk}
+use Rattle.states.specs.declared.Record.{Record}
+use Rattle.states.specs.declared.State.{State}
+use Rattle.answers.specs.declared.Answer.{Answer}
 use Rattle.ladder.specs.Ladder.{refusalOf}
-use Rattle.chip.specs.Effects.{Effect}
+use Rattle.effects.specs.Effects.{Effect}
 use Rattle.chip.specs.Frames.{frameOf}
-use Rattle.chip.specs.Time.{later, cycled, ifValid, waitOf, powerOf}
+use Rattle.time.specs.Time.{later, cycled, ifValid, waitOf, powerOf}
 use Rattle.pod.specs.Packing.{packOf, unpackOf}
 use Rattle.pod.specs.Calls.{keptOf, called, answered, answeredOf, calledFrame, calledWait, calledCycle}
 use Rattle.pod.specs.Promises.{UnpacksPacked, PacksUnpacked, NoPacking, FrameRefusesBytes, WaitRefusesBytes, CycleRefusesBytes, RefusedFrameStays, RefusedWaitStays, RefusedCycleStays, FrameCarries, WaitCarries, CycleCarries, OneFrame, OneAnswer}

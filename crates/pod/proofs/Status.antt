@@ -7,7 +7,7 @@ use native.Mathlib.Omega.{arith}
 use lib.Dec.{eqb, leb}
 use mir.Val.{boolByte}
 use borrow.Author.Tests.{eqb-true, eqb-false, eq-eqb, ne-eqb, le-leb, lt-leb, leb-true, leb-false}
-use Rattle.rules.specs.States.{bit}
+use Rattle.states.specs.States.{bit}
 
 -- ---- bits
 pub flag-byte : (b : Bool) → boolByte b ≡ bit b 1

@@ -10,21 +10,21 @@ use borrow.Author.Tests.{leb-true}
 use Rattle.units.specs.Models.{isModel}
 use Rattle.units.specs.declared.Address.{Address}
 use Rattle.units.proofs.Bools.{both}
-use Rattle.rules.specs.Answers.{isDone}
-use Rattle.rules.specs.States.{inRange, recordOk, longestOf, stateOk}
-use Rattle.rules.specs.declared.Record.{Record}
-use Rattle.rules.specs.declared.State.{State}
-use Rattle.rules.specs.declared.Answer.the-variants.{Done}
-use Rattle.rules.specs.declared.Command.{Command}
-use Rattle.rules.specs.declared.Command.the-variants.{WriteEnable, WriteDisable, ReadStatus, WriteStatus, Read, FastRead, EraseSector, EraseBlock, EraseChip, Program, ReadId, Wake, ReadMaker, Sleep, Unknown}
-use Rattle.rules.proofs.States.{sound, highest-bp, status-write-le, page-le, sector-le, block-le, chip-le}
+use Rattle.answers.specs.Answers.{isDone}
+use Rattle.states.specs.States.{inRange, recordOk, longestOf, stateOk}
+use Rattle.states.specs.declared.Record.{Record}
+use Rattle.states.specs.declared.State.{State}
+use Rattle.answers.specs.declared.Answer.the-variants.{Done}
+use Rattle.commands.specs.declared.Command.{Command}
+use Rattle.commands.specs.declared.Command.the-variants.{WriteEnable, WriteDisable, ReadStatus, WriteStatus, Read, FastRead, EraseSector, EraseBlock, EraseChip, Program, ReadId, Wake, ReadMaker, Sleep, Unknown}
+use Rattle.states.proofs.States.{sound, highest-bp, status-write-le, page-le, sector-le, block-le, chip-le}
 use Rattle.ladder.specs.Ladder.{refusalOf}
 use Rattle.ladder.specs.declared.Head.{Head}
 use Rattle.ladder.proofs.Passed.{passed}
-use Rattle.chip.specs.declared.Reply.{Reply}
-use Rattle.chip.specs.Effects.{stateOnly, drives, latched, dozing, working, written, readStatus, readFrom, eraseSector, eraseBlock, eraseChip, programPage, readId, wake, readMaker}
+use Rattle.effects.specs.declared.Reply.{Reply}
+use Rattle.effects.specs.Effects.{stateOnly, drives, latched, dozing, working, written, readStatus, readFrom, eraseSector, eraseBlock, eraseChip, programPage, readId, wake, readMaker}
 use Rattle.chip.specs.Frames.{headOf, acceptedOf, frameOf}
-use Rattle.chip.specs.Time.{later, cycled, ifValid}
+use Rattle.time.specs.Time.{later, cycled, ifValid}
 use Rattle.chip.proofs.Sorts.{Move, stays, latches, dozes, works, writes, kind, is-done, moves}
 use Rattle.pod.specs.Packing.{isPacking, noState, unpackOf}
 use Rattle.pod.proofs.Packing.{Small, unpack-none}

@@ -4,8 +4,8 @@ use mathlib.Core.List.{List, [], _∷_}
 use Prim.Native.Nat.{ℕ, zero, suc, _+_, _*_, _/_, _%_}
 use lib.Dec.{eqb, leb}
 use lib.ListN.{getD, drop}
-use Rattle.rules.specs.States.{bit, statusOf}
-use Rattle.rules.specs.declared.State.{State}
+use Rattle.states.specs.States.{bit, statusOf}
+use Rattle.states.specs.declared.State.{State}
 
 -- a number little-endian in n bytes, and the number that bytes spell
 abbrev pub bytesOf : ℕ → ℕ → List ℕ

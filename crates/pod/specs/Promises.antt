@@ -6,11 +6,11 @@ use Prim.Native.Nat.{ℕ}
 use lib.Dec.{eqb}
 use lib.ListN.{length}
 use Rattle.units.specs.Models.{modelOf}
-use Rattle.rules.specs.States.{recordOk, stateOk}
-use Rattle.rules.specs.declared.Record.{Record}
-use Rattle.rules.specs.declared.State.{State}
+use Rattle.states.specs.States.{recordOk, stateOk}
+use Rattle.states.specs.declared.Record.{Record}
+use Rattle.states.specs.declared.State.{State}
 use Rattle.chip.specs.Frames.{frameOf}
-use Rattle.chip.specs.Time.{waitOf, powerOf}
+use Rattle.time.specs.Time.{waitOf, powerOf}
 use Rattle.pod.specs.Packing.{packOf, unpackOf}
 use Rattle.pod.specs.Calls.{Called, Answered, called, answered, calledFrame, calledWait, calledCycle, Leaves, Answers}
 

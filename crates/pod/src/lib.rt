@@ -3,12 +3,12 @@ ghost use mathlib.Core.Path.{_≡_};
 ghost use mathlib.Core.List.{_∷_, []};
 ghost use Prim.Native.Nat.{_≤_};
 ghost use lib.ListN.{length};
-ghost use Rattle.rules.specs.Answers.{numberOf};
+ghost use Rattle.answers.specs.Answers.{numberOf};
 ghost use Rattle.pod.specs.Packing.{spelt, packOf, unpackOf, noState};
 ghost use Rattle.pod.specs.Calls.{recordOf, keptOf, Fits, Leaves, Answers, calledFrame, calledWait, calledCycle};
-use rules::Answer;
-use rules::Record;
-use rules::State;
+use answers::Answer;
+use states::Record;
+use states::State;
 
 // ---- the packed state
 
@@ -69,7 +69,7 @@ fn pack(st: State, state: &mut [u8])
     ensures { λ _. ⌜ now (state .exit) ≡ packOf st ⌝ }
 {
     let busy = st.busy;
-    state[0] = rules::status(st);
+    state[0] = states::status(st);
     state[1] = st.asleep as u8;
     state[2] = 0;
     state[3] = 0;
@@ -84,7 +84,7 @@ fn keep(answer: Answer, next: State, state: &mut [u8]) -> u32
     requires { ⌜ Fits answer next (now state) ⌝ }
     ensures { λ r. ⌜ (r ≡ numberOf answer) × (now (state .exit) ≡ keptOf answer next (now (state .entry))) ⌝ }
 {
-    let number = rules::number_of(answer);
+    let number = answers::number_of(answer);
     if number == 0 {
         pack(next, state);
     }
@@ -159,7 +159,7 @@ pub extern "C" fn gwo_wait(
 {
     let rec = record_of(model, status_us, page_us, sector_us, block_us, chip_us);
     let st = unpack(state);
-    let waited = chip::wait(rec, st, us);
+    let waited = time::wait(rec, st, us);
     let answer = waited.answer;
     let next = waited.state;
     keep(answer, next, state)
@@ -180,7 +180,7 @@ pub extern "C" fn gwo_power_cycle(
 {
     let rec = record_of(model, status_us, page_us, sector_us, block_us, chip_us);
     let st = unpack(state);
-    let cycled = chip::power_cycle(rec, st);
+    let cycled = time::power_cycle(rec, st);
     let answer = cycled.answer;
     let next = cycled.state;
     keep(answer, next, state)

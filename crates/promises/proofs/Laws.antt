@@ -12,27 +12,27 @@ use borrow.Author.Tests.{eqb-true, eqb-false, ltb-true, ltb-false, lt-ltb, le-lt
 use Rattle.units.specs.declared.Address.{Address}
 use Rattle.units.specs.Kinds.{sectorOf, blockOf, pageStart, pageOffset, sectorStart, blockStart}
 use Rattle.cells.specs.Cell.{bit}
-use Rattle.cells.specs.Fold.{cellAfter}
-use Rattle.cells.specs.Arrays.{programmed}
-use Rattle.cells.specs.Sheet.{ErasesOnly}
-use Rattle.cells.proofs.Counts.{only-falls}
-use Rattle.cells.proofs.Arrays.{sector-erase, block-erase, chip-erase, page-folds, outside-stays}
-use Rattle.rules.specs.Answers.{isDone}
-use Rattle.rules.specs.States.{recordOk, stateOk}
-use Rattle.rules.specs.declared.Record.{Record}
-use Rattle.rules.specs.declared.State.{State}
-use Rattle.rules.specs.declared.Answer.{Answer}
-use Rattle.rules.specs.declared.Answer.the-variants.{Done, BadRecord, BadState}
-use Rattle.rules.specs.declared.Command.{Command}
-use Rattle.rules.specs.declared.Command.the-variants.{Program}
-use Rattle.rules.proofs.States.{sound, valid}
+use Rattle.fold.specs.Fold.{cellAfter}
+use Rattle.flash.specs.Arrays.{programmed}
+use Rattle.flash.specs.Sheet.{ErasesOnly}
+use Rattle.fold.proofs.Counts.{only-falls}
+use Rattle.flash.proofs.Arrays.{sector-erase, block-erase, chip-erase, page-folds, outside-stays}
+use Rattle.answers.specs.Answers.{isDone}
+use Rattle.states.specs.States.{recordOk, stateOk}
+use Rattle.states.specs.declared.Record.{Record}
+use Rattle.states.specs.declared.State.{State}
+use Rattle.answers.specs.declared.Answer.{Answer}
+use Rattle.answers.specs.declared.Answer.the-variants.{Done, BadRecord, BadState}
+use Rattle.commands.specs.declared.Command.{Command}
+use Rattle.commands.specs.declared.Command.the-variants.{Program}
+use Rattle.states.proofs.States.{sound, valid}
 use Rattle.ladder.specs.Ladder.{refusalOf}
 use Rattle.ladder.specs.declared.Head.{Head}
-use Rattle.chip.specs.declared.Reply.{Reply}
-use Rattle.chip.specs.declared.After.{After}
-use Rattle.chip.specs.Effects.{Effect, Gives, stateOnly, programPage}
+use Rattle.effects.specs.declared.Reply.{Reply}
+use Rattle.time.specs.declared.After.{After}
+use Rattle.effects.specs.Effects.{Effect, Gives, stateOnly, programPage}
 use Rattle.chip.specs.Frames.{Ready, headOf, acceptedOf, frameOf}
-use Rattle.chip.specs.Time.{later, cycled, ifValid, waitOf, powerOf}
+use Rattle.time.specs.Time.{later, cycled, ifValid, waitOf, powerOf}
 use Rattle.chip.proofs.Ready.{ready, page-fits}
 use Rattle.chip.proofs.Sorts.{kind, is-done, changes-only}
 use Rattle.promises.specs.Laws.{WaitsAdd, RefusedFrame, RefusedWait, RefusedCycle, OnlyItsUnit, ProgramFalls, OneAnswer, OneFrame, OneWait, OneCycle}

@@ -7,16 +7,16 @@ use lib.ListN.{length}
 use Rattle.units.specs.declared.Address.{Address}
 use Rattle.units.specs.Kinds.{sectorOf, blockOf}
 use Rattle.units.specs.Models.{modelOf}
-use Rattle.cells.proofs.Arrays.{length-sectorErased, length-blockErased, length-allErased, length-programmed}
-use Rattle.rules.specs.Answers.{isDone}
-use Rattle.rules.specs.States.{recordOk}
-use Rattle.rules.specs.declared.Record.{Record}
-use Rattle.rules.specs.declared.State.{State}
-use Rattle.rules.specs.declared.Command.{Command}
-use Rattle.rules.specs.declared.Command.the-variants.{WriteEnable, WriteDisable, ReadStatus, WriteStatus, Read, FastRead, EraseSector, EraseBlock, EraseChip, Program, ReadId, Wake, ReadMaker, Sleep, Unknown}
+use Rattle.flash.proofs.Arrays.{length-sectorErased, length-blockErased, length-allErased, length-programmed}
+use Rattle.answers.specs.Answers.{isDone}
+use Rattle.states.specs.States.{recordOk}
+use Rattle.states.specs.declared.Record.{Record}
+use Rattle.states.specs.declared.State.{State}
+use Rattle.commands.specs.declared.Command.{Command}
+use Rattle.commands.specs.declared.Command.the-variants.{WriteEnable, WriteDisable, ReadStatus, WriteStatus, Read, FastRead, EraseSector, EraseBlock, EraseChip, Program, ReadId, Wake, ReadMaker, Sleep, Unknown}
 use Rattle.ladder.specs.Ladder.{refusalOf}
 use Rattle.ladder.specs.declared.Head.{Head}
-use Rattle.chip.specs.Effects.{Effect, stateOnly, readStatus, readFrom, eraseSector, eraseBlock, eraseChip, programPage, readId, wake, readMaker}
+use Rattle.effects.specs.Effects.{Effect, stateOnly, readStatus, readFrom, eraseSector, eraseBlock, eraseChip, programPage, readId, wake, readMaker}
 use Rattle.chip.specs.Frames.{Ready, headOf, acceptedOf, frameOf}
 use Rattle.chip.proofs.Ready.{ready}
 use Rattle.chip.proofs.Sorts.{kind, changes-only}

@@ -10,22 +10,22 @@ use borrow.Author.Tests.{eqb-true, eqb-false}
 use Rattle.units.specs.declared.Address.{Address}
 use Rattle.units.specs.Models.{isModel, partOf, modelOf, addressOf}
 use Rattle.cells.specs.Cell.{FF}
-use Rattle.cells.specs.Parts.{part}
-use Rattle.cells.proofs.Bytes.{bytes-replicate}
-use Rattle.cells.proofs.Lay.{part-at}
-use Rattle.rules.specs.Answers.{isDone}
-use Rattle.rules.specs.Commands.{decodeOf}
-use Rattle.rules.specs.States.{inRange, recordOk, benchKH25L512}
-use Rattle.rules.specs.declared.Record.{Record}
-use Rattle.rules.specs.declared.State.{State}
-use Rattle.rules.specs.declared.Answer.{Answer}
-use Rattle.rules.specs.declared.Answer.the-variants.{Done}
-use Rattle.rules.specs.declared.Command.{Command}
-use Rattle.rules.specs.declared.Command.the-variants.{WriteEnable, WriteDisable, ReadStatus, WriteStatus, Read, FastRead, EraseSector, EraseBlock, EraseChip, Program, ReadId, Wake, ReadMaker, Sleep, Unknown}
+use Rattle.parts.specs.Parts.{part}
+use Rattle.parts.proofs.Bytes.{bytes-replicate}
+use Rattle.parts.proofs.Lay.{part-at}
+use Rattle.answers.specs.Answers.{isDone}
+use Rattle.commands.specs.Commands.{decodeOf}
+use Rattle.states.specs.States.{inRange, recordOk, benchKH25L512}
+use Rattle.states.specs.declared.Record.{Record}
+use Rattle.states.specs.declared.State.{State}
+use Rattle.answers.specs.declared.Answer.{Answer}
+use Rattle.answers.specs.declared.Answer.the-variants.{Done}
+use Rattle.commands.specs.declared.Command.{Command}
+use Rattle.commands.specs.declared.Command.the-variants.{WriteEnable, WriteDisable, ReadStatus, WriteStatus, Read, FastRead, EraseSector, EraseBlock, EraseChip, Program, ReadId, Wake, ReadMaker, Sleep, Unknown}
 use Rattle.ladder.specs.Ladder.{refusalOf}
 use Rattle.ladder.specs.declared.Head.{Head}
-use Rattle.chip.specs.declared.Reply.{Reply}
-use Rattle.chip.specs.Effects.{Effect, Gives, stateOnly, drives, readStatus, readFrom, eraseSector, eraseBlock, eraseChip, programPage, readId, wake, readMaker}
+use Rattle.effects.specs.declared.Reply.{Reply}
+use Rattle.effects.specs.Effects.{Effect, Gives, stateOnly, drives, readStatus, readFrom, eraseSector, eraseBlock, eraseChip, programPage, readId, wake, readMaker}
 use Rattle.chip.specs.Frames.{headOf, acceptedOf, frameOf}
 use Rattle.chip.proofs.Sorts.{kind, counts}
 use Rattle.promises.specs.Calls.{Call, sends, waits, cycles, Pod, World, after, answer, run, answers}

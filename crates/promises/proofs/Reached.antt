@@ -10,13 +10,13 @@ use lib.Dec.{leb, lit≤}
 use lib.ListN.{length, replicate}
 use borrow.Author.Tests.{leb-true, leb-false}
 use Rattle.units.specs.Models.{modelOf, addressOf}
-use Rattle.rules.specs.Commands.{decodeOf, traitsOf}
-use Rattle.rules.specs.States.{recordOk, stateOk, longestOf, powerOn}
-use Rattle.rules.specs.declared.Record.{Record}
-use Rattle.rules.specs.declared.State.{State}
-use Rattle.rules.specs.declared.Answer.the-variants.{Done, Busy}
-use Rattle.rules.proofs.States.{valid, times, status-write-le}
-use Rattle.chip.specs.Effects.{Effect, stateOnly, changed, written, working, eraseSector, eraseBlock, eraseChip, programPage}
+use Rattle.commands.specs.Commands.{decodeOf, traitsOf}
+use Rattle.states.specs.States.{recordOk, stateOk, longestOf, powerOn}
+use Rattle.states.specs.declared.Record.{Record}
+use Rattle.states.specs.declared.State.{State}
+use Rattle.answers.specs.declared.Answer.the-variants.{Done, Busy}
+use Rattle.states.proofs.States.{valid, times, status-write-le}
+use Rattle.effects.specs.Effects.{Effect, stateOnly, changed, written, working, eraseSector, eraseBlock, eraseChip, programPage}
 use Rattle.chip.specs.Frames.{frameOf}
 use Rattle.promises.specs.Calls.{Call, waits, World, ours, run}
 use Rattle.promises.specs.Histories.{factory}

@@ -2,16 +2,16 @@
 use mathlib.Core.Path.{_≡_, refl}
 use lib.ListN.{length}
 use Rattle.units.specs.Models.{isModel, partOf, addressOf, rangeOf, isProtected}
-use Rattle.cells.specs.Parts.{lay}
-use Rattle.cells.specs.Ring.{ring}
-use Rattle.cells.specs.Fold.{counts, cellAfter, pageAfter}
-use Rattle.cells.specs.Arrays.{sectorErased, programmed}
-use Rattle.rules.specs.Commands.{decodeOf, traitsOf, lengthOk}
-use Rattle.rules.specs.States.{inRange, recordOk, longestOf, stateOk, statusOf}
+use Rattle.parts.specs.Parts.{lay}
+use Rattle.rings.specs.Ring.{ring}
+use Rattle.fold.specs.Fold.{counts, cellAfter, pageAfter}
+use Rattle.flash.specs.Arrays.{sectorErased, programmed}
+use Rattle.commands.specs.Commands.{decodeOf, traitsOf, lengthOk}
+use Rattle.states.specs.States.{inRange, recordOk, longestOf, stateOk, statusOf}
 use Rattle.ladder.specs.Ladder.{refusalOf}
-use Rattle.chip.specs.Effects.{drives, latched, dozing, working, written, readStatus, readFrom, eraseSector, programPage, wake}
+use Rattle.effects.specs.Effects.{drives, latched, dozing, working, written, readStatus, readFrom, eraseSector, programPage, wake}
 use Rattle.chip.specs.Frames.{headOf, acceptedOf, frameOf}
-use Rattle.chip.specs.Time.{later}
+use Rattle.time.specs.Time.{later}
 use Rattle.promises.specs.Sheet.{BenchSheet}
 
 pub bench-sheet : BenchSheet

@@ -6,13 +6,13 @@ use Prim.Native.Nat.{ℕ, suc, _+_, _-_, _≤_, _<_}
 use native.Mathlib.Omega.{arith}
 use lib.Dec.{lit≤}
 use lib.ListN.{length, getD, replicate}
-use Rattle.rules.specs.Commands.{decodeOf, traitsOf}
-use Rattle.rules.specs.States.{recordOk, stateOk, longestOf}
-use Rattle.rules.specs.declared.Record.{Record}
-use Rattle.rules.specs.declared.State.{State}
-use Rattle.rules.specs.declared.Answer.the-variants.{Done, Busy}
-use Rattle.rules.proofs.States.{times}
-use Rattle.chip.specs.Time.{later}
+use Rattle.commands.specs.Commands.{decodeOf, traitsOf}
+use Rattle.states.specs.States.{recordOk, stateOk, longestOf}
+use Rattle.states.specs.declared.Record.{Record}
+use Rattle.states.specs.declared.State.{State}
+use Rattle.answers.specs.declared.Answer.the-variants.{Done, Busy}
+use Rattle.states.proofs.States.{times}
+use Rattle.time.specs.Time.{later}
 use Rattle.promises.specs.Calls.{Call, sends, waits, World, ours, answer, answers}
 use Rattle.promises.specs.Twelve.{Job, Bench, Fits, call₆, call₉, call₁₂}
 use Rattle.promises.specs.Shorter.{Shorter₅, Shorter₈, Shorter₁₁}

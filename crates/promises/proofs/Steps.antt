@@ -12,22 +12,22 @@ use Rattle.units.specs.declared.Block.{Block}
 use Rattle.units.specs.Kinds.{sectorOf, blockOf}
 use Rattle.units.specs.Models.{modelOf, addressOf, rangeOf, isProtected}
 use Rattle.units.proofs.Rules.{range-rules}
-use Rattle.cells.proofs.Lay.{lay-none}
-use Rattle.rules.specs.Answers.{isDone}
-use Rattle.rules.specs.Commands.{decodeOf, traitsOf, lengthOk}
-use Rattle.rules.specs.States.{recordOk, stateOk, longestOf, powerOn}
-use Rattle.rules.specs.declared.Record.{Record}
-use Rattle.rules.specs.declared.State.{State}
-use Rattle.rules.specs.declared.Answer.{Answer}
-use Rattle.rules.specs.declared.Answer.the-variants.{Done, Busy}
-use Rattle.rules.proofs.States.{Sound, sound, valid}
+use Rattle.parts.proofs.Lay.{lay-none}
+use Rattle.answers.specs.Answers.{isDone}
+use Rattle.commands.specs.Commands.{decodeOf, traitsOf, lengthOk}
+use Rattle.states.specs.States.{recordOk, stateOk, longestOf, powerOn}
+use Rattle.states.specs.declared.Record.{Record}
+use Rattle.states.specs.declared.State.{State}
+use Rattle.answers.specs.declared.Answer.{Answer}
+use Rattle.answers.specs.declared.Answer.the-variants.{Done, Busy}
+use Rattle.states.proofs.States.{Sound, sound, valid}
 use Rattle.ladder.specs.Ladder.{ladder, refusalOf}
 use Rattle.ladder.specs.declared.Head.{Head}
 use Rattle.ladder.proofs.Passed.{Clear, unrefused}
-use Rattle.chip.specs.declared.After.{After}
-use Rattle.chip.specs.Effects.{Effect, stateOnly, changed, shown, drives, latched, dozing, working, written, eraseSector, eraseBlock, eraseChip, programPage, readFrom, wake}
+use Rattle.time.specs.declared.After.{After}
+use Rattle.effects.specs.Effects.{Effect, stateOnly, changed, shown, drives, latched, dozing, working, written, eraseSector, eraseBlock, eraseChip, programPage, readFrom, wake}
 use Rattle.chip.specs.Frames.{headOf, acceptedOf, frameOf}
-use Rattle.chip.specs.Time.{later, ifValid, waitOf}
+use Rattle.time.specs.Time.{later, ifValid, waitOf}
 use Rattle.promises.specs.Calls.{Call, sends, waits, cycles, World, ours, after, answer, run, answers}
 use Rattle.promises.specs.Twelve.{Bench}
 use Rattle.promises.proofs.Valid.{call-sound}

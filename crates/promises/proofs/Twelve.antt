@@ -13,21 +13,21 @@ use Rattle.units.specs.Kinds.{sectorOf, sectorStart, pageStart, pageOffset}
 use Rattle.units.specs.Models.{modelOf, addressOf}
 use Rattle.units.proofs.Rules.{row-rules, units-inside}
 use Rattle.units.specs.Rules.{Inside}
-use Rattle.cells.specs.Parts.{part, lay}
-use Rattle.cells.specs.Arrays.{sectorErased, programmed}
-use Rattle.cells.specs.Ring.{ring}
-use Rattle.cells.specs.Sheet.{ErasesOnly}
-use Rattle.cells.proofs.Arrays.{length-sectorErased, part-sectorErased, sector-erase, length-programmed, programmed-fresh}
-use Rattle.cells.proofs.Lay.{lay-before, lay-inside, lay-after, part-lay, length-lay}
-use Rattle.cells.proofs.Ring.{length-ring, ring-straight}
-use Rattle.rules.specs.States.{recordOk, stateOk, longestOf, powerOn}
-use Rattle.rules.specs.declared.Record.{Record}
-use Rattle.rules.specs.declared.State.{State}
-use Rattle.rules.specs.declared.Answer.the-variants.{Done}
-use Rattle.rules.proofs.States.{Sound, sound, times}
-use Rattle.chip.specs.Effects.{Effect, stateOnly, changed, shown, drives, latched, dozing, working, written, eraseSector, programPage, readFrom}
+use Rattle.parts.specs.Parts.{part, lay}
+use Rattle.flash.specs.Arrays.{sectorErased, programmed}
+use Rattle.rings.specs.Ring.{ring}
+use Rattle.flash.specs.Sheet.{ErasesOnly}
+use Rattle.flash.proofs.Arrays.{length-sectorErased, part-sectorErased, sector-erase, length-programmed, programmed-fresh}
+use Rattle.parts.proofs.Lay.{lay-before, lay-inside, lay-after, part-lay, length-lay}
+use Rattle.rings.proofs.Ring.{length-ring, ring-straight}
+use Rattle.states.specs.States.{recordOk, stateOk, longestOf, powerOn}
+use Rattle.states.specs.declared.Record.{Record}
+use Rattle.states.specs.declared.State.{State}
+use Rattle.answers.specs.declared.Answer.the-variants.{Done}
+use Rattle.states.proofs.States.{Sound, sound, times}
+use Rattle.effects.specs.Effects.{Effect, stateOnly, changed, shown, drives, latched, dozing, working, written, eraseSector, programPage, readFrom}
 use Rattle.chip.specs.Frames.{frameOf}
-use Rattle.chip.specs.Time.{later}
+use Rattle.time.specs.Time.{later}
 use Rattle.promises.specs.Calls.{Call, World, ours, after, answer, run}
 use Rattle.promises.specs.Twelve.{Job, Bench, Fits, frame, eleven, wait₁, call₂, call₃, call₄, wait₅, call₆, call₇, wait₈, call₉, call₁₀, wait₁₁, call₁₂, twelve, Won, Recovers, TwelveCalls, lastEffect}
 use Rattle.promises.proofs.Steps.{Goes, ends, goes, goes-on, goes-run, goes-answers, Step, sends-to, waits-to, wake-taken, enable-taken, write-taken, erase-taken, program-taken, read-taken}

@@ -13,24 +13,24 @@ use Rattle.units.proofs.Bools.{unless, only-if}
 use Rattle.units.proofs.Table.{found}
 use Rattle.units.specs.declared.Address.{Address}
 use Rattle.units.specs.Models.{Part, partOf, modelOf, models, kh25l512}
-use Rattle.rules.specs.Answers.{isDone}
-use Rattle.rules.specs.Commands.{traitsOf}
-use Rattle.rules.specs.States.{recordOk, stateOk, longestOf, powerOn}
-use Rattle.rules.specs.declared.Record.{Record}
-use Rattle.rules.specs.declared.State.{State}
-use Rattle.rules.specs.declared.Answer.{Answer}
-use Rattle.rules.specs.declared.Answer.the-variants.{Done, BadState, BadRecord}
-use Rattle.rules.specs.declared.Command.{Command}
-use Rattle.rules.specs.declared.Command.the-variants.{WriteEnable, WriteDisable, ReadStatus, WriteStatus, Read, FastRead, EraseSector, EraseBlock, EraseChip, Program, ReadId, Wake, ReadMaker, Sleep, Unknown}
-use Rattle.rules.proofs.States.{Sound, sound, valid, status-write-le, page-le, sector-le, block-le, chip-le}
+use Rattle.answers.specs.Answers.{isDone}
+use Rattle.commands.specs.Commands.{traitsOf}
+use Rattle.states.specs.States.{recordOk, stateOk, longestOf, powerOn}
+use Rattle.states.specs.declared.Record.{Record}
+use Rattle.states.specs.declared.State.{State}
+use Rattle.answers.specs.declared.Answer.{Answer}
+use Rattle.answers.specs.declared.Answer.the-variants.{Done, BadState, BadRecord}
+use Rattle.commands.specs.declared.Command.{Command}
+use Rattle.commands.specs.declared.Command.the-variants.{WriteEnable, WriteDisable, ReadStatus, WriteStatus, Read, FastRead, EraseSector, EraseBlock, EraseChip, Program, ReadId, Wake, ReadMaker, Sleep, Unknown}
+use Rattle.states.proofs.States.{Sound, sound, valid, status-write-le, page-le, sector-le, block-le, chip-le}
 use Rattle.ladder.specs.Ladder.{refusalOf}
 use Rattle.ladder.specs.declared.Head.{Head}
 use Rattle.ladder.proofs.Passed.{passed}
-use Rattle.chip.specs.declared.After.{After}
-use Rattle.chip.specs.Effects.{Effect, stateOnly, drives, latched, dozing, working, written, readStatus, readFrom, eraseSector, eraseBlock, eraseChip, programPage, readId, wake, readMaker}
+use Rattle.time.specs.declared.After.{After}
+use Rattle.effects.specs.Effects.{Effect, stateOnly, drives, latched, dozing, working, written, readStatus, readFrom, eraseSector, eraseBlock, eraseChip, programPage, readId, wake, readMaker}
 use Rattle.chip.specs.Frames.{headOf, acceptedOf, frameOf}
 use Rattle.chip.proofs.Sorts.{Move, stays, latches, dozes, works, writes, kind, moves}
-use Rattle.chip.specs.Time.{later, cycled, ifValid, waitOf, powerOf}
+use Rattle.time.specs.Time.{later, cycled, ifValid, waitOf, powerOf}
 use Rattle.promises.specs.Calls.{Call, sends, waits, cycles, World, ours, after, run}
 use Rattle.promises.specs.Histories.{factory, ValidHistories}
 

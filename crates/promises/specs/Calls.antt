@@ -2,13 +2,13 @@
 use mathlib.Core.Bool.{Bool}
 use mathlib.Core.List.{List, [], _∷_}
 use Prim.Native.Nat.{ℕ}
-use Rattle.rules.specs.declared.Record.{Record}
-use Rattle.rules.specs.declared.State.{State}
-use Rattle.rules.specs.declared.Answer.{Answer}
-use Rattle.chip.specs.declared.After.{After}
-use Rattle.chip.specs.Effects.{Effect}
+use Rattle.states.specs.declared.Record.{Record}
+use Rattle.states.specs.declared.State.{State}
+use Rattle.answers.specs.declared.Answer.{Answer}
+use Rattle.time.specs.declared.After.{After}
+use Rattle.effects.specs.Effects.{Effect}
 use Rattle.chip.specs.Frames.{frameOf}
-use Rattle.chip.specs.Time.{waitOf, powerOf}
+use Rattle.time.specs.Time.{waitOf, powerOf}
 
 -- a frame with its bytes, tail, WP# level and the output lent to it; a wait; a power cycle
 pub data Call : Type 0 where

@@ -4,8 +4,8 @@ use mathlib.Core.Bool.{true}
 use mathlib.Core.List.{List, []}
 use Prim.Native.Nat.{ℕ}
 use lib.ListN.{length}
-use Rattle.rules.specs.States.{recordOk, stateOk, powerOn}
-use Rattle.rules.specs.declared.Record.{Record}
+use Rattle.states.specs.States.{recordOk, stateOk, powerOn}
+use Rattle.states.specs.declared.Record.{Record}
 use Rattle.units.specs.Models.{modelOf}
 use Rattle.promises.specs.Calls.{Call, World, ours, run}
 use Rattle.promises.specs.Twelve.{Job, Fits, Recovers}

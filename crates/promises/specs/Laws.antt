@@ -7,17 +7,17 @@ use Prim.Native.Nat.{ℕ, _+_, _≤_, _<_}
 use lib.ListN.{length, getD}
 use Rattle.units.specs.declared.Address.{Address}
 use Rattle.cells.specs.Cell.{bit}
-use Rattle.rules.specs.Answers.{isDone}
-use Rattle.rules.specs.declared.Record.{Record}
-use Rattle.rules.specs.declared.State.{State}
-use Rattle.rules.specs.declared.Command.{Command}
-use Rattle.rules.specs.declared.Command.the-variants.{Program}
-use Rattle.chip.specs.declared.Reply.{Reply}
-use Rattle.chip.specs.declared.After.{After}
-use Rattle.chip.specs.Effects.{Gives, stateOnly}
+use Rattle.answers.specs.Answers.{isDone}
+use Rattle.states.specs.declared.Record.{Record}
+use Rattle.states.specs.declared.State.{State}
+use Rattle.commands.specs.declared.Command.{Command}
+use Rattle.commands.specs.declared.Command.the-variants.{Program}
+use Rattle.effects.specs.declared.Reply.{Reply}
+use Rattle.time.specs.declared.After.{After}
+use Rattle.effects.specs.Effects.{Gives, stateOnly}
 use Rattle.chip.specs.Frames.{headOf, frameOf}
 use Rattle.chip.specs.Units.{Extent, unitOf}
-use Rattle.chip.specs.Time.{waitOf, powerOf}
+use Rattle.time.specs.Time.{waitOf, powerOf}
 
 -- waiting a and then b is waiting a + b, for any record and state
 abbrev pub WaitsAdd : Type 0

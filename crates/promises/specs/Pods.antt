@@ -5,13 +5,13 @@ use mathlib.Core.Bool.{Bool, true, false, _||_}
 use mathlib.Core.List.{List, [], _∷_}
 use Prim.Native.Nat.{ℕ, _+_, _-_, _<_}
 use lib.ListN.{length, getD}
-use Rattle.rules.specs.Answers.{isDone}
-use Rattle.rules.specs.Commands.{decodeOf}
-use Rattle.rules.specs.declared.Record.{Record}
-use Rattle.rules.specs.declared.State.{State}
-use Rattle.rules.specs.declared.Answer.the-variants.{Done}
-use Rattle.chip.specs.declared.Reply.{Reply}
-use Rattle.chip.specs.Effects.{Effect, Gives, stateOnly}
+use Rattle.answers.specs.Answers.{isDone}
+use Rattle.commands.specs.Commands.{decodeOf}
+use Rattle.states.specs.declared.Record.{Record}
+use Rattle.states.specs.declared.State.{State}
+use Rattle.answers.specs.declared.Answer.the-variants.{Done}
+use Rattle.effects.specs.declared.Reply.{Reply}
+use Rattle.effects.specs.Effects.{Effect, Gives, stateOnly}
 use Rattle.chip.specs.Frames.{frameOf}
 use Rattle.chip.specs.Units.{drivenBytes}
 use Rattle.promises.specs.Calls.{Call, sends, waits, cycles, Pod}

@@ -7,14 +7,14 @@ use lib.Dec.{eqb}
 use lib.ListN.{length, getD, take, replicate}
 use Rattle.units.specs.Models.{modelOf}
 use Rattle.cells.specs.Cell.{erased}
-use Rattle.cells.specs.Parts.{part}
-use Rattle.rules.specs.Answers.{numberOf}
-use Rattle.rules.specs.States.{statusOf, powerOn, benchKH25L512, benchKH25L2006E}
-use Rattle.rules.specs.declared.Record.{Record}
-use Rattle.rules.specs.declared.State.{State}
-use Rattle.chip.specs.Effects.{Effect}
+use Rattle.parts.specs.Parts.{part}
+use Rattle.answers.specs.Answers.{numberOf}
+use Rattle.states.specs.States.{statusOf, powerOn, benchKH25L512, benchKH25L2006E}
+use Rattle.states.specs.declared.Record.{Record}
+use Rattle.states.specs.declared.State.{State}
+use Rattle.effects.specs.Effects.{Effect}
 use Rattle.chip.specs.Frames.{frameOf}
-use Rattle.chip.specs.Time.{later}
+use Rattle.time.specs.Time.{later}
 
 -- what comes out: the answer, the first driven position, the driven bytes, the status byte after, the status byte after a wait, and
 -- the first cells of the array

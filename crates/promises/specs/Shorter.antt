@@ -5,10 +5,10 @@ use mathlib.Core.List.{List, [], _∷_, _++_}
 use Prim.Native.Nat.{ℕ, _-_, _≤_}
 use lib.ListN.{length, replicate}
 use Rattle.units.specs.Models.{modelOf}
-use Rattle.rules.specs.States.{recordOk, stateOk, longestOf}
-use Rattle.rules.specs.declared.Record.{Record}
-use Rattle.rules.specs.declared.State.{State}
-use Rattle.rules.specs.declared.Answer.the-variants.{Done, Busy}
+use Rattle.states.specs.States.{recordOk, stateOk, longestOf}
+use Rattle.states.specs.declared.Record.{Record}
+use Rattle.states.specs.declared.State.{State}
+use Rattle.answers.specs.declared.Answer.the-variants.{Done, Busy}
 use Rattle.promises.specs.Calls.{Call, waits, World, ours, run, answers}
 use Rattle.promises.specs.Histories.{factory}
 use Rattle.promises.specs.Twelve.{Job, Bench, Fits, frame, wait₁, call₂, call₃, call₄, wait₅, call₆, call₇, wait₈, call₉, call₁₀, call₁₂}

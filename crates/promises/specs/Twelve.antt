@@ -7,12 +7,12 @@ use lib.ListN.{length, getD, replicate}
 use Rattle.units.specs.declared.Address.{Address}
 use Rattle.units.specs.Kinds.{sectorOf, sectorStart}
 use Rattle.units.specs.Models.{modelOf, addressOf}
-use Rattle.cells.specs.Cell.{FF, Bytes}
-use Rattle.cells.specs.Parts.{part}
-use Rattle.rules.specs.States.{recordOk, stateOk, longestOf}
-use Rattle.rules.specs.declared.Record.{Record}
-use Rattle.rules.specs.declared.Answer.the-variants.{Done, Busy}
-use Rattle.chip.specs.Effects.{Effect}
+use Rattle.cells.specs.Cell.{FF}
+use Rattle.parts.specs.Parts.{Bytes, part}
+use Rattle.states.specs.States.{recordOk, stateOk, longestOf}
+use Rattle.states.specs.declared.Record.{Record}
+use Rattle.answers.specs.declared.Answer.the-variants.{Done, Busy}
+use Rattle.effects.specs.Effects.{Effect}
 use Rattle.promises.specs.Calls.{Call, sends, waits, cycles, Pod, World, answer, run, answers}
 
 -- what is to be written where, with the output lent to each frame and the n bytes that are sent while the data comes back

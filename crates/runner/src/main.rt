@@ -6,7 +6,7 @@ ghost use Rattle.runner.specs.Runs.{began, emptiedOf};
 use feed::Run;
 use libc::STDIN_FILENO;
 use libc::STDOUT_FILENO;
-use rules::Record;
+use states::Record;
 
 // Writes the filled part of the log; whether the output took it.
 fn flush(log: &[u8], filled: usize) -> bool {
@@ -122,12 +122,12 @@ fn main() {
     if !flush(&log, headed) {
         return;
     }
-    let rec = rules::bench_kh25l512();
+    let rec = states::bench_kh25l512();
     let mut array = [0xFFu8; 65536];
     let mut held = [0u8; 641];
     let mut block = io::large_buffer();
     let mut run = Run {
-        chip: rules::power_on(),
+        chip: states::power_on(),
         number: 1,
         used: 0,
         at: 0,

@@ -7,9 +7,9 @@ use native.Mathlib.Omega.{arith}
 use lib.Dec.{leb}
 use lib.ListN.{length, take, drop, replicate, length-take, length-drop}
 use borrow.Author.Tests.{le-leb}
-use Rattle.cells.specs.Parts.{part}
-use Rattle.rules.specs.declared.Record.{Record}
-use Rattle.rules.specs.declared.State.{State}
+use Rattle.parts.specs.Parts.{part}
+use Rattle.states.specs.declared.Record.{Record}
+use Rattle.states.specs.declared.State.{State}
 use Rattle.text.specs.Put.{Put}
 use Rattle.log.specs.Row.{logText, roomOf, Rowed}
 use Rattle.log.proofs.Laws.{row-most}

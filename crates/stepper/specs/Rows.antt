@@ -3,9 +3,9 @@ use mathlib.Core.Path.{_≡_}
 use mathlib.Core.List.{List, [], _∷_, _++_}
 use Prim.Native.Nat.{ℕ, _+_, _%_, _≤_}
 use lib.ListN.{replicate}
-use Rattle.cells.specs.Parts.{part}
-use Rattle.rules.specs.declared.Record.{Record}
-use Rattle.rules.specs.declared.State.{State}
+use Rattle.parts.specs.Parts.{part}
+use Rattle.states.specs.declared.Record.{Record}
+use Rattle.states.specs.declared.State.{State}
 use Rattle.text.specs.Put.{Put}
 use Rattle.log.specs.Row.{logText}
 use Rattle.play.specs.Play.{Turn, playOf}

@@ -2,7 +2,7 @@
 use mathlib.Core.Path.{_≡_}
 use mathlib.Core.List.{List}
 use Prim.Native.Nat.{ℕ}
-use Rattle.rules.specs.declared.State.{State}
+use Rattle.states.specs.declared.State.{State}
 use Rattle.play.specs.declared.Played.{Played}
 use Rattle.play.specs.Play.{Turn}
 

@@ -7,8 +7,8 @@ ghost use Rattle.play.specs.Play.{Plays, playOf};
 ghost use Rattle.stepper.specs.Steps.{Steps};
 ghost use Rattle.stepper.specs.Rows.{Logs};
 use play::Played;
-use rules::Record;
-use rules::State;
+use states::Record;
+use states::State;
 
 // A line is played: the state is altered where it lies.
 pub fn step(st: &mut State, rec: Record, line: &[u8], array: &mut [u8], shown: &mut [u8]) -> Played

@@ -2,9 +2,9 @@
 use mathlib.Core.Path.{_≡_, refl, ap, _∙_}
 use Prim.Native.Nat.{ℕ}
 use native.Mathlib.Omega.{arith}
-use Rattle.rules.specs.Commands.{traitsOf}
-use Rattle.rules.specs.declared.Answer.the-variants.{Done}
-use Rattle.chip.specs.Effects.{quiet, written}
+use Rattle.commands.specs.Commands.{traitsOf}
+use Rattle.answers.specs.declared.Answer.the-variants.{Done}
+use Rattle.effects.specs.Effects.{quiet, written}
 use Rattle.chip.specs.Frames.{acceptedOf}
 use Rattle.chip.proofs.Ready.{at-command, room-at}
 use borrow.Author.Needs.{needs}

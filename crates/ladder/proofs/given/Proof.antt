@@ -6,7 +6,7 @@ use borrow.Author.Needs.{needs}
 use borrow.Author.Tests.{not-true, not-false, eq-eqb, ne-eqb, lt-ltb, le-ltb}
 use Rattle.units.specs.Models.{modelOf}
 use Rattle.units.specs.declared.Model.{Model}
-use Rattle.rules.specs.States.{recordOk, stateOk}
+use Rattle.states.specs.States.{recordOk, stateOk}
 use Rattle.ladder.specs.Stages.{givenOf}
 use Rattle.ladder.proofs.given.Statement.{statement}
 use Rattle.ladder.proofs.given.Tie as tie

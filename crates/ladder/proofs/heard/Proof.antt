@@ -3,7 +3,7 @@ use mathlib.Core.Path.{_≡_, sym, ap, _∙_}
 use mathlib.Core.Bool.{true, false}
 use borrow.Author.Needs.{needs}
 use borrow.Author.Tests.{not-true, not-false, eq-eqb, ne-eqb}
-use Rattle.rules.specs.Commands.{lengthOk}
+use Rattle.commands.specs.Commands.{lengthOk}
 use Rattle.ladder.specs.Stages.{heardOf}
 use Rattle.ladder.proofs.heard.Statement.{statement}
 use Rattle.ladder.proofs.heard.Tie as tie

@@ -2,9 +2,9 @@
 use mathlib.Core.Path.{_≡_, sym, ap, _∙_}
 use mathlib.Core.Bool.{true, false}
 use borrow.Author.Tests.{not-true, not-false}
-use Rattle.rules.specs.Answers.{isDone}
-use Rattle.rules.specs.Commands.{traitsOf}
-use Rattle.rules.specs.declared.Traits.{Traits}
+use Rattle.answers.specs.Answers.{isDone}
+use Rattle.commands.specs.Commands.{traitsOf}
+use Rattle.commands.specs.declared.Traits.{Traits}
 use Rattle.ladder.specs.Stages.{givenOf, heardOf, allowedOf}
 use Rattle.ladder.proofs.Stages.{stops-given, stops-heard, goes-on, harmless}
 use borrow.Author.Needs.{needs}

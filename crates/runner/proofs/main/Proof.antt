@@ -8,8 +8,8 @@ use Rattle.runner.proofs.main.Reads as reads
 use Rattle.runner.proofs.main.Lts as lts
 use Rattle.io.proofs.large_buffer.Reads as large-buffer-reads
 use Rattle.log.proofs.put_header.Reads as put-header-reads
-use Rattle.rules.proofs.bench_kh25l512.Reads as bench-kh25l512-reads
-use Rattle.rules.proofs.power_on.Reads as power-on-reads
+use Rattle.states.proofs.bench_kh25l512.Reads as bench-kh25l512-reads
+use Rattle.states.proofs.power_on.Reads as power-on-reads
 use Rattle.runner.proofs.flush.Reads as flush-reads
 use Rattle.runner.proofs.read_block.Reads as read-block-reads
 

@@ -40,15 +40,15 @@ use denote.Triple.Table.{entered, cited}
 use denote.Triple.Walked.{says, Stays, stay-none, stay-none-slice, gave-slice, walkOf, AllGo, goes-none, goes-none-slice, goes-gave-slice, Walks, ends-at, walked, walk-meets}
 use denote.Triple.Clauses.{ensured, lasts}
 use denote.Exit.{yes}
-use Rattle.rules.specs.declared.State.{State}
-use Rattle.rules.proofs.State as TState
-use Rattle.rules.proofs.State.Laws as TState′
+use Rattle.states.specs.declared.State.{State}
+use Rattle.states.proofs.State as TState
+use Rattle.states.proofs.State.Laws as TState′
 use Rattle.play.specs.declared.Played.{Played}
 use Rattle.play.proofs.Played as TPlayed
 use Rattle.play.proofs.Played.Laws as TPlayed′
-use Rattle.rules.specs.declared.Record.{Record}
-use Rattle.rules.proofs.Record as TRecord
-use Rattle.rules.proofs.Record.Laws as TRecord′
+use Rattle.states.specs.declared.Record.{Record}
+use Rattle.states.proofs.Record as TRecord
+use Rattle.states.proofs.Record.Laws as TRecord′
 use Rattle.play.specs.Play.{Turn, Plays, playOf}
 use Rattle.stepper.specs.Steps.{Steps}
 use Rattle.stepper.proofs.Lent.{lies-in, lies-out}

@@ -1,0 +1,14 @@
+-- `states::longest` meets its contract. Assumes nothing.
+use Rattle.states.specs.States.{longestOf}
+use borrow.Author.Needs.{needs}
+use Rattle.states.proofs.longest.Statement.{statement}
+use Rattle.states.proofs.longest.Tie as tie
+
+returns : tie.Need-returns
+unfolding longestOf
+returns c = cc
+
+pub longest-spec : {M : Type 1} → statement M
+longest-spec =
+    tie.close
+    (tie.spec (λ c κs. search needs) (λ c κs. search needs) (λ c κs. search needs) (λ c κs. search needs) returns)
