@@ -27,8 +27,8 @@ use Rattle.ladder.specs.Ladder.{refusalOf}
 use Rattle.ladder.specs.declared.Head.{Head}
 use Rattle.ladder.proofs.Passed.{Passed, passed}
 use Rattle.effects.specs.declared.Reply.{Reply}
-use Rattle.effects.specs.Effects.{Gives, quiet, stateOnly}
-use Rattle.chip.specs.Frames.{Room, Ready, fewest, headOf, acceptedOf, frameOf}
+use Rattle.effects.specs.Effects.{Gives, Room, quiet, stateOnly}
+use Rattle.chip.specs.Frames.{Ready, fewest, headOf, acceptedOf, frameOf}
 
 -- an arm of the dispatch: what its command asks for and gives is what the command in hand does
 pub room-at : {c k : Command} {bytes out : List ℕ} → c ≡ k → Room (fewest (traitsOf c)) bytes out → Room (fewest (traitsOf k)) bytes out

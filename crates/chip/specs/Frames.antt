@@ -18,7 +18,7 @@ use Rattle.answers.specs.declared.Answer.{Answer}
 use Rattle.answers.specs.declared.Answer.the-variants.{Done}
 use Rattle.ladder.specs.Ladder.{refusalOf}
 use Rattle.ladder.specs.declared.Head.{Head}
-use Rattle.effects.specs.Effects.{Effect, shown, changed, stateOnly, latched, dozing, written, readStatus, readFrom, eraseSector, eraseBlock, eraseChip, programPage, readId, wake, readMaker}
+use Rattle.effects.specs.Effects.{Effect, shown, changed, stateOnly, latched, dozing, written, readStatus, readFrom, eraseSector, eraseBlock, eraseChip, programPage, readId, wake, readMaker, Room}
 
 -- the command is the first byte, the address the next three
 unfoldable pub headOf : ℕ → List ℕ → ℕ → Bool → Head

@@ -14,7 +14,7 @@ use units::Address;
 fn head(model: u32, bytes: &[u8], tail: u32, wp: bool) -> Head
     ensures { λ r. ⌜ r ≡ headOf model (now (bytes .entry)) tail wp ⌝ }
 {
-    let command = commands::decode(byte_at(bytes, 0));
+    let command = commands::decode(parts::byte_at(bytes, 0));
     let address = units::address_of(
         model,
         parts::byte_at(bytes, 1),
