@@ -92,7 +92,7 @@ count_emulated() {
     need qemu-x86_64 qemu-user
     native_cc
     for version in 1 2 3 4 5 6; do
-        gcc -O2 -shared -fPIC -DVERSION=$version -o "$dir/counter.so" "$root/host/bench/qemu_counter.c"
+        gcc -O2 -shared -fPIC -DVERSION=$version -o "$dir/counter.so" "$root/host/benchmark/qemu_counter.c"
         if qemu-x86_64 -cpu qemu64 -plugin "$dir/counter.so,counts=$dir/counts" "$@" >"$dir/qemu.log" 2>&1; then
             cat "$dir/counts"
             return 0
