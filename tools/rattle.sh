@@ -11,6 +11,10 @@ runner) crate=runner made=target/bin/runner ask="rt check runner" ;;
 archive) crate=pod made=target/staticlib/libpod.a ask="rt staticlib pod" ;;
 *) echo "tools/rattle.sh: there is nothing of the name $2" >&2; exit 2 ;;
 esac
+# `rt staticlib` proves its crate each time, so the archive is asked for only where a file of a crate is newer.
+if [ "$2" = archive ] && [ -f "$made" ] && [ -z "$(find crates.txt crates -newer "$made" -print -quit)" ]; then
+    exit 0
+fi
 if ! command -v rt >/dev/null 2>&1; then
     echo "$command: the Rattle toolchain is missing: there is no rt on the path" >&2
     exit 2
