@@ -35,6 +35,8 @@ if rt staticlib pod; then
     export GWO_RUNNER
     count host/test.sh
     count scripts/test.sh
+    count tools/commands.sh
+    count makers/test.sh
 else
     failed=$((failed + 1))
 fi

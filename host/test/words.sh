@@ -14,7 +14,7 @@ printf 'F\t1\t0\t06\nP\n' >"$work/script"
 
 # wrong WORDS: a failure, with what the runner wrote.
 wrong() {
-    echo "words: FAIL: $1"
+    echo "words: FAIL: ${1:0:120}"
     head -n 5 "$work/out" "$work/err" 2>/dev/null
     failed=1
 }
