@@ -92,6 +92,20 @@ progress() {
     printf 'make run: %s\n' 'units is proved, 1' 'runner is proved, 3' | diff -a - "$work/steps"
 }
 
+# A crate is said before the next one is done: the stand-in waits until it was.
+at_once() {
+    local tries=0 pid
+    stand_in 0 'rt: units proved (15 s)'
+    echo "for i in \$(seq 100); do [ -e '$work/seen' ] && exit 0; sleep 0.1; done; exit 1" >"$work/wait"
+    sed -i '$d' "$work/bin/rt"
+    cat "$work/wait" >>"$work/bin/rt"
+    PATH=$work/bin:$PATH make run SCRIPT=scripts/example.txt >"$work/out" 2>"$work/err" &
+    pid=$!
+    while ! grep -q 'units is proved' "$work/err" && [ $((tries += 1)) -lt 80 ]; do sleep 0.1; done
+    grep -q 'units is proved' "$work/err" && touch "$work/seen"
+    wait $pid
+}
+
 not_proved() {
     stand_in 1 'rt: units NOT PROVED (exit 1, 2 s)'
     ends 2 'rt: units NOT PROVED' tools/run.sh scripts/example.txt
@@ -129,6 +143,7 @@ check 'explain: a folder' ends 2 'make explain: scripts is a folder' make explai
 check 'explain' explains
 check 'example' gives host/example/output.txt make example
 check 'run: what is proved is said' progress
+check 'run: it is said at once' at_once
 check 'run: what is not proved is said' not_proved
 echo "$passed passed, $failed failed"
 [ "$failed" -eq 0 ]

@@ -34,11 +34,16 @@ crates() {
         END { reach(top); print count + 0 }' crates.txt
 }
 
-# The toolchain's lines as they come: a crate that has just been proved is said.
+# The toolchain's lines as they come (an awk may wait for more of them): a crate that has just been proved is said.
 progress() {
-    awk -v command="$command" -v all="$(crates)" '
-        / proved \(/ && /^rt: / { done++ }
-        /^rt: .* proved \([0-9]+ s\)$/ { printf "%s: %s is proved, %d of %d crates\n", command, $2, done, all; fflush() }'
+    local all line done=0
+    all=$(crates)
+    while IFS= read -r line; do
+        [[ $line =~ ^rt:\ [a-z0-9_]+\ proved\ \( ]] || continue
+        done=$((done + 1))
+        [[ $line =~ ^rt:\ ([a-z0-9_]+)\ proved\ \([0-9]+\ s\)$ ]] || continue
+        echo "$command: ${BASH_REMATCH[1]} is proved, $done of $all crates"
+    done
 }
 
 mkdir -p target
