@@ -95,14 +95,16 @@ progress() {
 # A crate is said before the next one is done: the stand-in waits until it was.
 at_once() {
     local tries=0 pid
+    rm -f "$work/err"
     stand_in 0 'rt: units proved (15 s)'
-    echo "for i in \$(seq 100); do [ -e '$work/seen' ] && exit 0; sleep 0.1; done; exit 1" >"$work/wait"
     sed -i '$d' "$work/bin/rt"
-    cat "$work/wait" >>"$work/bin/rt"
+    echo "for i in \$(seq 100); do [ -e '$work/seen' ] && exit 0; sleep 0.1; done; exit 1" >>"$work/bin/rt"
     PATH=$work/bin:$PATH make run SCRIPT=scripts/example.txt >"$work/out" 2>"$work/err" &
     pid=$!
-    while ! grep -q 'units is proved' "$work/err" && [ $((tries += 1)) -lt 80 ]; do sleep 0.1; done
-    grep -q 'units is proved' "$work/err" && touch "$work/seen"
+    while [ $((tries += 1)) -lt 80 ] && [ ! -e "$work/seen" ]; do
+        sleep 0.1
+        grep -qs 'units is proved' "$work/err" && touch "$work/seen"
+    done
     wait $pid
 }
 
