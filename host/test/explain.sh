@@ -13,6 +13,8 @@ work=$(mktemp -d)
 trap 'rm -rf "$work"' EXIT
 samples=$root/host/explain/samples
 
+if [ -n "${GWO_RUNNER:-}" ]; then whose="the runner's"; else whose="the independent model's"; fi
+
 log_of() {
     if [ -n "${GWO_RUNNER:-}" ]; then $GWO_RUNNER <"$1"; else "$host" run "$scripts" expect <"$1"; fi
 }
@@ -58,4 +60,4 @@ log_of "$root/scripts/bad-lines.txt" | sed '5s/20/0/' >"$work/other"
 status 1 "$root/scripts/bad-lines.txt" "$work/other"
 status 2 "$script" "$work/none"
 status 2 "$root" "$work/log"
-echo "explain: the samples are as stored; on $lines lines its verdict is the runner's"
+echo "explain: the samples are as stored; on $lines lines its verdict is $whose"
