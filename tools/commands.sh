@@ -5,6 +5,8 @@
 set -u
 cd "$(dirname "$0")/.." || exit
 unset MAKEFLAGS MFLAGS MAKELEVEL SCRIPT LOG
+# On Arm the runner's emulator stands beside the real rt, which the stand-in hides.
+real=$(command -v rt) && export RATTLE_HOME="${RATTLE_HOME:-$(dirname "$(dirname "$(readlink -f "$real")")")}"
 passed=0
 failed=0
 work=$(mktemp -d)
