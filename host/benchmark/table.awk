@@ -1,4 +1,4 @@
-# The counts (`ROW INSTRUCTIONS`, the last of a stretch counts) and the rows of bench.c, made into a table.
+# The counts (`ROW INSTRUCTIONS`, the last of a stretch counts) and the rows of benchmark.c, made into a table.
 NR == FNR { split($0, field, " "); stretch[field[1]] = field[2]; next }
 
 function number(n,   text, out) {

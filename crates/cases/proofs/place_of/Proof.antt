@@ -1,9 +1,9 @@
--- `bench::place_of` ends, between `from` and the length. Assumes nothing.
+-- `cases::place_of` ends, between `from` and the length. Assumes nothing.
 use Prim.Native.Nat.{_≤_, _-_}
 use lib.ListN.{length}
 use borrow.Author.Needs.{needs}
-use Rattle.bench.proofs.place_of.Statement.{statement}
-use Rattle.bench.proofs.place_of.Tie as tie
+use Rattle.cases.proofs.place_of.Statement.{statement}
+use Rattle.cases.proofs.place_of.Tie as tie
 
 abbrev Inv-loop : tie.InvT-loop
 Inv-loop byte text from i₀ i = (from ≤ i) × (i ≤ length text)

@@ -192,7 +192,7 @@ static void measure(const struct row *r, int index, int who)
         uint32_t answer = call_once(r, who, stretch, name);
 
         if (who != EMPTY && answer != r->answer) {
-            printf("bench: %s is answered %lu, want %lu\n", r->name, (unsigned long)answer, (unsigned long)r->answer);
+            printf("benchmark: %s is answered %lu, want %lu\n", r->name, (unsigned long)answer, (unsigned long)r->answer);
             exit(1);
         }
     }

@@ -1,4 +1,4 @@
-// A chip on the bench, worked by lines from standard input: the part that the programs `frames` and `bench_sheet` share.
+// A chip worked by lines from standard input, case after case: the part that the programs `frames` and `bench_sheet` share.
 //
 // A line is a step, or a step, `|` and a note. F, W and P are the steps of a script. The others are a letter, a tab and bytes in hex,
 // with numbers and addresses of three bytes, high byte first:
@@ -19,8 +19,8 @@ use states::Record;
 use states::State;
 use units::Address;
 
-// The chip on the bench: its model, the length of its array, the first of the cells that are looked at, and what the last step came to.
-struct Bench {
+// The chip that is worked: its model, the length of its array, the first of the cells that are looked at, and what the last step came to.
+struct Setup {
     model: u8,
     size: usize,
     look: u32,
@@ -91,8 +91,8 @@ fn say_cells(array: &[u8], look: u32) {
     }
 }
 
-fn say_row(line: &[u8], bench: Bench, array: &[u8], out: &[u8]) {
-    let last = bench.last;
+fn say_row(line: &[u8], setup: Setup, array: &[u8], out: &[u8]) {
+    let last = setup.last;
     let st = last.state;
     say(line);
     say(b"|");
@@ -100,7 +100,7 @@ fn say_row(line: &[u8], bench: Bench, array: &[u8], out: &[u8]) {
     say_driven(last.from, last.count, out);
     say(b"\t");
     say_state(st);
-    say_cells(array, bench.look);
+    say_cells(array, setup.look);
     say(b"\n");
 }
 
@@ -139,10 +139,10 @@ fn set_to(state: State) -> Played {
     }
 }
 
-fn fresh(model: u8, blocks: u8, array: &mut [u8]) -> Bench {
+fn fresh(model: u8, blocks: u8, array: &mut [u8]) -> Setup {
     flash::erase_all(array);
     let last = set_to(states::power_on());
-    Bench {
+    Setup {
         model,
         size: 65536 * wide(blocks) as usize,
         look: 0,
@@ -224,35 +224,35 @@ fn letter(line: &[u8]) -> u8 {
     if 0 < line.len() { line[0] } else { 0 }
 }
 
-fn with_last(bench: Bench, last: Played) -> Bench {
-    let mut next = bench;
+fn with_last(setup: Setup, last: Played) -> Setup {
+    let mut next = setup;
     next.last = last;
     next
 }
 
-fn with_look(bench: Bench, look: u32) -> Bench {
-    let mut next = bench;
+fn with_look(setup: Setup, look: u32) -> Setup {
+    let mut next = setup;
     next.look = look;
     next
 }
 
-fn step(bench: Bench, line: &[u8], array: &mut [u8], out: &mut [u8; 65600]) -> Bench {
-    let rec = record_of(bench.model);
-    let last = bench.last;
+fn step(setup: Setup, line: &[u8], array: &mut [u8], out: &mut [u8; 65600]) -> Setup {
+    let rec = record_of(setup.model);
+    let last = setup.last;
     let st = last.state;
     let says = read(line);
     match letter(line) {
         b'S' => with_last(
-            bench,
+            setup,
             set_to(state_of(says[0], says[1], number(says[2], says[3], says[4]))),
         ),
         b'C' => {
             set_cells(&says, array);
-            bench
+            setup
         }
-        b'L' => with_look(bench, number(says[0], says[1], says[2])),
-        b'X' => with_last(bench, send_long(rec, st, &says, array, out)),
-        _ => with_last(bench, play::play(line, rec, st, array, out)),
+        b'L' => with_look(setup, number(says[0], says[1], says[2])),
+        b'X' => with_last(setup, send_long(rec, st, &says, array, out)),
+        _ => with_last(setup, play::play(line, rec, st, array, out)),
     }
 }
 
@@ -274,9 +274,9 @@ fn place_of(byte: u8, text: &[u8], from: usize) -> usize
 }
 
 // A step, and its row where it has a note.
-fn step_done(bench: Bench, line: &[u8], array: &mut [u8], out: &mut [u8; 65600]) -> Bench {
+fn step_done(setup: Setup, line: &[u8], array: &mut [u8], out: &mut [u8; 65600]) -> Setup {
     let end = place_of(b'|', line, 0);
-    let next = step(bench, &line[0..end], array, out);
+    let next = step(setup, &line[0..end], array, out);
     if end < line.len() {
         say_row(line, next, array, out);
     }
@@ -284,25 +284,25 @@ fn step_done(bench: Bench, line: &[u8], array: &mut [u8], out: &mut [u8; 65600])
 }
 
 // Any line. All but a fresh chip's step sees the chip's array only.
-fn line_done(bench: Bench, line: &[u8], array: &mut [u8], out: &mut [u8; 65600]) -> Bench {
+fn line_done(setup: Setup, line: &[u8], array: &mut [u8], out: &mut [u8; 65600]) -> Setup {
     if letter(line) == b'M' {
         let says = read(line);
         return fresh(says[0], says[1], array);
     }
-    let size = bench.size;
+    let size = setup.size;
     if array.len() < size {
-        return bench;
+        return setup;
     }
-    step_done(bench, line, &mut array[0..size], out)
+    step_done(setup, line, &mut array[0..size], out)
 }
 
 // Line after line; the last may lack its newline.
-fn work(first: Bench, script: &[u8], array: &mut [u8; 262144], out: &mut [u8; 65600]) {
-    let mut bench = first;
+fn work(first: Setup, script: &[u8], array: &mut [u8; 262144], out: &mut [u8; 65600]) {
+    let mut setup = first;
     let mut at = 0;
     while at < script.len() {
         let end = place_of(b'\n', script, at);
-        bench = line_done(bench, &script[at..end], array, out);
+        setup = line_done(setup, &script[at..end], array, out);
         at = end + 1;
     }
 }

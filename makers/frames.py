@@ -2,7 +2,7 @@
 """Writes the input and the expected output of crates/frames.
 
 The frames are made here, and what they come to is computed here, by a small model written from the scope and the data
-sheets and nothing else; no program of the project is asked. The line format is that of crates/bench. Run it from the
+sheets and nothing else; no program of the project is asked. The line format is that of crates/cases. Run it from the
 project's root.
 """
 import random
@@ -152,7 +152,7 @@ class Chip:
         self.busy = self.times[1]
 
 
-class Bench:
+class Cases:
     """Writes the lines, and the rows that they come to."""
 
     def __init__(self):
@@ -367,7 +367,7 @@ def long_frames(b):
             b.long(bytes([command]), 0, n)
 
 
-def wrong_benches(b):
+def wrong_setups(b):
     for model, blocks in ((0, 1), (3, 1), (3, 4), (1, 0), (1, 2), (1, 4), (2, 1), (2, 3), (2, 0)):
         b.fresh(model, blocks)
         for sent in (b"", b"\x06", b"\x05\0", b"\x03\0\0\0\0", b"\xff"):
@@ -403,7 +403,7 @@ def history(b, rng, steps):
 
 
 def main():
-    b = Bench()
+    b = Cases()
     for model in (1, 2):
         for command in COMMANDS + UNKNOWN:
             b.fresh(model)
@@ -418,7 +418,7 @@ def main():
         long_frames(b)
         b.fresh(model)
         history(b, random.Random(model), 500)
-    wrong_benches(b)
+    wrong_setups(b)
     b.fresh(1)
     for line in ("", "F", "F\t1\t8\t06", "F\t1\t0\t6", "W\t01", "P\t", "f\t1\t0\t06"):
         b.bad_line(line)
