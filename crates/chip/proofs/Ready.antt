@@ -24,6 +24,8 @@ use Rattle.commands.specs.declared.Command.the-variants.{WriteEnable, WriteDisa
 use Rattle.answers.specs.declared.Answer.{Answer}
 use Rattle.states.proofs.States.{sound, highest-bp}
 use Rattle.ladder.specs.Ladder.{refusalOf}
+use Rattle.ladder.specs.Stages.{givenOf, saidOf}
+use Rattle.ladder.proofs.Stages.{stops-given, goes-on}
 use Rattle.ladder.specs.declared.Head.{Head}
 use Rattle.ladder.proofs.Passed.{Passed, passed}
 use Rattle.effects.specs.declared.Reply.{Reply}
@@ -90,34 +92,64 @@ module _ (rec : Record) (x : Chip) (f : Sent) where
         fits = record { long = long-enough _ _ _ (exact-first _) (p .some) (p .fits); short = p .short; room = p .roomy };
       }
 
-  said : {h : Head} {a : Answer} → h ≡ H → a ≡ refusalOf rec (x .state) h → a ≡ refusalOf rec (x .state) H
-  said e g = g ∙ ap (refusalOf rec (x .state)) e
+  -- what the call is given was let pass: what the frame says is what is left of the table
+  said : {h : Head} {a : Answer} → isDone (givenOf rec (x .state) H) ≡ true → h ≡ H → a ≡ saidOf rec (x .state) h → a ≡ refusalOf rec (x .state) H
+  said p e g = g ∙ ap (saidOf rec (x .state)) e ∙ sym (goes-on rec (x .state) H p)
 
-  pub ready : {h : Head} {a : Answer} → h ≡ H → a ≡ refusalOf rec (x .state) h
+  pub ready : {h : Head} {a : Answer} → isDone (givenOf rec (x .state) H) ≡ true → h ≡ H → a ≡ saidOf rec (x .state) h
       → isDone a ≡ true → Ready rec x (h .command) (h .address) (f .bytes) (f .out)
-  ready {h} {a} e g d =
+  ready {h} {a} p e g d =
       subst (λ (k : Head). Ready rec x (k .command) (k .address) (f .bytes) (f .out)) (sym e)
-      (arrived (passed rec (x .state) H (sym (ap isDone (said e g)) ∙ d)))
+      (arrived (passed rec (x .state) H (sym (ap isDone (said p e g)) ∙ d)))
 
   -- what a frame comes to, by whether it is refused
   abbrev either-way : Bool → Effect
   either-way b = cond b (acceptedOf rec x (H .command) (H .address) (f .bytes) (f .out)) (refusedOf (refusalOf rec (x .state) H) x f)
 
-  pub accept : {h : Head} {a : Answer} {r : Reply} {xs os : List ℕ} → h ≡ H
-      → a ≡ refusalOf rec (x .state) h → isDone a ≡ true
+  pub accept : {h : Head} {a : Answer} {r : Reply} {xs os : List ℕ} → isDone (givenOf rec (x .state) H) ≡ true → h ≡ H
+      → a ≡ saidOf rec (x .state) h → isDone a ≡ true
       → Gives (acceptedOf rec x (h .command) (h .address) (f .bytes) (f .out)) r xs os
       → Gives (frameOf rec x f) r xs os
   unfolding frameOf
-  accept {h} {a} {r} {xs} {os} e g d q =
+  accept {h} {a} {r} {xs} {os} p e g d q =
       subst (λ (b : Bool). Gives (either-way b) r xs os)
-      (sym (sym (ap isDone (said e g)) ∙ d))
+      (sym (sym (ap isDone (said p e g)) ∙ d))
       (subst (λ (k : Head). Gives (acceptedOf rec x (k .command) (k .address) (f .bytes) (f .out)) r xs os) e q)
 
-  pub refuse : {h : Head} {a : Answer} {r : Reply} → h ≡ H
-      → a ≡ refusalOf rec (x .state) h → isDone a ≡ false → r ≡ quiet a (x .state)
-      → Gives (frameOf rec x f) r (x .cells) (f .out)
+  -- a refusal, wherever it came from
+  refused : {a : Answer} {r : Reply} → a ≡ refusalOf rec (x .state) H → isDone a ≡ false → r ≡ quiet a (x .state) → Gives (frameOf rec x f) r (x .cells) (f .out)
   unfolding frameOf
-  refuse {h} {a} {r} e g d q =
+  refused {a} {r} g d q =
       subst (λ (b : Bool). Gives (either-way b) r (x .cells) (f .out))
-      (sym (sym (ap isDone (said e g)) ∙ d))
-      (record { reply = q ∙ ap (λ (k : Answer). quiet k (x .state)) (said e g); cells = refl; out = refl })
+      (sym (sym (ap isDone g) ∙ d))
+      (record { reply = q ∙ ap (λ (k : Answer). quiet k (x .state)) g; cells = refl; out = refl })
+
+  pub refuse : {h : Head} {a : Answer} {r : Reply} → isDone (givenOf rec (x .state) H) ≡ true → h ≡ H
+      → a ≡ saidOf rec (x .state) h → isDone a ≡ false → r ≡ quiet a (x .state)
+      → Gives (frameOf rec x f) r (x .cells) (f .out)
+  refuse p e g d q = refused (said p e g) d q
+
+  -- the first rows do not look at what the frame says
+  abbrev unread : Head
+  unread =
+      record {
+        cells = length (x .cells);
+        count = length (f .bytes);
+        tail = f .tail;
+        wp = f .wp;
+        room = length (f .out);
+        command = Unknown;
+        address = record { 0 = 0 };
+      }
+
+  as-given : givenOf rec (x .state) unread ≡ givenOf rec (x .state) H
+  unfolding givenOf headFor
+  as-given = refl
+
+  pub let-pass : {a : Answer} → a ≡ givenOf rec (x .state) unread → isDone a ≡ true → isDone (givenOf rec (x .state) H) ≡ true
+  let-pass e d = sym (ap isDone (e ∙ as-given)) ∙ d
+
+  pub refuse-given : {a : Answer} {r : Reply} → a ≡ givenOf rec (x .state) unread → isDone a ≡ false → r ≡ quiet a (x .state) → Gives (frameOf rec x f) r (x .cells) (f .out)
+  refuse-given e d q =
+      let g = e ∙ as-given in
+      refused (g ∙ sym (stops-given rec (x .state) H (sym (ap isDone g) ∙ d))) d q
