@@ -86,7 +86,7 @@ fn say_state(st: State) {
 fn say_cells(array: &[u8], look: u32) {
     if 0 < array.len() {
         let mut seen = [0u8; 8];
-        flash::read_part(array, Address(look), &mut seen, 0, 8);
+        rings::read_ring(array, look as usize % array.len(), &mut seen, 0, 8);
         say_hex(&seen);
     }
 }

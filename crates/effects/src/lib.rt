@@ -131,7 +131,7 @@ pub fn read_from(
     bytes: &[u8],
     out: &mut [u8],
 ) -> Reply
-    requires { ⌜ (0 < length (now array)) × Room first (now bytes) (now out) ⌝ }
+    requires { ⌜ (at .0 < length (now array)) × Room first (now bytes) (now out) ⌝ }
     ensures { λ r. ⌜ Shows (readFrom first st (now (array .entry)) at (now (bytes .entry)) (now (out .entry))) r (now (out .exit)) ⌝ }
 {
     let n = bytes.len();
