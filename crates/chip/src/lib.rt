@@ -17,13 +17,13 @@ use units::Address;
 fn head(model: u32, cells: usize, bytes: &[u8], tail: u32, wp: bool, room: usize) -> Head
     ensures { λ r. ⌜ r ≡ headFor model cells (now (bytes .entry)) tail wp room ⌝ }
 {
-    let command = commands::decode(parts::byte_at(bytes, 0));
     let address = units::address_of(
         model,
         parts::byte_at(bytes, 1),
         parts::byte_at(bytes, 2),
         parts::byte_at(bytes, 3),
     );
+    let command = commands::decode(parts::byte_at(bytes, 0));
     Head {
         cells,
         count: bytes.len(),
