@@ -1,15 +1,16 @@
 -- The effects of the calls, from what the chip and the packing give. Assumes nothing.
-use mathlib.Core.Path.{_≡_, ap, _∙_}
-use mathlib.Core.Bool.{true}
+use mathlib.Core.Path.{_≡_, sym, ap, _∙_}
+use mathlib.Core.Bool.{true, false}
 use mathlib.Core.List.{List}
 use Prim.Native.Nat.{ℕ}
 use Rattle.answers.specs.Answers.{numberOf, isDone}
-use Rattle.states.specs.States.{stateOk}
+use Rattle.states.specs.States.{recordOk, stateOk}
 use Rattle.states.specs.declared.Record.{Record}
 use Rattle.states.specs.declared.State.{State}
 use Rattle.answers.specs.declared.Answer.{Answer}
 use Rattle.effects.specs.declared.Reply.{Reply}
 use Rattle.time.specs.declared.After.{After}
+use Rattle.ladder.specs.Ladder.{refusalOf}
 use Rattle.effects.specs.Effects.{Effect, Gives}
 use Rattle.chip.specs.Frames.{Sent, chipOf, frameOf}
 use Rattle.time.specs.Time.{later, cycled, ifValid, waitOf, powerOf}
@@ -53,6 +54,13 @@ module _ (rec : Record) (xs cells : List ℕ) (f : Sent) where
           from-is = ap (λ (x : Reply). x .from) (given .reply);
           count-is = ap (λ (x : Reply). x .count) (given .reply);
         }
+
+-- the first row of the table, tested before the state is unpacked
+pub bad-record : (rec : Record) (xs cells : List ℕ) (f : Sent) {r : Record} → r ≡ rec → recordOk r ≡ false → Leaves (calledFrame rec xs cells f) 1 xs cells (f .out) 0 0
+unfolding calledFrame frameOf refusalOf keptOf
+bad-record rec xs cells f {r} e b =
+    let no : recordOk rec ≡ false = sym (ap recordOk e) ∙ b in
+    record { number-is = rw no; state-is = rw no; cells-are = rw no; out-is = rw no; from-is = rw no; count-is = rw no }
 
 -- ---- waits and power cycles
 module _ (rec : Record) (xs : List ℕ) (next : State) (h : Small (unpackOf xs) → Small next) where

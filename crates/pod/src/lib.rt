@@ -134,6 +134,11 @@ pub extern "C" fn gwo_frame(
     ensures { λ r. ⌜ Leaves (calledFrame (recordOf model «status_us» «page_us» «sector_us» «block_us» «chip_us») (now (state .entry)) (now (array .entry)) (sentBy (now (frame .entry)) tail wp (now (out .entry)))) r (now (state .exit)) (now (array .exit)) (now (out .exit)) (now (from .exit)) (now (count .exit)) ⌝ }
 {
     let rec = record_of(model, status_us, page_us, sector_us, block_us, chip_us);
+    if !states::record_ok(rec) {
+        *from = 0;
+        *count = 0;
+        return 1;
+    }
     let st = unpack(state);
     let reply = chip::frame(rec, st, array, frame, tail, wp != 0, out);
     *from = reply.from;
