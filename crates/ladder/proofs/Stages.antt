@@ -1,6 +1,6 @@
 -- The three stages, one after the other, are the one table. Assumes nothing.
 use mathlib.Core.Path.{_≡_, refl, sym, ap, _∙_}
-use mathlib.Core.Bool.{Bool, true, false, not, _&&_, cond, true≢false}
+use mathlib.Core.Bool.{Bool, true, false, not, _&&_, cond}
 use mathlib.Core.List.{List, [], _∷_, _++_}
 use Prim.Native.Nat.{ℕ}
 use lib.ListN.{take, drop}
@@ -12,7 +12,7 @@ use Rattle.states.specs.declared.Record.{Record}
 use Rattle.states.specs.declared.State.{State}
 use Rattle.commands.specs.declared.Traits.{Traits}
 use Rattle.commands.specs.declared.Command.{Command}
-use Rattle.commands.specs.declared.Command.the-variants.{WriteEnable, WriteDisable, ReadStatus, WriteStatus, Read, FastRead, EraseSector, EraseBlock, EraseChip, Program, ReadId, Wake, ReadMaker, Sleep, Unknown}
+use Rattle.commands.proofs.Rows.{harmless}
 use Rattle.answers.specs.declared.Answer.{Answer}
 use Rattle.answers.specs.declared.Answer.the-variants.{Done}
 use Rattle.ladder.specs.declared.Head.{Head}
@@ -65,20 +65,6 @@ module _ (rec : Record) (s : State) (cells : ℕ) (h : Head) (room : ℕ) where
   goes-on e f = one-table rec s cells h room ∙ rw (e, f)
 
 -- a command that needs no WEL is stopped by none of the last three rows
-pub harmless : (rec : Record) (s : State) (cells : ℕ) (h : Head) (room : ℕ) (c : Command) → traitsOf c .latch ≡ false → allowedOf rec s cells h room (traitsOf c) ≡ Done
-unfolding traitsOf allowedOf
-harmless rec s cells h room WriteEnable e = refl
-harmless rec s cells h room WriteDisable e = refl
-harmless rec s cells h room ReadStatus e = refl
-harmless rec s cells h room WriteStatus e = absurd (true≢false e)
-harmless rec s cells h room Read e = refl
-harmless rec s cells h room FastRead e = refl
-harmless rec s cells h room EraseSector e = absurd (true≢false e)
-harmless rec s cells h room EraseBlock e = absurd (true≢false e)
-harmless rec s cells h room EraseChip e = absurd (true≢false e)
-harmless rec s cells h room Program e = absurd (true≢false e)
-harmless rec s cells h room ReadId e = refl
-harmless rec s cells h room Wake e = refl
-harmless rec s cells h room ReadMaker e = refl
-harmless rec s cells h room Sleep e = refl
-harmless rec s cells h room Unknown e = refl
+pub unstopped : (rec : Record) (s : State) (cells : ℕ) (h : Head) (room : ℕ) (c : Command) → traitsOf c .latch ≡ false → allowedOf rec s cells h room (traitsOf c) ≡ Done
+unfolding allowedOf
+unstopped rec s cells h room c e = let k = harmless c e in rw (k .latch, k .lock, k .unit, k .whole)
