@@ -1,4 +1,5 @@
 -- `states::longest` meets its contract. Assumes nothing.
+use native.Mathlib.Nat.{max-zero}
 use Rattle.states.specs.States.{longestOf}
 use borrow.Author.Needs.{needs}
 use Rattle.states.proofs.longest.Statement.{statement}
@@ -6,7 +7,7 @@ use Rattle.states.proofs.longest.Tie as tie
 
 returns : tie.Need-returns
 unfolding longestOf
-returns c = cc
+returns c = cc (max-zero (c .before .before .before .before .args .rec .chip))
 
 pub longest-spec : {M : Type 1} → statement M
 longest-spec =

@@ -1,12 +1,13 @@
 -- `states::record_ok` meets its contract. Assumes nothing.
-use Rattle.states.specs.States.{recordOk}
+use mathlib.Core.Bool.{and-true}
+use Rattle.states.specs.States.{inRange, recordOk}
 use borrow.Author.Needs.{needs}
 use Rattle.states.proofs.record_ok.Statement.{statement}
 use Rattle.states.proofs.record_ok.Tie as tie
 
 returns : tie.Need-returns
 unfolding recordOk
-returns c = cc
+returns c = cc (and-true (inRange (c .before .before .before .before .before .before .args .rec .chip)))
 
 pub record-ok-spec : {M : Type 1} → statement M
 record-ok-spec =
