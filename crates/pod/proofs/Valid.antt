@@ -83,7 +83,7 @@ pub record Done-small (r : Reply) : Type 0 where
 
 module _ (rec : Record) (s : State) (cells : List ℕ) (at : Address) (bytes out : List ℕ) (ok : recordOk rec ≡ true) (h : Small s) where
   busy-for : (us : ℕ) → us ≤ longestOf rec → us < 2 ^ 32
-  busy-for us l = omega (arith, longest-bound rec ok)
+  busy-for us l = omega (arith, longest-in-range rec ok .short)
 
   works-small : (us : ℕ) → us ≤ longestOf rec → Small (working s us)
   unfolding working

@@ -7,7 +7,10 @@ use Rattle.states.proofs.record_ok.Tie as tie
 
 returns : tie.Need-returns
 unfolding recordOk
-returns c = cc (and-true (inRange (c .before .before .before .before .before .before .args .rec .chip)))
+returns c =
+    let b = c .before .before in
+    let a = b .before .before in
+    rw (a .before .is-model .ensures, a .in-range .ensures, b .before .in-range2 .ensures, b .in-range3 .ensures, c .before .in-range4 .ensures, c .in-range5 .ensures, and-true (inRange (a .before .before .args .rec .chip)))
 
 pub record-ok-spec : {M : Type 1} → statement M
 record-ok-spec =
