@@ -62,9 +62,9 @@ pub record Harmless (k : Traits) : Type 0 where
   pub unit : k .unit ≡ false
   pub whole : k .whole ≡ false
 
-pub harmless : (c : Command) → traitsOf c .latch ≡ false → Harmless (traitsOf c)
+pub no-latch : (c : Command) → traitsOf c .latch ≡ false → Harmless (traitsOf c)
 unfolding rowTest
-harmless c e =
+no-latch c e =
     let k : Traits = traitsOf c in
     let t : (k .latch || (not (k .lock) && (not (k .unit) && not (k .whole)))) ≡ true = and-eq-true-iff (lengthOk k (fewest k) 0) _ .0 (row-test c) .1 in
     let a = and-eq-true-iff (not (k .lock)) _ .0 (rw e at t) in

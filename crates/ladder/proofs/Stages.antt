@@ -12,7 +12,7 @@ use Rattle.states.specs.declared.Record.{Record}
 use Rattle.states.specs.declared.State.{State}
 use Rattle.commands.specs.declared.Traits.{Traits}
 use Rattle.commands.specs.declared.Command.{Command}
-use Rattle.commands.proofs.Rows.{harmless}
+use Rattle.commands.proofs.Rows.{no-latch}
 use Rattle.answers.specs.declared.Answer.{Answer}
 use Rattle.answers.specs.declared.Answer.the-variants.{Done}
 use Rattle.ladder.specs.declared.Head.{Head}
@@ -65,6 +65,6 @@ module _ (rec : Record) (s : State) (cells : ℕ) (h : Head) (room : ℕ) where
   goes-on e f = one-table rec s cells h room ∙ rw (e, f)
 
 -- a command that needs no WEL is stopped by none of the last three rows
-pub unstopped : (rec : Record) (s : State) (cells : ℕ) (h : Head) (room : ℕ) (c : Command) → traitsOf c .latch ≡ false → allowedOf rec s cells h room (traitsOf c) ≡ Done
+pub harmless : (rec : Record) (s : State) (cells : ℕ) (h : Head) (room : ℕ) (c : Command) → traitsOf c .latch ≡ false → allowedOf rec s cells h room (traitsOf c) ≡ Done
 unfolding allowedOf
-unstopped rec s cells h room c e = let k = harmless c e in rw (k .latch, k .lock, k .unit, k .whole)
+harmless rec s cells h room c e = let k = no-latch c e in rw (k .latch, k .lock, k .unit, k .whole)

@@ -6,7 +6,7 @@ use Rattle.answers.specs.Answers.{isDone}
 use Rattle.commands.specs.Commands.{traitsOf}
 use Rattle.commands.specs.declared.Traits.{Traits}
 use Rattle.ladder.specs.Stages.{givenOf, heardOf, allowedOf}
-use Rattle.ladder.proofs.Stages.{stops-given, stops-heard, goes-on, unstopped}
+use Rattle.ladder.proofs.Stages.{stops-given, stops-heard, goes-on, harmless}
 use borrow.Author.Needs.{needs}
 use Rattle.ladder.proofs.refusal.Statement.{statement}
 use Rattle.ladder.proofs.refusal.Tie as tie
@@ -46,7 +46,7 @@ returns-4 c =
     let e = c .before in
     let a = e .before .before .before .before .before .before .before .args in
     let off : traitsOf (a .head .command) .latch ≡ false = sym (ap (λ (t : Traits). t .latch) (e .before .before .before .traits-of .ensures)) ∙ c .if3 .left in
-    sym (goes-on (a .rec) (a .st) (a .cells) (a .head) (a .room) (first (e .before .before .before .before)) (heard e) ∙ unstopped (a .rec) (a .st) (a .cells) (a .head) (a .room) (a .head .command) off)
+    sym (goes-on (a .rec) (a .st) (a .cells) (a .head) (a .room) (first (e .before .before .before .before)) (heard e) ∙ harmless (a .rec) (a .st) (a .cells) (a .head) (a .room) (a .head .command) off)
 
 pub refusal-spec : {M : Type 1} → statement M
 refusal-spec =
