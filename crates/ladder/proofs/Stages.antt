@@ -1,6 +1,6 @@
 -- The stages, one after the other, are the one table. Assumes nothing.
 use mathlib.Core.Path.{_≡_, refl, sym, ap, _∙_}
-use mathlib.Core.Bool.{Bool, true, false, not, _&&_, cond, true≢false}
+use mathlib.Core.Bool.{Bool, true, false, not, _&&_, cond}
 use mathlib.Core.List.{List, [], _∷_, _++_}
 use Prim.Native.Nat.{ℕ}
 use lib.ListN.{take, drop}
@@ -12,7 +12,7 @@ use Rattle.states.specs.declared.Record.{Record}
 use Rattle.states.specs.declared.State.{State}
 use Rattle.commands.specs.declared.Traits.{Traits}
 use Rattle.commands.specs.declared.Command.{Command}
-use Rattle.commands.specs.declared.Command.the-variants.{WriteEnable, WriteDisable, ReadStatus, WriteStatus, Read, FastRead, EraseSector, EraseBlock, EraseChip, Program, ReadId, Wake, ReadMaker, Sleep, Unknown}
+use Rattle.commands.proofs.Rows.{no-latch}
 use Rattle.answers.specs.declared.Answer.{Answer}
 use Rattle.answers.specs.declared.Answer.the-variants.{Done}
 use Rattle.ladder.specs.declared.Head.{Head}
@@ -66,19 +66,5 @@ module _ (rec : Record) (s : State) (h : Head) where
 
 -- a command that needs no WEL is stopped by none of the last three rows
 pub harmless : (rec : Record) (s : State) (h : Head) (c : Command) → traitsOf c .latch ≡ false → allowedOf rec s h (traitsOf c) ≡ Done
-unfolding traitsOf allowedOf
-harmless rec s h WriteEnable e = refl
-harmless rec s h WriteDisable e = refl
-harmless rec s h ReadStatus e = refl
-harmless rec s h WriteStatus e = absurd (true≢false e)
-harmless rec s h Read e = refl
-harmless rec s h FastRead e = refl
-harmless rec s h EraseSector e = absurd (true≢false e)
-harmless rec s h EraseBlock e = absurd (true≢false e)
-harmless rec s h EraseChip e = absurd (true≢false e)
-harmless rec s h Program e = absurd (true≢false e)
-harmless rec s h ReadId e = refl
-harmless rec s h Wake e = refl
-harmless rec s h ReadMaker e = refl
-harmless rec s h Sleep e = refl
-harmless rec s h Unknown e = refl
+unfolding allowedOf
+harmless rec s h c e = let k = no-latch c e in rw (k .latch, k .lock, k .unit, k .whole)

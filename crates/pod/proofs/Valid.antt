@@ -4,20 +4,16 @@ use mathlib.Core.Bool.{Bool, true, false, true≢false, false≢true}
 use mathlib.Core.List.{List}
 use Prim.Native.Nat.{ℕ, _^_, _≤_, _<_}
 use native.Mathlib.Omega.{arith}
-use lib.Dec.{leb}
 use lib.ListN.{length}
-use borrow.Author.Tests.{leb-true}
-use Rattle.units.specs.Models.{isModel}
 use Rattle.units.specs.declared.Address.{Address}
-use Rattle.units.proofs.Bools.{both}
 use Rattle.answers.specs.Answers.{isDone}
-use Rattle.states.specs.States.{inRange, recordOk, longestOf, stateOk}
+use Rattle.states.specs.States.{recordOk, longestOf, stateOk}
 use Rattle.states.specs.declared.Record.{Record}
 use Rattle.states.specs.declared.State.{State}
 use Rattle.answers.specs.declared.Answer.the-variants.{Done}
 use Rattle.commands.specs.declared.Command.{Command}
 use Rattle.commands.specs.declared.Command.the-variants.{WriteEnable, WriteDisable, ReadStatus, WriteStatus, Read, FastRead, EraseSector, EraseBlock, EraseChip, Program, ReadId, Wake, ReadMaker, Sleep, Unknown}
-use Rattle.states.proofs.States.{sound, highest-bp, status-write-le, page-le, sector-le, block-le, chip-le}
+use Rattle.states.proofs.States.{sound, highest-bp, longest-in-range, status-write-le, page-le, sector-le, block-le, chip-le}
 use Rattle.ladder.specs.Ladder.{refusalOf}
 use Rattle.ladder.specs.declared.Head.{Head}
 use Rattle.ladder.proofs.Passed.{passed}
@@ -41,25 +37,11 @@ valid-packing rec xs v = go (isPacking xs) refl
     go true e = e
     go false e = absurd (nothing-valid rec (rw (unpack-none xs e) at v))
 
-at-most : (us : ℕ) → inRange us ≡ true → us ≤ 1000000000
-unfolding inRange
-at-most us e = leb-true us 1000000000 (both (leb 1 us) (leb us 1000000000) e .1)
-
-longest-bound : (r : Record) → recordOk r ≡ true → longestOf r ≤ 1000000000
-unfolding recordOk longestOf
-longest-bound r e =
-    let a = both (isModel (r .model)) _ e in
-    let b = both (inRange (r .«status_write»)) _ (a .1) in
-    let c = both (inRange (r .page)) _ (b .1) in
-    let d = both (inRange (r .sector)) _ (c .1) in
-    let f = both (inRange (r .block)) _ (d .1) in
-    omega (arith, at-most _ (b .0), at-most _ (c .0), at-most _ (d .0), at-most _ (f .0), at-most _ (f .1))
-
 pub valid-small : (rec : Record) (s : State) → recordOk rec ≡ true → stateOk rec s ≡ true → Small s
 valid-small rec s r v =
     record {
       level = omega (arith, sound rec s v .level, highest-bp (rec .model));
-      short = omega (arith, sound rec s v .time, longest-bound rec r);
+      short = omega (arith, sound rec s v .time, longest-in-range rec r .short);
     }
 
 -- ---- waits and power cycles
@@ -102,7 +84,7 @@ pub record Done-small (r : Reply) : Type 0 where
 
 module _ (rec : Record) (s : State) (ok : recordOk rec ≡ true) (h : Small s) where
   busy-for : (us : ℕ) → us ≤ longestOf rec → us < 2 ^ 32
-  busy-for us l = omega (arith, longest-bound rec ok)
+  busy-for us l = omega (arith, longest-in-range rec ok .short)
 
   works-small : (us : ℕ) → us ≤ longestOf rec → Small (working s us)
   unfolding working

@@ -2,20 +2,19 @@
 use mathlib.Core.Path.{_≡_, refl, sym, ap, subst, _∙_}
 use mathlib.Core.Bool.{Bool, true, false}
 use mathlib.Core.List.{List, [], _∷_}
-use mathlib.Core.Logic.{_⊎_, inl, inr, ⊎-elim}
-use Prim.Native.Nat.{ℕ, _+_, _-_, _≤_, _<_, max}
-use native.Mathlib.Nat.{max-eq-left, max-eq-right, le-refl}
+use mathlib.Core.Logic.{inr}
+use Prim.Native.Nat.{ℕ, _+_, _-_, _≤_, _<_}
+use native.Mathlib.Nat.{le-refl}
 use native.Mathlib.Omega.{arith}
-use lib.Dec.{leb, lit≤}
+use lib.Dec.{lit≤}
 use lib.ListN.{length, replicate}
-use borrow.Author.Tests.{leb-true, leb-false}
 use Rattle.units.specs.Models.{modelOf, addressOf}
 use Rattle.commands.specs.Commands.{decodeOf, traitsOf}
 use Rattle.states.specs.States.{recordOk, stateOk, longestOf, powerOn}
 use Rattle.states.specs.declared.Record.{Record}
 use Rattle.states.specs.declared.State.{State}
 use Rattle.answers.specs.declared.Answer.the-variants.{Done, Busy}
-use Rattle.states.proofs.States.{valid, times, status-write-le}
+use Rattle.states.proofs.States.{valid, times, longest-in-range, by-longest}
 use Rattle.effects.specs.Effects.{Effect, stateOnly, changed, written, working, eraseSector, eraseBlock, eraseChip, programPage}
 use Rattle.chip.specs.Frames.{frameOf}
 use Rattle.promises.specs.Calls.{Call, waits, World, ours, run}
@@ -38,14 +37,11 @@ still rec cells out time p e b r =
     (refused rec [] cells time p b (0xAB ∷ []) out (lit≤ tt) (lit≤ tt) r refl))
 
 -- a bench whose chip runs its longest operation
-longest-some : (rec : Record) → recordOk rec ≡ true → 0 < longestOf rec
-longest-some rec e = omega (arith, times rec e .status, status-write-le rec)
-
 pub shorter₁ : Shorter₁
 shorter₁ rec cells out e l r =
     let s : State = running (longestOf rec) in
     let v : stateOk rec s ≡ true = valid rec s (record { level = omega arith; time = le-refl (longestOf rec); mood = inr (refl, refl) }) in
-    (s, v, still rec cells out (longestOf rec) (longest-some rec e) refl (record { right = e; whole = l; valid = v }) r)
+    (s, v, still rec cells out (longestOf rec) (longest-in-range rec e .some) refl (record { right = e; whole = l; valid = v }) r)
 
 -- ---- from power-on: 06 and an operation
 module _ (rec : Record) (cells out : List ℕ) (e : recordOk rec ≡ true) (l : length cells ≡ modelOf (rec .model) .length) (r : 1 ≤ length out) where
@@ -103,25 +99,8 @@ module _ (rec : Record) (cells out : List ℕ) (e : recordOk rec ≡ true) (l : 
       by (0xC7 ∷ []) (changed room (eraseChip rec enabled cells)) (rec .chip)
       (chip-taken rec here ready refl room refl refl refl (lit≤ tt)) refl refl (times rec e .chip) m
 
--- the longest of several is one of them
-larger : (a b : ℕ) → (max a b ≡ a) ⊎ (max a b ≡ b)
-larger a b = go (leb a b) refl
-  where
-    go : (t : Bool) → leb a b ≡ t → (max a b ≡ a) ⊎ (max a b ≡ b)
-    go true e = inr (max-eq-right (leb-true a b e))
-    go false e = inl (max-eq-left (omega (arith, leb-false a b e)))
-
+-- the longest of the times is one of them
 pub reached₁ : Reached₁
-unfolding longestOf
 reached₁ rec cells out e l r =
-    let a = rec .«status_write» in
-    let d = max (rec .block) (rec .chip) in
-    let c = max (rec .sector) d in
-    let b = max (rec .page) c in
-    ⊎-elim (λ p. by-status rec cells out e l r p)
-    (λ p. ⊎-elim (λ q. by-page rec cells out e l r (p ∙ q))
-    (λ q. ⊎-elim (λ s. by-sector rec cells out e l r (p ∙ q ∙ s))
-    (λ s. ⊎-elim (λ t. by-block rec cells out e l r (p ∙ q ∙ s ∙ t)) (λ t. by-chip rec cells out e l r (p ∙ q ∙ s ∙ t)) (larger (rec .block) (rec .chip)))
-    (larger (rec .sector) d))
-    (larger (rec .page) c))
-    (larger a b)
+    by-longest rec (longest-in-range rec e .some)
+    (by-status rec cells out e l r, (by-page rec cells out e l r, (by-sector rec cells out e l r, (by-block rec cells out e l r, (by-chip rec cells out e l r, tt)))))
