@@ -16,6 +16,7 @@ use Rattle.commands.proofs.Rows.{long-enough}
 use Rattle.states.specs.declared.Record.{Record}
 use Rattle.states.specs.declared.State.{State}
 use Rattle.commands.specs.declared.Command.{Command}
+use Rattle.commands.specs.declared.Command.the-variants.{Unknown}
 use Rattle.answers.specs.declared.Answer.{Answer}
 use Rattle.states.proofs.States.{sound, highest-bp}
 use Rattle.ladder.specs.Ladder.{refusalOf}
