@@ -18,7 +18,7 @@ use Rattle.play.specs.Play.{Turn}
 use Rattle.stepper.specs.Rows.{lineTurn, rowText, Logs, logFrom, cellsFrom}
 use Rattle.stepper.proofs.Rows.{row-short}
 use Rattle.feed.specs.declared.Run.{Run}
-use Rattle.feed.specs.Feed.{Start, Ready, Stand, standing, lineDone, feedTurn, feedFor, feedOf, lastOf, Stands, Ends}
+use Rattle.feed.specs.Feed.{Start, TurnStart, Stand, standing, lineDone, feedTurn, feedFor, feedOf, lastOf, Stands, Ends}
 use Rattle.feed.specs.Fed.{Did, Fed, Finished, FeedFeeds, LastFinishes}
 use Rattle.feed.proofs.Turns.{Same, same-clip, stands, line-done, Turned, turned}
 
@@ -134,14 +134,14 @@ unfolding feedOf
 feeding-none rec run held block cells log s = record { ready = s; left = length block; enough = omega arith; same = refl }
 
 pub feeding-ready : {rec : Record} {block : List ℕ} {start s : Stand} → Feeding rec block start s → s .run .at < length block → 665 ≤ length (s .log) - s .run .filled
-    → Ready (s .run) (s .held) block (s .log)
+    → TurnStart (s .run) (s .held) block (s .log)
 feeding-ready g l r = record { inside = l; hold = g .ready .hold; used = g .ready .used; room = omega (arith, g .ready .within) }
 
 one-more : (rec : Record) (block : List ℕ) (n : ℕ) (s : Stand) → s .run .at < length block → s .run .filled + 665 ≤ length (s .log)
     → feedFor rec block (suc n) s ≡ feedFor rec block n (feedTurn rec block s)
 one-more rec block n s l r = rw (lt-ltb (s .run .at) (length block) l, le-leb (s .run .filled + 665) (length (s .log)) r)
 
-feeding-turn : {rec : Record} {block : List ℕ} {start s : Stand} → Feeding rec block start s → Ready (s .run) (s .held) block (s .log)
+feeding-turn : {rec : Record} {block : List ℕ} {start s : Stand} → Feeding rec block start s → TurnStart (s .run) (s .held) block (s .log)
     → Feeding rec block start (feedTurn rec block s)
 feeding-turn {rec} {block} {start} {s} g p = go (g .left) (g .enough) (g .same)
   where
@@ -158,12 +158,12 @@ feeding-turn {rec} {block} {start} {s} g p = go (g .left) (g .enough) (g .same)
           same = e ∙ one-more rec block n s (p .inside) (p .room);
         }
 
-pub feeding-on : {rec : Record} {block : List ℕ} {start s : Stand} {r : Run} {held cells log : List ℕ} → Feeding rec block start s → Ready (s .run) (s .held) block (s .log)
+pub feeding-on : {rec : Record} {block : List ℕ} {start s : Stand} {r : Run} {held cells log : List ℕ} → Feeding rec block start s → TurnStart (s .run) (s .held) block (s .log)
     → Stands (feedTurn rec block s) r held cells log → Feeding rec block start (standing r held cells log)
 feeding-on {rec} {block} {start} g p e = subst (Feeding rec block start) (sym (stands e)) (feeding-turn g p)
 
 -- it goes on in the block
-pub turn-on : (rec : Record) (block : List ℕ) (s : Stand) {r : Run} {held cells log : List ℕ} → Ready (s .run) (s .held) block (s .log) → Stands (feedTurn rec block s) r held cells log → s .run .at < r .at
+pub turn-on : (rec : Record) (block : List ℕ) (s : Stand) {r : Run} {held cells log : List ℕ} → TurnStart (s .run) (s .held) block (s .log) → Stands (feedTurn rec block s) r held cells log → s .run .at < r .at
 turn-on rec block s {r} p e =
     let d = turned rec (s .run) (s .held) block (s .cells) (s .log) p in
     let a : r .at ≡ feedTurn rec block s .run .at = ap (λ (z : Run). z .at) (e .run′) in

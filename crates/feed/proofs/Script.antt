@@ -16,7 +16,7 @@ use Rattle.lines.specs.Cutting.{Holds}
 use Rattle.stepper.specs.Rows.{logFrom}
 use Rattle.feed.specs.Feed.{Stand, feedOf}
 use Rattle.feed.specs.Fed.{Did, Fed}
-use Rattle.feed.specs.Script.{emptied, begun, filledPart, Wrote, blockFor, blockOf, joined, WholeScript}
+use Rattle.feed.specs.Script.{emptied, begun, filledPart, Wrote, blockFor, wholeBlock, joinedUp, WholeScript}
 use Rattle.feed.proofs.Feeds.{feed-feeds, last-finishes}
 
 -- a text that was put into an empty log is what is written out of it
@@ -100,5 +100,5 @@ pub whole-script : WholeScript
 whole-script rec s line [] l r h = put-filled (last-finishes rec (begun s .run) (s .held) (s .cells) (s .log) l r .did line h)
 whole-script rec s line (block ∷ blocks) l r h =
     let t = through-for rec block (length block) (begun s) line (record { inside = omega arith; hold = l; room = r; holds = h }) (omega arith) in
-    let w : Wrote = blockOf rec block s in
-    ap (λ (z : List ℕ). w .text ++ z) (whole-script rec (w .stand) (t .rest) blocks (t .hold) (t .room) (t .holds)) ∙ sym (t .same (joined blocks))
+    let w : Wrote = wholeBlock rec block s in
+    ap (λ (z : List ℕ). w .text ++ z) (whole-script rec (w .stand) (t .rest) blocks (t .hold) (t .room) (t .holds)) ∙ sym (t .same (joinedUp blocks))

@@ -25,7 +25,7 @@ use Rattle.stepper.specs.declared.Logged.{Logged}
 use Rattle.stepper.specs.Rows.{lineTurn, rowText, Logs, next, logFrom}
 use Rattle.stepper.proofs.Rows.{row-short}
 use Rattle.feed.specs.declared.Run.{Run}
-use Rattle.feed.specs.Feed.{Ready, Stand, standing, goesOn, lineDone, cutTurn, feedTurn, Stands}
+use Rattle.feed.specs.Feed.{TurnStart, Stand, standing, goesOn, lineDone, cutTurn, feedTurn, Stands}
 use Rattle.feed.specs.Fed.{Did}
 
 -- ---- a line over 640 bytes is played as its first 641 are
@@ -110,7 +110,7 @@ holds-front held used l =
     let all : take (length held) (take used held) ≡ take used held = take-all (length held) (take used held) (omega arith) in
     record { is = sym all; count = sym (ap length all ∙ n) }
 
-module _ (rec : Record) (run : Run) (held block cells log : List ℕ) (p : Ready run held block log) where
+module _ (rec : Record) (run : Run) (held block cells log : List ℕ) (p : TurnStart run held block log) where
   abbrev from : Stand
   from = standing run held cells log
 

@@ -23,7 +23,7 @@ pub record Start (run : Run) (held block log : List ℕ) : Type 0 where
   pub within : run .filled ≤ length log
 
 -- the log has room for the longest row, and the buffer for the line that is held has 641 bytes: enough to know a line over 640 for one
-pub record Ready (run : Run) (held block log : List ℕ) : Type 0 where
+pub record TurnStart (run : Run) (held block log : List ℕ) : Type 0 where
   pub inside : run .at < length block
   pub hold : length held ≡ 641
   pub used : run .used ≤ 641

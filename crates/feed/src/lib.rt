@@ -2,7 +2,7 @@
 ghost use mathlib.Core.Path.{_≡_};
 ghost use Prim.Native.Nat.{_+_, _≤_, _<_};
 ghost use lib.ListN.{length};
-ghost use Rattle.feed.specs.Feed.{Start, Ready, goesOn, standing, feedTurn, feedOf, lastOf, Stands, Ends};
+ghost use Rattle.feed.specs.Feed.{Start, TurnStart, goesOn, standing, feedTurn, feedOf, lastOf, Stands, Ends};
 use lines::Cut;
 use states::Record;
 use states::State;
@@ -41,7 +41,7 @@ fn turn(
     array: &mut [u8],
     log: &mut [u8],
 ) -> Run
-    requires { ⌜ Ready run (now held) (now block) (now log) ⌝ }
+    requires { ⌜ TurnStart run (now held) (now block) (now log) ⌝ }
     ensures { λ r. ⌜ Stands (feedTurn rec (now (block .entry)) (standing run (now (held .entry)) (now (array .entry)) (now (log .entry)))) r (now (held .exit)) (now (array .exit)) (now (log .exit)) ⌝ }
 {
     let chip = run.chip;

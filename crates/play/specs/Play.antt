@@ -13,7 +13,7 @@ use Rattle.chip.specs.Frames.{frameOf}
 use Rattle.time.specs.Time.{waitOf, powerOf}
 use Rattle.script.specs.declared.Line.{Line}
 use Rattle.script.specs.declared.Line.the-variants.{Frame, Wait, Power, Bad}
-use Rattle.script.specs.Hex.{bytesOf}
+use Rattle.script.specs.Hex.{hexBytes}
 use Rattle.script.specs.Reading.{lineOf}
 use Rattle.play.specs.declared.Played.{Played}
 
@@ -29,7 +29,7 @@ passedOf a = record { answer = numberOf (a .answer); from = 0; count = 0; state 
 -- the bytes of the line's hex digits, as many as 300, are the frame
 unfoldable pub frameTurn : Record → State → List ℕ → List ℕ → List ℕ → Bool → ℕ → Turn
 frameTurn rec s cells shown line wp tail =
-    let e : Effect = frameOf rec s cells (take 300 (bytesOf (drop 6 line))) tail wp shown in
+    let e : Effect = frameOf rec s cells (take 300 (hexBytes (drop 6 line))) tail wp shown in
     record {
       played = record { answer = numberOf (e .reply .answer); from = e .reply .from; count = e .reply .count; state = e .reply .state };
       cells = e .cells;
