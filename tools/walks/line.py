@@ -14,9 +14,9 @@ LINE = SimpleNamespace(
     # the parameters after the state, and the order in which the callee takes them
     params=[P('rec', 'struct', ('states', 'Record')), P('line', '&'), P('array', '&mut'), P('shown', '&mut')],
     order=['line', 'rec', 'st', 'array', 'shown'],
-    uses=['use Rattle.play.specs.Play.{Turn, Plays, playOf}', 'use Rattle.stepper.specs.Steps.{Steps}'],
+    uses=['use Rattle.chip.specs.Frames.{chipOf}', 'use Rattle.play.specs.Play.{Turn, Plays, playOf}', 'use Rattle.stepper.specs.Steps.{Steps}'],
     # what is done, what the callee and the step promise of it, and how each follows from the other
-    does_type='Turn', does='playOf {rec} {st} {array} {shown} {line}',
+    does_type='Turn', does='playOf {rec} (chipOf {st} {array}) {shown} {line}',
     gives='Plays {d} {r} {l_array} {l_shown}', steps='Steps {d} {r} {z} {l_array} {l_shown}',
     steps_from='record { played = e .played; state = ap (λ (y : Played). y .state) (e .played); cells = e .cells; shown = e .shown }',
     last_is='e .state ∙ sym (ap (λ (y : Played). y .state) (e .played))',

@@ -7,8 +7,9 @@ use lib.Dec.{ltb}
 use lib.ListN.{length, take}
 use Rattle.states.specs.declared.Record.{Record}
 use Rattle.lines.specs.Lines.{linesFrom, joinedUp}
-use Rattle.lines.specs.Cutting.{Holds}
+use Rattle.lines.specs.Cutting.{Holds, heldRoom}
 use Rattle.stepper.specs.Rows.{logFrom}
+use Rattle.log.specs.Row.{longestRow}
 use Rattle.feed.specs.Feed.{Stand, standing, feedOf, lastOf}
 
 -- the log was written out, and is empty again
@@ -47,5 +48,5 @@ writtenOf rec s (block ∷ blocks) = wholeBlock rec block s .text ++ writtenOf r
 
 -- it is the log of the lines of all blocks together, whatever `line` is held at the start
 abbrev pub WholeScript : Type 0
-WholeScript = (rec : Record) (s : Stand) (line : List ℕ) (blocks : List (List ℕ)) → length (s .held) ≡ 641 → 665 ≤ length (s .log) → Holds line (s .held) (s .run .used)
+WholeScript = (rec : Record) (s : Stand) (line : List ℕ) (blocks : List (List ℕ)) → length (s .held) ≡ heldRoom → longestRow ≤ length (s .log) → Holds line (s .held) (s .run .used)
     → writtenOf rec s blocks ≡ logFrom rec (s .run .chip) (s .cells) (s .run .number) (linesFrom line (joinedUp blocks))

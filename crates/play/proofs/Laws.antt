@@ -20,7 +20,7 @@ use Rattle.script.specs.declared.Line.the-variants.{Frame, Wait, Power, Bad}
 use Rattle.script.specs.Hex.{hexBytes, Unhexed}
 use Rattle.script.specs.Reading.{lineOf}
 use Rattle.play.specs.declared.Played.{Played}
-use Rattle.play.specs.Play.{Plays, frameTurn, turnOf, playOf}
+use Rattle.play.specs.Play.{Plays, OnePlays, frameTurn, turnOf, playOf}
 
 -- ---- what is sent of a frame's line
 take-long : (m : ℕ) (xs : List ℕ) → take (length (take m xs)) xs ≡ take m xs
@@ -84,3 +84,6 @@ turn-within rec s cells shown line Bad = omega arith
 
 pub played-within : (rec : Record) (s : State) (cells shown line : List ℕ) {r : Played} → r ≡ playOf rec s cells shown line .played → r .from + r .count ≤ 300
 played-within rec s cells shown line {r} e = subst (λ (q : Played). q .from + q .count ≤ 300) (sym e) (turn-within rec s cells shown line (lineOf line))
+
+pub one-plays : OnePlays
+one-plays t r r′ xs xs′ os os′ p q = (p .played ∙ sym (q .played), p .cells ∙ sym (q .cells), p .shown ∙ sym (q .shown))

@@ -50,3 +50,7 @@ pub record Plays (t : Turn) (r : Played) (xs os : List ℕ) : Type 0 where
   pub played : r ≡ t .played
   pub cells : xs ≡ t .cells
   pub shown : os ≡ t .shown
+
+-- no second answer
+abbrev pub OnePlays : Type 0
+OnePlays = (t : Turn) (r r′ : Played) (xs xs′ os os′ : List ℕ) → Plays t r xs os → Plays t r′ xs′ os′ → (r ≡ r′) × (xs ≡ xs′) × (os ≡ os′)
