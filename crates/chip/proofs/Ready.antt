@@ -27,18 +27,18 @@ use Rattle.ladder.specs.Ladder.{refusalOf}
 use Rattle.ladder.specs.declared.Head.{Head}
 use Rattle.ladder.proofs.Passed.{Passed, passed}
 use Rattle.effects.specs.declared.Reply.{Reply}
-use Rattle.effects.specs.Effects.{Gives, quiet, stateOnly}
-use Rattle.chip.specs.Frames.{Room, Ready, fewest, headOf, acceptedOf, frameOf}
+use Rattle.effects.specs.Effects.{Effect, Gives, Room, quiet}
+use Rattle.chip.specs.Frames.{Chip, Sent, Ready, fewest, headFor, headOf, acceptedOf, refusedOf, frameOf}
 
 -- an arm of the dispatch: what its command asks for and gives is what the command in hand does
 pub room-at : {c k : Command} {bytes out : List ℕ} → c ≡ k → Room (fewest (traitsOf c)) bytes out → Room (fewest (traitsOf k)) bytes out
 room-at {c} {k} {bytes} {out} e r = subst (λ (x : Command). Room (fewest (traitsOf x)) bytes out) e r
 
-module _ (rec : Record) (s : State) (cells : List ℕ) (at : Address) (bytes out : List ℕ) where
+module _ (rec : Record) (x : Chip) (at : Address) (bytes out : List ℕ) where
   pub at-command : {c k : Command} {r : Reply} {xs os : List ℕ} → c ≡ k
-      → Gives (acceptedOf rec s k cells at bytes out) r xs os
-      → Gives (acceptedOf rec s c cells at bytes out) r xs os
-  at-command {c} {k} {r} {xs} {os} e g = subst (λ (x : Command). Gives (acceptedOf rec s x cells at bytes out) r xs os) (sym e) g
+      → Gives (acceptedOf rec x k at bytes out) r xs os
+      → Gives (acceptedOf rec x c at bytes out) r xs os
+  at-command {c} {k} {r} {xs} {os} e g = subst (λ (d : Command). Gives (acceptedOf rec x d at bytes out) r xs os) (sym e) g
 
 -- a length that is allowed is the exact one or at least the least
 length-cases : (k : Traits) (n tail : ℕ) → lengthOk k n tail ≡ true → (n ≡ k .exact) ⊎ (k .least ≤ n)
@@ -75,47 +75,49 @@ long-enough k n tail m z e = go (eqb (k .exact) 0) refl (length-cases k n tail e
         ⊎-elim (λ x. omega arith) (λ x. x) q
     go false p q = ⊎-elim (λ x. omega arith) (λ x. le-trans m x) q
 
-module _ (rec : Record) (s : State) (cells bytes : List ℕ) (tail : ℕ) (wp : Bool) (out : List ℕ) where
-  arrived : Passed rec s (length cells) (headOf (rec .model) bytes tail wp) (length out)
-      → Ready rec s (headOf (rec .model) bytes tail wp .command) cells (headOf (rec .model) bytes tail wp .address) bytes out
-  unfolding headOf addressOf
+module _ (rec : Record) (x : Chip) (f : Sent) where
+  abbrev H : Head
+  H = headOf rec x f
+
+  arrived : Passed rec (x .state) H → Ready rec x (H .command) (H .address) (f .bytes) (f .out)
+  unfolding headFor addressOf
   arrived p =
+      let b : List ℕ = f .bytes in
       record {
-        level = omega (arith, sound rec s (p .valid) .level, highest-bp (rec .model));
+        level = omega (arith, sound rec (x .state) (p .valid) .level, highest-bp (rec .model));
         whole = p .whole;
-        inside = subst (λ (n : ℕ). addressOf (rec .model) (getD bytes 1 0) (getD bytes 2 0) (getD bytes 3 0) .0 < n) (sym (p .whole)) (mod-lt _ (omega (arith, row-rules (rec .model) .some)));
+        inside = subst (λ (n : ℕ). addressOf (rec .model) (getD b 1 0) (getD b 2 0) (getD b 3 0) .0 < n) (sym (p .whole)) (mod-lt _ (omega (arith, row-rules (rec .model) .some)));
         fits = record { long = long-enough _ _ _ (exact-first _) (p .some) (p .fits); short = p .short; room = p .roomy };
       }
 
-  abbrev H : Head
-  H = headOf (rec .model) bytes tail wp
+  said : {h : Head} {a : Answer} → h ≡ H → a ≡ refusalOf rec (x .state) h → a ≡ refusalOf rec (x .state) H
+  said e g = g ∙ ap (refusalOf rec (x .state)) e
 
-  said : {h : Head} {a : Answer} → h ≡ H → a ≡ refusalOf rec s (length cells) h (length out) → a ≡ refusalOf rec s (length cells) H (length out)
-  said e f = f ∙ ap (λ (x : Head). refusalOf rec s (length cells) x (length out)) e
+  pub ready : {h : Head} {a : Answer} → h ≡ H → a ≡ refusalOf rec (x .state) h
+      → isDone a ≡ true → Ready rec x (h .command) (h .address) (f .bytes) (f .out)
+  ready {h} {a} e g d =
+      subst (λ (k : Head). Ready rec x (k .command) (k .address) (f .bytes) (f .out)) (sym e)
+      (arrived (passed rec (x .state) H (sym (ap isDone (said e g)) ∙ d)))
 
-  pub ready : {h : Head} {a : Answer} → h ≡ H → a ≡ refusalOf rec s (length cells) h (length out)
-      → isDone a ≡ true → Ready rec s (h .command) cells (h .address) bytes out
-  ready {h} {a} e f d =
-      subst (λ (x : Head). Ready rec s (x .command) cells (x .address) bytes out) (sym e)
-      (arrived (passed rec s (length cells) H (length out) (sym (ap isDone (said e f)) ∙ d)))
+  -- what a frame comes to, by whether it is refused
+  abbrev either-way : Bool → Effect
+  either-way b = cond b (acceptedOf rec x (H .command) (H .address) (f .bytes) (f .out)) (refusedOf (refusalOf rec (x .state) H) x f)
 
   pub accept : {h : Head} {a : Answer} {r : Reply} {xs os : List ℕ} → h ≡ H
-      → a ≡ refusalOf rec s (length cells) h (length out) → isDone a ≡ true
-      → Gives (acceptedOf rec s (h .command) cells (h .address) bytes out) r xs os
-      → Gives (frameOf rec s cells bytes tail wp out) r xs os
+      → a ≡ refusalOf rec (x .state) h → isDone a ≡ true
+      → Gives (acceptedOf rec x (h .command) (h .address) (f .bytes) (f .out)) r xs os
+      → Gives (frameOf rec x f) r xs os
   unfolding frameOf
-  accept {h} {a} {r} {xs} {os} e f d g =
-      subst
-      (λ (b : Bool). Gives (cond b (acceptedOf rec s (H .command) cells (H .address) bytes out) (stateOnly (refusalOf rec s (length cells) H (length out)) s cells out)) r xs os)
-      (sym (sym (ap isDone (said e f)) ∙ d))
-      (subst (λ (z : Head). Gives (acceptedOf rec s (z .command) cells (z .address) bytes out) r xs os) e g)
+  accept {h} {a} {r} {xs} {os} e g d q =
+      subst (λ (b : Bool). Gives (either-way b) r xs os)
+      (sym (sym (ap isDone (said e g)) ∙ d))
+      (subst (λ (k : Head). Gives (acceptedOf rec x (k .command) (k .address) (f .bytes) (f .out)) r xs os) e q)
 
   pub refuse : {h : Head} {a : Answer} {r : Reply} → h ≡ H
-      → a ≡ refusalOf rec s (length cells) h (length out) → isDone a ≡ false → r ≡ quiet a s
-      → Gives (frameOf rec s cells bytes tail wp out) r cells out
+      → a ≡ refusalOf rec (x .state) h → isDone a ≡ false → r ≡ quiet a (x .state)
+      → Gives (frameOf rec x f) r (x .cells) (f .out)
   unfolding frameOf
-  refuse {h} {a} {r} e f d g =
-      subst
-      (λ (b : Bool). Gives (cond b (acceptedOf rec s (H .command) cells (H .address) bytes out) (stateOnly (refusalOf rec s (length cells) H (length out)) s cells out)) r cells out)
-      (sym (sym (ap isDone (said e f)) ∙ d))
-      (record { reply = g ∙ ap (λ (z : Answer). quiet z s) (said e f); cells = refl; out = refl })
+  refuse {h} {a} {r} e g d q =
+      subst (λ (b : Bool). Gives (either-way b) r (x .cells) (f .out))
+      (sym (sym (ap isDone (said e g)) ∙ d))
+      (record { reply = q ∙ ap (λ (k : Answer). quiet k (x .state)) (said e g); cells = refl; out = refl })

@@ -27,8 +27,8 @@ use Rattle.commands.specs.declared.Command.{Command}
 use Rattle.commands.specs.declared.Command.the-variants.{WriteEnable, WriteDisable, ReadStatus, WriteStatus, Read, FastRead, EraseSector, EraseBlock, EraseChip, Program, ReadId, Wake, ReadMaker, Sleep, Unknown}
 use Rattle.states.proofs.States.{status-write-le, page-le, sector-le, block-le, chip-le}
 use Rattle.effects.specs.declared.Reply.{Reply}
-use Rattle.effects.specs.Effects.{Effect, Shown, Changed, shown, changed, stateOnly, quiet, drives, latched, dozing, working, written, idBytes, makerBytes, readStatus, readFrom, eraseSector, eraseBlock, eraseChip, programPage, readId, wake, readMaker}
-use Rattle.chip.specs.Frames.{acceptedOf}
+use Rattle.effects.specs.Effects.{Effect, Shown, Changed, shown, changed, stateOnly, quiet, drives, latched, dozing, working, written, writeEnable, writeDisable, writeStatus, sleep, idBytes, makerBytes, readStatus, readFrom, eraseSector, eraseBlock, eraseChip, programPage, readId, wake, readMaker}
+use Rattle.chip.specs.Frames.{Chip, acceptedOf}
 use Rattle.chip.specs.Units.{Extent, extent, unitOf, drivenBytes}
 use Rattle.effects.proofs.Fits.{page-fits, sector-fits, block-fits}
 
@@ -62,22 +62,28 @@ page-only cells at sent h =
     }
 
 -- ---- the kinds: the state only; bytes driven from a position on; cells changed
-pub data Kind (rec : Record) (s : State) (c : Command) (cells : List ℕ) (at : Address) (bytes out : List ℕ) : Extent → ℕ → Effect → Type 0 where
-  turns : {u : Extent} (t : State) → (Asked s c → Move rec s t) → Kind rec s c cells at bytes out u 0 (stateOnly Done t cells out)
-  drove : {u : Extent} (t : State) (from : ℕ) (ys : List ℕ) → (Asked s c → Move rec s t)
-      → Kind rec s c cells at bytes out u (length bytes - from) (record { reply = drives t from (length bytes); cells = cells; out = lay out from ys })
-  alters : {u : Extent} (t : State) (xs : List ℕ) → (Asked s c → Move rec s t)
-      → (at .0 < length cells → length cells ≡ modelOf (rec .model) .length → Only u cells xs)
-      → Kind rec s c cells at bytes out u 0 (record { reply = quiet Done t; cells = xs; out = out })
+pub data Kind (rec : Record) (x : Chip) (c : Command) (at : Address) (bytes out : List ℕ) : Extent → ℕ → Effect → Type 0 where
+  turns : {u : Extent} (t : State) → (Asked (x .state) c → Move rec (x .state) t) → Kind rec x c at bytes out u 0 (stateOnly Done t (x .cells) out)
+  drove : {u : Extent} (t : State) (from : ℕ) (ys : List ℕ) → (Asked (x .state) c → Move rec (x .state) t)
+      → Kind rec x c at bytes out u (length bytes - from) (record { reply = drives t from (length bytes); cells = x .cells; out = lay out from ys })
+  alters : {u : Extent} (t : State) (xs : List ℕ) → (Asked (x .state) c → Move rec (x .state) t)
+      → (at .0 < length (x .cells) → length (x .cells) ≡ modelOf (rec .model) .length → Only u (x .cells) xs)
+      → Kind rec x c at bytes out u 0 (record { reply = quiet Done t; cells = xs; out = out })
 
 -- the test for 11 fails at a command that is not taken while busy: the chip is idle
 idle : (busy : ℕ) → (not (eqb busy 0) && not false) ≡ false → busy ≡ 0
 idle busy i = eqb-true busy 0 (not-false _ (only-if (not (eqb busy 0)) false i refl))
 
 -- one clause a command
-module _ (rec : Record) (s : State) (cells : List ℕ) (at : Address) (bytes out : List ℕ) where
-  pub kind : (c : Command) → Kind rec s c cells at bytes out (unitOf c at (length cells)) (drivenBytes c (length bytes)) (acceptedOf rec s c cells at bytes out)
-  unfolding acceptedOf traitsOf unitOf drivenBytes readStatus readFrom eraseSector eraseBlock eraseChip programPage readId wake readMaker
+module _ (rec : Record) (x : Chip) (at : Address) (bytes out : List ℕ) where
+  abbrev s : State
+  s = x .state
+
+  abbrev cells : List ℕ
+  cells = x .cells
+
+  pub kind : (c : Command) → Kind rec x c at bytes out (unitOf c at (length cells)) (drivenBytes c (length bytes)) (acceptedOf rec x c at bytes out)
+  unfolding acceptedOf writeEnable writeDisable writeStatus sleep traitsOf unitOf drivenBytes readStatus readFrom eraseSector eraseBlock eraseChip programPage readId wake readMaker
   kind WriteEnable = turns (latched s true) (λ q. latches true (idle (s .busy) (q .listens)))
   kind WriteDisable = turns (latched s false) (λ q. latches false (idle (s .busy) (q .listens)))
   kind ReadStatus = drove s 1 (replicate (length bytes - 1) (statusOf s)) (λ q. stays)
@@ -119,30 +125,30 @@ drives-within t from n = go (ltb from n) refl
         let l : n ≤ from = ltb-false from n e in
         omega arith
 
-module _ {rec : Record} {s : State} {c : Command} {cells : List ℕ} {at : Address} {bytes out : List ℕ} where
-  pub is-done : {u : Extent} {n : ℕ} {e : Effect} → Kind rec s c cells at bytes out u n e → isDone (e .reply .answer) ≡ true
+module _ {rec : Record} {x : Chip} {c : Command} {at : Address} {bytes out : List ℕ} where
+  pub is-done : {u : Extent} {n : ℕ} {e : Effect} → Kind rec x c at bytes out u n e → isDone (e .reply .answer) ≡ true
   unfolding drives
   is-done (turns t m) = refl
   is-done (drove t from ys m) = refl
   is-done (alters t xs m o) = refl
 
-  pub counts : {u : Extent} {n : ℕ} {e : Effect} → Kind rec s c cells at bytes out u n e → e .reply .count ≡ n
+  pub counts : {u : Extent} {n : ℕ} {e : Effect} → Kind rec x c at bytes out u n e → e .reply .count ≡ n
   unfolding drives
   counts (turns t m) = refl
   counts (drove t from ys m) = refl
   counts (alters t xs m o) = refl
 
-  pub within : {u : Extent} {n : ℕ} {e : Effect} → Kind rec s c cells at bytes out u n e → e .reply .from + e .reply .count ≤ length bytes
+  pub within : {u : Extent} {n : ℕ} {e : Effect} → Kind rec x c at bytes out u n e → e .reply .from + e .reply .count ≤ length bytes
   within (turns t m) = omega arith
   within (drove t from ys m) = drives-within t from (length bytes)
   within (alters t xs m o) = omega arith
 
-  pub changes-only : {u : Extent} {n : ℕ} {e : Effect} → Kind rec s c cells at bytes out u n e → at .0 < length cells → length cells ≡ modelOf (rec .model) .length → Only u cells (e .cells)
+  pub changes-only : {u : Extent} {n : ℕ} {e : Effect} → Kind rec x c at bytes out u n e → at .0 < length (x .cells) → length (x .cells) ≡ modelOf (rec .model) .length → Only u (x .cells) (e .cells)
   changes-only (turns t m) i w = record { long = refl; rest = λ k o. refl }
   changes-only (drove t from ys m) i w = record { long = refl; rest = λ k o. refl }
   changes-only (alters t xs m o) i w = o i w
 
-  pub moves : {u : Extent} {n : ℕ} {e : Effect} → Kind rec s c cells at bytes out u n e → Asked s c → Move rec s (e .reply .state)
+  pub moves : {u : Extent} {n : ℕ} {e : Effect} → Kind rec x c at bytes out u n e → Asked (x .state) c → Move rec (x .state) (e .reply .state)
   unfolding drives
   moves (turns t m) q = m q
   moves (drove t from ys m) q = m q

@@ -1,8 +1,7 @@
 // The chip: any frame, on values and slices.
 ghost use mathlib.Core.Path.{_≡_};
-ghost use lib.ListN.{length, getD};
 ghost use Rattle.effects.specs.Effects.{Gives};
-ghost use Rattle.chip.specs.Frames.{headOf, acceptedOf, frameOf, Ready};
+ghost use Rattle.chip.specs.Frames.{chipOf, sentOf, headFor, acceptedOf, frameOf, Ready};
 use answers::Answer;
 use commands::Command;
 use effects::Reply;
@@ -11,10 +10,10 @@ use states::Record;
 use states::State;
 use units::Address;
 
-fn head(model: u32, bytes: &[u8], tail: u32, wp: bool) -> Head
-    ensures { λ r. ⌜ r ≡ headOf model (now (bytes .entry)) tail wp ⌝ }
+fn head(model: u32, cells: usize, bytes: &[u8], tail: u32, wp: bool, room: usize) -> Head
+    ensures { λ r. ⌜ r ≡ headFor model cells (now (bytes .entry)) tail wp room ⌝ }
 {
-    let command = commands::decode(byte_at(bytes, 0));
+    let command = commands::decode(parts::byte_at(bytes, 0));
     let address = units::address_of(
         model,
         parts::byte_at(bytes, 1),
@@ -22,9 +21,11 @@ fn head(model: u32, bytes: &[u8], tail: u32, wp: bool) -> Head
         parts::byte_at(bytes, 3),
     );
     Head {
+        cells,
         count: bytes.len(),
         tail,
         wp,
+        room,
         command,
         address,
     }
@@ -40,14 +41,14 @@ fn accepted(
     bytes: &[u8],
     out: &mut [u8],
 ) -> Reply
-    requires { ⌜ Ready rec st c (now array) at (now bytes) (now out) ⌝ }
-    ensures { λ r. ⌜ Gives (acceptedOf rec st c (now (array .entry)) at (now (bytes .entry)) (now (out .entry))) r (now (array .exit)) (now (out .exit)) ⌝ }
+    requires { ⌜ Ready rec (chipOf st (now array)) c at (now bytes) (now out) ⌝ }
+    ensures { λ r. ⌜ Gives (acceptedOf rec (chipOf st (now (array .entry))) c at (now (bytes .entry)) (now (out .entry))) r (now (array .exit)) (now (out .exit)) ⌝ }
 {
     match c {
-        Command::WriteEnable => effects::quiet(Answer::Done, effects::latch(st, true)),
-        Command::WriteDisable => effects::quiet(Answer::Done, effects::latch(st, false)),
+        Command::WriteEnable => effects::write_enable(st),
+        Command::WriteDisable => effects::write_disable(st),
         Command::ReadStatus => effects::read_status(st, bytes, out),
-        Command::WriteStatus => effects::quiet(Answer::Done, effects::write(st, parts::byte_at(bytes, 1), rec.status_write)),
+        Command::WriteStatus => effects::write_status(rec, st, bytes),
         Command::Read => effects::read_from(4, st, array, at, bytes, out),
         Command::FastRead => effects::read_from(5, st, array, at, bytes, out),
         Command::EraseSector => effects::erase_sector(rec, st, array, at),
@@ -57,7 +58,7 @@ fn accepted(
         Command::ReadId => effects::read_id(rec, st, bytes, out),
         Command::Wake => effects::wake(rec, st, bytes, out),
         Command::ReadMaker => effects::read_maker(rec, st, bytes, out),
-        Command::Sleep => effects::quiet(Answer::Done, effects::doze(st, true)),
+        Command::Sleep => effects::sleep(st),
         Command::Unknown => effects::quiet(Answer::Done, st),
     }
 }
@@ -72,10 +73,10 @@ pub fn frame(
     wp: bool,
     out: &mut [u8],
 ) -> Reply
-    ensures { λ r. ⌜ Gives (frameOf rec st (now (array .entry)) (now (bytes .entry)) tail wp (now (out .entry))) r (now (array .exit)) (now (out .exit)) ⌝ }
+    ensures { λ r. ⌜ Gives (frameOf rec (chipOf st (now (array .entry))) (sentOf (now (bytes .entry)) tail wp (now (out .entry)))) r (now (array .exit)) (now (out .exit)) ⌝ }
 {
-    let h = head(rec.model, bytes, tail, wp);
-    let answer = ladder::refusal(rec, st, array.len(), h, out.len());
+    let h = head(rec.model, array.len(), bytes, tail, wp, out.len());
+    let answer = ladder::refusal(rec, st, h);
     if answers::is_done(answer) {
         let c = h.command;
         let at = h.address;

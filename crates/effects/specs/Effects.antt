@@ -79,19 +79,29 @@ working s time = record { srwd = s .srwd; bp = s .bp; wel = s .wel; asleep = s .
 unfoldable pub written : State → ℕ → ℕ → State
 written s b time = record { srwd = leb 128 b; bp = b / 4 % 4; wel = s .wel; asleep = s .asleep; busy = time }
 
--- ---- one definition a command
--- nothing but the state
+-- both buffers are as they were
 abbrev pub stateOnly : Answer → State → List ℕ → List ℕ → Effect
 stateOnly a s cells out = record { reply = quiet a s; cells = cells; out = out }
 
--- 06 sets WEL, 04 clears it (000 L214-222): `latched s true`, `latched s false`
+abbrev pub turned : List ℕ → List ℕ → Reply → Effect
+turned cells out r = record { reply = r; cells = cells; out = out }
+
+-- ---- one definition a command
+-- 06 sets WEL, 04 clears it (000 L214-222)
+unfoldable pub writeEnable : State → Reply
+writeEnable s = quiet Done (latched s true)
+
+unfoldable pub writeDisable : State → Reply
+writeDisable s = quiet Done (latched s false)
 
 -- 05: the status from position 1 on (000 L236)
 unfoldable pub readStatus : State → List ℕ → List ℕ → Shown
 readStatus s bytes out =
     record { reply = drives s 1 (length bytes); out = lay out 1 (replicate (length bytes - 1) (statusOf s)) }
 
--- 01: `written` with the second byte and the time of a status write
+-- 01: the second byte is written (000 L264-268)
+unfoldable pub writeStatus : Record → State → List ℕ → Reply
+writeStatus rec s bytes = quiet Done (written s (getD bytes 1 0) (rec .«status_write»))
 
 -- 03: array bytes from position 4, address rising by one, from the last address to 0. 0B: the same from position 5 (000 L301, L307)
 unfoldable pub readFrom : ℕ → State → List ℕ → Address → List ℕ → List ℕ → Shown
@@ -141,7 +151,9 @@ readMaker rec s bytes out =
       out = lay out 4 (ring (makerBytes (modelOf (rec .model)) (getD bytes 3 0)) 0 (length bytes - 4));
     }
 
--- B9: enters deep power-down (000 L359): `dozing s true`
+-- B9: enters deep power-down (000 L359)
+unfoldable pub sleep : State → Reply
+sleep s = quiet Done (dozing s true)
 
 -- ---- what the functions ask of a frame
 -- a frame of at least `first` bytes, none longer than is allowed, and room for it in the output

@@ -3,7 +3,7 @@ ghost use mathlib.Core.Path.{_≡_};
 ghost use Prim.Native.Nat.{_-_, _≤_, _<_};
 ghost use lib.ListN.{length, getD};
 ghost use Rattle.units.specs.Models.{modelOf};
-ghost use Rattle.effects.specs.Effects.{Shows, Changes, Room, quiet as Effects·quiet, drives, latched, dozing, working, written, readStatus, readFrom, eraseSector, eraseBlock, eraseChip, programPage, readId, wake as Effects·wake, makerBytes, readMaker};
+ghost use Rattle.effects.specs.Effects.{Shows, Changes, Room, quiet as Effects·quiet, drives, latched, dozing, working, written, writeEnable, writeDisable, writeStatus, sleep as Effects·sleep, readStatus, readFrom, eraseSector, eraseBlock, eraseChip, programPage, readId, wake as Effects·wake, makerBytes, readMaker};
 use answers::Answer;
 use states::Record;
 use states::State;
@@ -44,7 +44,7 @@ fn driven(state: State, from: u32, n: u32) -> Reply
     quiet(Answer::Done, state)
 }
 
-pub fn latch(st: State, on: bool) -> State
+fn latch(st: State, on: bool) -> State
     ensures { λ r. ⌜ r ≡ latched st on ⌝ }
 {
     let mut next = st;
@@ -52,7 +52,7 @@ pub fn latch(st: State, on: bool) -> State
     next
 }
 
-pub fn doze(st: State, on: bool) -> State
+fn doze(st: State, on: bool) -> State
     ensures { λ r. ⌜ r ≡ dozing st on ⌝ }
 {
     let mut next = st;
@@ -68,7 +68,7 @@ fn work(st: State, time: u32) -> State
     next
 }
 
-pub fn write(st: State, byte: u8, time: u32) -> State
+fn write(st: State, byte: u8, time: u32) -> State
     ensures { λ r. ⌜ r ≡ written st byte time ⌝ }
 {
     State {
@@ -79,6 +79,38 @@ pub fn write(st: State, byte: u8, time: u32) -> State
         busy: time,
     }
 }
+
+// ---- commands that turn the state
+
+// 06
+pub fn write_enable(st: State) -> Reply
+    ensures { λ r. ⌜ r ≡ writeEnable st ⌝ }
+{
+    quiet(Answer::Done, latch(st, true))
+}
+
+// 04
+pub fn write_disable(st: State) -> Reply
+    ensures { λ r. ⌜ r ≡ writeDisable st ⌝ }
+{
+    quiet(Answer::Done, latch(st, false))
+}
+
+// 01
+pub fn write_status(rec: Record, st: State, bytes: &[u8]) -> Reply
+    ensures { λ r. ⌜ r ≡ writeStatus rec st (now (bytes .entry)) ⌝ }
+{
+    quiet(Answer::Done, write(st, parts::byte_at(bytes, 1), rec.status_write))
+}
+
+// B9
+pub fn sleep(st: State) -> Reply
+    ensures { λ r. ⌜ r ≡ Effects·sleep st ⌝ }
+{
+    quiet(Answer::Done, doze(st, true))
+}
+
+// ---- commands that drive bytes out
 
 // 05
 pub fn read_status(st: State, bytes: &[u8], out: &mut [u8]) -> Reply
@@ -156,6 +188,8 @@ pub fn read_maker(rec: Record, st: State, bytes: &[u8], out: &mut [u8]) -> Reply
     rings::repeat_part(out, 4, n, &pair);
     driven(st, 4, n as u32)
 }
+
+// ---- commands that change cells
 
 // 20
 pub fn erase_sector(rec: Record, st: State, array: &mut [u8], at: Address) -> Reply

@@ -21,6 +21,7 @@ use Rattle.lines.specs.declared.Cut.the-variants.{Here, Joined, Open}
 use Rattle.lines.specs.Lines.{linesFrom}
 use Rattle.lines.specs.Cutting.{firstLine, cutOf, heldOf, Cuts, Holds, heldRoom}
 use Rattle.lines.proofs.Says.{holds-none, length-held, here-in, joined-in, open-in, says-here, says-joined, says-open}
+use Rattle.chip.specs.Frames.{Chip, chipOf}
 use Rattle.play.specs.Play.{Turn, turnOf, playOf}
 use Rattle.stepper.specs.declared.Logged.{Logged}
 use Rattle.stepper.specs.Rows.{lineTurn, rowText, Logs, next, logFrom}
@@ -32,19 +33,19 @@ use Rattle.feed.specs.Feed.{TurnStart, Stand, standing, goesOn, lineDone
 use Rattle.feed.specs.Fed.{Did}
 
 -- ---- a line over 640 bytes is played as its first 641 are
-clip-turn : (rec : Record) (s : State) (cells shown : List ℕ) (m : ℕ) (line : List ℕ) → longestLine < m → playOf rec s cells shown (take m line) ≡ playOf rec s cells shown line
+clip-turn : (rec : Record) (x : Chip) (shown : List ℕ) (m : ℕ) (line : List ℕ) → longestLine < m → playOf rec x shown (take m line) ≡ playOf rec x shown line
 unfolding turnOf
-clip-turn rec s cells shown m line l = go (leb (length line) m) refl
+clip-turn rec x shown m line l = go (leb (length line) m) refl
   where
-    go : (b : Bool) → leb (length line) m ≡ b → playOf rec s cells shown (take m line) ≡ playOf rec s cells shown line
-    go true e = ap (playOf rec s cells shown) (take-all m line (leb-true (length line) m e))
+    go : (b : Bool) → leb (length line) m ≡ b → playOf rec x shown (take m line) ≡ playOf rec x shown line
+    go true e = ap (playOf rec x shown) (take-all m line (leb-true (length line) m e))
     go false e =
         let bad : lineOf line ≡ Bad = sym (too-long line (omega (arith, leb-false (length line) m e))) in
-        ap (turnOf rec s cells shown (take m line)) (clipped m line l ∙ bad) ∙ ap (turnOf rec s cells shown line) (sym bad)
+        ap (turnOf rec x shown (take m line)) (clipped m line l ∙ bad) ∙ ap (turnOf rec x shown line) (sym bad)
 
 pub clip-row : (rec : Record) (s : State) (cells : List ℕ) (number m : ℕ) (line : List ℕ) → longestLine < m → rowText rec s cells number (take m line) ≡ rowText rec s cells number line
 unfolding rowText
-clip-row rec s cells number m line l = rw (clip-turn rec s cells (replicate 300 0) m line l)
+clip-row rec s cells number m line l = rw (clip-turn rec (chipOf s cells) (replicate 300 0) m line l)
 
 -- ---- the line in hand
 -- the first n bytes, as a part of a slice
@@ -64,7 +65,7 @@ same-line rec s cells number line = record { row = refl; turn = refl }
 pub same-clip : (rec : Record) (s : State) (cells : List ℕ) (number m : ℕ) {handed : List ℕ} (whole : List ℕ) → longestLine < m → handed ≡ take m whole → Same rec s cells number handed whole
 same-clip rec s cells number m {handed} whole l e =
     subst (λ (z : List ℕ). Same rec s cells number z whole) (sym e)
-    (record { row = clip-row rec s cells number m whole l; turn = clip-turn rec s cells (replicate 300 0) m whole l })
+    (record { row = clip-row rec s cells number m whole l; turn = clip-turn rec (chipOf s cells) (replicate 300 0) m whole l })
 
 -- ---- what the code does is the turn
 pub stands : {t : Stand} {r : Run} {held cells log : List ℕ} → Stands t r held cells log → standing r held cells log ≡ t

@@ -40,13 +40,13 @@ pub unrefused : (rs : List Rung) → Clear rs → firstOf rs ≡ Done
 unrefused [] c = refl
 unrefused (r ∷ rs) c = rw (c .0) (unrefused rs (c .1))
 
-pub record Passed (rec : Record) (s : State) (cells : ℕ) (h : Head) (room : ℕ) : Type 0 where
+pub record Passed (rec : Record) (s : State) (h : Head) : Type 0 where
   pub right : recordOk rec ≡ true
-  pub whole : cells ≡ modelOf (rec .model) .length
+  pub whole : h .cells ≡ modelOf (rec .model) .length
   pub valid : stateOk rec s ≡ true
   pub short : h .count ≤ 65541
   pub tail : h .tail ≤ 7
-  pub roomy : h .count ≤ room
+  pub roomy : h .count ≤ h .room
   pub some : 0 < h .count
   pub listens : (not (eqb (s .busy) 0) && not (traitsOf (h .command) .«while_busy»)) ≡ false
   pub awake : (s .asleep && not (traitsOf (h .command) .«while_asleep»)) ≡ false
@@ -56,11 +56,11 @@ pub record Passed (rec : Record) (s : State) (cells : ℕ) (h : Head) (room : �
   pub unlocked : (traitsOf (h .command) .lock && (s .srwd && not (h .wp))) ≡ false
   pub free : guarded rec s (traitsOf (h .command)) h ≡ false
 
-pub passed : (rec : Record) (s : State) (cells : ℕ) (h : Head) (room : ℕ) → isDone (refusalOf rec s cells h room) ≡ true
-    → Passed rec s cells h room
+pub passed : (rec : Record) (s : State) (h : Head) → isDone (refusalOf rec s h) ≡ true
+    → Passed rec s h
 unfolding refusalOf
-passed rec s cells h room e =
-    let c = clear (ladder rec s cells h room (traitsOf (h .command))) refl e in
+passed rec s h e =
+    let c = clear (ladder rec s h (traitsOf (h .command))) refl e in
     let d = c .1 .1 .1 .1 .1 in
     let f = d .1 .1 .1 .1 .1 in
     let long = neither _ _ (c .1 .1 .1 .0) in

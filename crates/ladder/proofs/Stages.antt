@@ -36,49 +36,49 @@ joined (r ∷ rs) ys h = go (r .bad) (joined rs ys (k .1))
     go true e = rw (not-true (isDone (r .says)) (k .0))
     go false e = e
 
-pub one-table : (rec : Record) (s : State) (cells : ℕ) (h : Head) (room : ℕ)
+pub one-table : (rec : Record) (s : State) (h : Head)
     → (let k : Traits = traitsOf (h .command) in
-    refusalOf rec s cells h room
-    ≡ cond (isDone (givenOf rec s cells h room))
-    (cond (isDone (heardOf rec s cells h room k)) (allowedOf rec s cells h room k) (heardOf rec s cells h room k))
-    (givenOf rec s cells h room))
+    refusalOf rec s h
+    ≡ cond (isDone (givenOf rec s h))
+    (cond (isDone (heardOf rec s h k)) (allowedOf rec s h k) (heardOf rec s h k))
+    (givenOf rec s h))
 unfolding refusalOf givenOf heardOf allowedOf
-one-table rec s cells h room =
-    let rows = ladder rec s cells h room (traitsOf (h .command)) in
+one-table rec s h =
+    let rows = ladder rec s h (traitsOf (h .command)) in
     let a = take 5 rows in
     let b = take 5 (drop 5 rows) in
     let c = drop 10 rows in
     joined a (b ++ c) refl ∙ ap (λ (x : Answer). cond (isDone (firstOf a)) x (firstOf a)) (joined b c refl)
 
 -- ---- where the code stops
-module _ (rec : Record) (s : State) (cells : ℕ) (h : Head) (room : ℕ) where
+module _ (rec : Record) (s : State) (h : Head) where
   abbrev k : Traits
   k = traitsOf (h .command)
 
-  pub stops-given : isDone (givenOf rec s cells h room) ≡ false → refusalOf rec s cells h room ≡ givenOf rec s cells h room
-  stops-given e = one-table rec s cells h room ∙ rw e
+  pub stops-given : isDone (givenOf rec s h) ≡ false → refusalOf rec s h ≡ givenOf rec s h
+  stops-given e = one-table rec s h ∙ rw e
 
-  pub stops-heard : isDone (givenOf rec s cells h room) ≡ true → isDone (heardOf rec s cells h room k) ≡ false → refusalOf rec s cells h room ≡ heardOf rec s cells h room k
-  stops-heard e f = one-table rec s cells h room ∙ rw (e, f)
+  pub stops-heard : isDone (givenOf rec s h) ≡ true → isDone (heardOf rec s h k) ≡ false → refusalOf rec s h ≡ heardOf rec s h k
+  stops-heard e f = one-table rec s h ∙ rw (e, f)
 
-  pub goes-on : isDone (givenOf rec s cells h room) ≡ true → isDone (heardOf rec s cells h room k) ≡ true → refusalOf rec s cells h room ≡ allowedOf rec s cells h room k
-  goes-on e f = one-table rec s cells h room ∙ rw (e, f)
+  pub goes-on : isDone (givenOf rec s h) ≡ true → isDone (heardOf rec s h k) ≡ true → refusalOf rec s h ≡ allowedOf rec s h k
+  goes-on e f = one-table rec s h ∙ rw (e, f)
 
 -- a command that needs no WEL is stopped by none of the last three rows
-pub harmless : (rec : Record) (s : State) (cells : ℕ) (h : Head) (room : ℕ) (c : Command) → traitsOf c .latch ≡ false → allowedOf rec s cells h room (traitsOf c) ≡ Done
+pub harmless : (rec : Record) (s : State) (h : Head) (c : Command) → traitsOf c .latch ≡ false → allowedOf rec s h (traitsOf c) ≡ Done
 unfolding traitsOf allowedOf
-harmless rec s cells h room WriteEnable e = refl
-harmless rec s cells h room WriteDisable e = refl
-harmless rec s cells h room ReadStatus e = refl
-harmless rec s cells h room WriteStatus e = absurd (true≢false e)
-harmless rec s cells h room Read e = refl
-harmless rec s cells h room FastRead e = refl
-harmless rec s cells h room EraseSector e = absurd (true≢false e)
-harmless rec s cells h room EraseBlock e = absurd (true≢false e)
-harmless rec s cells h room EraseChip e = absurd (true≢false e)
-harmless rec s cells h room Program e = absurd (true≢false e)
-harmless rec s cells h room ReadId e = refl
-harmless rec s cells h room Wake e = refl
-harmless rec s cells h room ReadMaker e = refl
-harmless rec s cells h room Sleep e = refl
-harmless rec s cells h room Unknown e = refl
+harmless rec s h WriteEnable e = refl
+harmless rec s h WriteDisable e = refl
+harmless rec s h ReadStatus e = refl
+harmless rec s h WriteStatus e = absurd (true≢false e)
+harmless rec s h Read e = refl
+harmless rec s h FastRead e = refl
+harmless rec s h EraseSector e = absurd (true≢false e)
+harmless rec s h EraseBlock e = absurd (true≢false e)
+harmless rec s h EraseChip e = absurd (true≢false e)
+harmless rec s h Program e = absurd (true≢false e)
+harmless rec s h ReadId e = refl
+harmless rec s h Wake e = refl
+harmless rec s h ReadMaker e = refl
+harmless rec s h Sleep e = refl
+harmless rec s h Unknown e = refl

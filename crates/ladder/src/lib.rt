@@ -9,24 +9,27 @@ use states::State;
 use commands::Traits;
 use units::Address;
 
-// What the refusals look at of one frame: its whole bytes, tail bits and WP# level, its command, and its address in the array.
+// What the refusals look at of one frame: the cells of the array that it is given, its whole bytes, tail bits and WP# level, the room of its output,
+// its command, and its address in the array.
 pub struct Head {
+    pub cells: usize,
     pub count: usize,
     pub tail: u32,
     pub wp: bool,
+    pub room: usize,
     pub command: Command,
     pub address: Address,
 }
 
 // 1 to 5: what the call is given at all.
-fn given(rec: Record, st: State, cells: usize, head: Head, room: usize) -> Answer
-    ensures { λ r. ⌜ r ≡ givenOf rec st cells head room ⌝ }
+fn given(rec: Record, st: State, head: Head) -> Answer
+    ensures { λ r. ⌜ r ≡ givenOf rec st head ⌝ }
 {
     if !states::record_ok(rec) {
         return Answer::BadRecord;
     }
     let row = units::model_of(rec.model);
-    if cells != row.length as usize {
+    if head.cells != row.length as usize {
         return Answer::BadArray;
     }
     if !states::state_ok(rec, st) {
@@ -36,15 +39,15 @@ fn given(rec: Record, st: State, cells: usize, head: Head, room: usize) -> Answe
     if (65541 < n) | (7 < head.tail) {
         return Answer::BadFrame;
     }
-    if room < n {
+    if head.room < n {
         return Answer::ShortOut;
     }
     Answer::Done
 }
 
 // 10 to 14: whether the chip hears a frame of that command and length.
-fn heard(rec: Record, st: State, cells: usize, head: Head, room: usize, t: Traits) -> Answer
-    ensures { λ r. ⌜ r ≡ heardOf rec st cells head room t ⌝ }
+fn heard(rec: Record, st: State, head: Head, t: Traits) -> Answer
+    ensures { λ r. ⌜ r ≡ heardOf rec st head t ⌝ }
 {
     let n = head.count;
     let tail = head.tail;
@@ -67,8 +70,8 @@ fn heard(rec: Record, st: State, cells: usize, head: Head, room: usize, t: Trait
 }
 
 // 15 to 17: whether the chip may do it.
-fn allowed(rec: Record, st: State, cells: usize, head: Head, room: usize, t: Traits) -> Answer
-    ensures { λ r. ⌜ r ≡ allowedOf rec st cells head room t ⌝ }
+fn allowed(rec: Record, st: State, head: Head, t: Traits) -> Answer
+    ensures { λ r. ⌜ r ≡ allowedOf rec st head t ⌝ }
 {
     if t.latch & !st.wel {
         return Answer::NotEnabled;
@@ -85,23 +88,22 @@ fn allowed(rec: Record, st: State, cells: usize, head: Head, room: usize, t: Tra
     Answer::Done
 }
 
-// The first refusal that applies, and Done where none does: for a frame that is given an array of so many cells and an output of so
-// much room.
-pub fn refusal(rec: Record, st: State, cells: usize, head: Head, room: usize) -> Answer
-    ensures { λ r. ⌜ r ≡ refusalOf rec st cells head room ⌝ }
+// The first refusal that applies, and Done where none does.
+pub fn refusal(rec: Record, st: State, head: Head) -> Answer
+    ensures { λ r. ⌜ r ≡ refusalOf rec st head ⌝ }
 {
-    let first = given(rec, st, cells, head, room);
+    let first = given(rec, st, head);
     if !answers::is_done(first) {
         return first;
     }
     let command = head.command;
     let t = commands::traits_of(command);
-    let second = heard(rec, st, cells, head, room, t);
+    let second = heard(rec, st, head, t);
     if !answers::is_done(second) {
         return second;
     }
     if t.latch {
-        return allowed(rec, st, cells, head, room, t);
+        return allowed(rec, st, head, t);
     }
     Answer::Done
 }

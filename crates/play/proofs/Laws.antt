@@ -8,12 +8,11 @@ use lib.ListN.{length, take, drop, length-take}
 use lib.Seq.{take-at}
 use Rattle.answers.specs.Answers.{isDone, numberOf}
 use Rattle.states.specs.declared.Record.{Record}
-use Rattle.states.specs.declared.State.{State}
 use Rattle.ladder.specs.Ladder.{refusalOf}
 use Rattle.ladder.specs.declared.Head.{Head}
 use Rattle.effects.specs.declared.Reply.{Reply}
-use Rattle.effects.specs.Effects.{Effect, Gives, stateOnly}
-use Rattle.chip.specs.Frames.{headOf, acceptedOf, frameOf}
+use Rattle.effects.specs.Effects.{Effect, Gives}
+use Rattle.chip.specs.Frames.{Chip, Sent, sentOf, headOf, acceptedOf, refusedOf, frameOf}
 use Rattle.chip.proofs.Sorts.{kind, within}
 use Rattle.script.specs.declared.Line.{Line}
 use Rattle.script.specs.declared.Line.the-variants.{Frame, Wait, Power, Bad}
@@ -37,12 +36,12 @@ unhexed-front {digits} {d} {e} {r} m l u =
     let z : r - 0 ≡ length (take m bs) = omega arith in
     ap (λ (k : ℕ). take k e) z ∙ ap (take (length (take m bs))) is ∙ take-at (take m bs) (drop r d) (length (take m bs)) refl
 
-pub frame-plays : (rec : Record) (s : State) (cells shown line : List ℕ) (wp : Bool) (tail : ℕ) {frame : List ℕ} {r : Reply} {number : ℕ} {xs os : List ℕ}
-    → frame ≡ take 300 (hexBytes (drop 6 line)) → Gives (frameOf rec s cells frame tail wp shown) r xs os → number ≡ numberOf (r .answer)
-    → Plays (frameTurn rec s cells shown line wp tail) (record { answer = number; from = r .from; count = r .count; state = r .state }) xs os
+pub frame-plays : (rec : Record) (x : Chip) (shown line : List ℕ) (wp : Bool) (tail : ℕ) {frame : List ℕ} {r : Reply} {number : ℕ} {xs os : List ℕ}
+    → frame ≡ take 300 (hexBytes (drop 6 line)) → Gives (frameOf rec x (sentOf frame tail wp shown)) r xs os → number ≡ numberOf (r .answer)
+    → Plays (frameTurn rec x shown line wp tail) (record { answer = number; from = r .from; count = r .count; state = r .state }) xs os
 unfolding frameTurn
-frame-plays rec s cells shown line wp tail {frame} {r} {number} {xs} {os} e g n =
-    let h = subst (λ (z : List ℕ). Gives (frameOf rec s cells z tail wp shown) r xs os) e g in
+frame-plays rec x shown line wp tail {frame} {r} {number} {xs} {os} e g n =
+    let h = subst (λ (z : List ℕ). Gives (frameOf rec x (sentOf z tail wp shown)) r xs os) e g in
     record {
       played =
           ap (λ (k : ℕ). record { answer = k; from = r .from; count = r .count; state = r .state }) n
@@ -52,38 +51,37 @@ frame-plays rec s cells shown line wp tail {frame} {r} {number} {xs} {os} e g n 
     }
 
 -- what the line in hand says
-pub at-line : (rec : Record) (s : State) (cells shown line : List ℕ) {l : Line} {r : Played} {xs os : List ℕ} → l ≡ lineOf line → (k : Line) → l ≡ k
-    → Plays (turnOf rec s cells shown line k) r xs os → Plays (playOf rec s cells shown line) r xs os
-at-line rec s cells shown line {l} {r} {xs} {os} e k f p = subst (λ (z : Line). Plays (turnOf rec s cells shown line z) r xs os) (sym f ∙ e) p
+pub at-line : (rec : Record) (x : Chip) (shown line : List ℕ) {l : Line} {r : Played} {xs os : List ℕ} → l ≡ lineOf line → (k : Line) → l ≡ k
+    → Plays (turnOf rec x shown line k) r xs os → Plays (playOf rec x shown line) r xs os
+at-line rec x shown line {l} {r} {xs} {os} e k f p = subst (λ (z : Line). Plays (turnOf rec x shown line z) r xs os) (sym f ∙ e) p
 
 -- ---- what a line drives lies in its frame
-frame-within : (rec : Record) (s : State) (cells bytes : List ℕ) (tail : ℕ) (wp : Bool) (out : List ℕ)
-    → frameOf rec s cells bytes tail wp out .reply .from + frameOf rec s cells bytes tail wp out .reply .count ≤ length bytes
+frame-within : (rec : Record) (x : Chip) (f : Sent) → frameOf rec x f .reply .from + frameOf rec x f .reply .count ≤ length (f .bytes)
 unfolding frameOf
-frame-within rec s cells bytes tail wp out = go (isDone (refusalOf rec s (length cells) h (length out)))
+frame-within rec x f = go (isDone (refusalOf rec (x .state) h))
   where
     h : Head
-    h = headOf (rec .model) bytes tail wp
+    h = headOf rec x f
 
     e : Bool → Effect
-    e b = cond b (acceptedOf rec s (h .command) cells (h .address) bytes out) (stateOnly (refusalOf rec s (length cells) h (length out)) s cells out)
+    e b = cond b (acceptedOf rec x (h .command) (h .address) (f .bytes) (f .out)) (refusedOf (refusalOf rec (x .state) h) x f)
 
-    go : (b : Bool) → e b .reply .from + e b .reply .count ≤ length bytes
-    go true = within (kind rec s cells (h .address) bytes out (h .command))
+    go : (b : Bool) → e b .reply .from + e b .reply .count ≤ length (f .bytes)
+    go true = within (kind rec x (h .address) (f .bytes) (f .out) (h .command))
     go false = omega arith
 
-turn-within : (rec : Record) (s : State) (cells shown line : List ℕ) (l : Line)
-    → turnOf rec s cells shown line l .played .from + turnOf rec s cells shown line l .played .count ≤ 300
+turn-within : (rec : Record) (x : Chip) (shown line : List ℕ) (l : Line)
+    → turnOf rec x shown line l .played .from + turnOf rec x shown line l .played .count ≤ 300
 unfolding turnOf frameTurn
-turn-within rec s cells shown line (Frame wp tail n) =
+turn-within rec x shown line (Frame wp tail n) =
     let sent = take 300 (hexBytes (drop 6 line)) in
-    omega (arith, frame-within rec s cells sent tail wp shown, length-take 300 (hexBytes (drop 6 line)))
-turn-within rec s cells shown line (Wait us) = omega arith
-turn-within rec s cells shown line Power = omega arith
-turn-within rec s cells shown line Bad = omega arith
+    omega (arith, frame-within rec x (sentOf sent tail wp shown), length-take 300 (hexBytes (drop 6 line)))
+turn-within rec x shown line (Wait us) = omega arith
+turn-within rec x shown line Power = omega arith
+turn-within rec x shown line Bad = omega arith
 
-pub played-within : (rec : Record) (s : State) (cells shown line : List ℕ) {r : Played} → r ≡ playOf rec s cells shown line .played → r .from + r .count ≤ 300
-played-within rec s cells shown line {r} e = subst (λ (q : Played). q .from + q .count ≤ 300) (sym e) (turn-within rec s cells shown line (lineOf line))
+pub played-within : (rec : Record) (x : Chip) (shown line : List ℕ) {r : Played} → r ≡ playOf rec x shown line .played → r .from + r .count ≤ 300
+played-within rec x shown line {r} e = subst (λ (q : Played). q .from + q .count ≤ 300) (sym e) (turn-within rec x shown line (lineOf line))
 
 pub one-plays : OnePlays
 one-plays t r r′ xs xs′ os os′ p q = (p .played ∙ sym (q .played), p .cells ∙ sym (q .cells), p .shown ∙ sym (q .shown))

@@ -6,10 +6,9 @@ use Prim.Native.Nat.{ℕ}
 use lib.ListN.{drop, take}
 use Rattle.answers.specs.Answers.{numberOf}
 use Rattle.states.specs.declared.Record.{Record}
-use Rattle.states.specs.declared.State.{State}
 use Rattle.time.specs.declared.After.{After}
 use Rattle.effects.specs.Effects.{Effect}
-use Rattle.chip.specs.Frames.{frameOf}
+use Rattle.chip.specs.Frames.{Chip, sentOf, frameOf}
 use Rattle.time.specs.Time.{waitOf, powerOf}
 use Rattle.script.specs.declared.Line.{Line}
 use Rattle.script.specs.declared.Line.the-variants.{Frame, Wait, Power, Bad}
@@ -27,24 +26,24 @@ abbrev pub passedOf : After → Played
 passedOf a = record { answer = numberOf (a .answer); from = 0; count = 0; state = a .state }
 
 -- the bytes of the line's hex digits, as many as 300, are the frame
-unfoldable pub frameTurn : Record → State → List ℕ → List ℕ → List ℕ → Bool → ℕ → Turn
-frameTurn rec s cells shown line wp tail =
-    let e : Effect = frameOf rec s cells (take 300 (hexBytes (drop 6 line))) tail wp shown in
+unfoldable pub frameTurn : Record → Chip → List ℕ → List ℕ → Bool → ℕ → Turn
+frameTurn rec x shown line wp tail =
+    let e : Effect = frameOf rec x (sentOf (take 300 (hexBytes (drop 6 line))) tail wp shown) in
     record {
       played = record { answer = numberOf (e .reply .answer); from = e .reply .from; count = e .reply .count; state = e .reply .state };
       cells = e .cells;
       shown = e .out;
     }
 
-unfoldable pub turnOf : Record → State → List ℕ → List ℕ → List ℕ → Line → Turn
-turnOf rec s cells shown line (Frame wp tail n) = frameTurn rec s cells shown line wp tail
-turnOf rec s cells shown line (Wait us) = record { played = passedOf (waitOf rec s us); cells = cells; shown = shown }
-turnOf rec s cells shown line Power = record { played = passedOf (powerOf rec s); cells = cells; shown = shown }
-turnOf rec s cells shown line Bad = record { played = record { answer = 20; from = 0; count = 0; state = s }; cells = cells; shown = shown }
+unfoldable pub turnOf : Record → Chip → List ℕ → List ℕ → Line → Turn
+turnOf rec x shown line (Frame wp tail n) = frameTurn rec x shown line wp tail
+turnOf rec x shown line (Wait us) = record { played = passedOf (waitOf rec (x .state) us); cells = x .cells; shown = shown }
+turnOf rec x shown line Power = record { played = passedOf (powerOf rec (x .state)); cells = x .cells; shown = shown }
+turnOf rec x shown line Bad = record { played = record { answer = 20; from = 0; count = 0; state = x .state }; cells = x .cells; shown = shown }
 
 -- any line
-abbrev pub playOf : Record → State → List ℕ → List ℕ → List ℕ → Turn
-playOf rec s cells shown line = turnOf rec s cells shown line (lineOf line)
+abbrev pub playOf : Record → Chip → List ℕ → List ℕ → Turn
+playOf rec x shown line = turnOf rec x shown line (lineOf line)
 
 pub record Plays (t : Turn) (r : Played) (xs os : List ℕ) : Type 0 where
   pub played : r ≡ t .played

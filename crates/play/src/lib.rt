@@ -1,7 +1,6 @@
 // A script line played on the chip.
 ghost use mathlib.Core.Path.{_≡_};
-ghost use Rattle.time.specs.Time.{waitOf, powerOf};
-ghost use Rattle.script.specs.Reading.{lineOf};
+ghost use Rattle.chip.specs.Frames.{chipOf};
 ghost use Rattle.play.specs.Play.{Plays, passedOf, frameTurn, playOf};
 use time::After;
 use states::Record;
@@ -40,7 +39,7 @@ fn play_frame(
     array: &mut [u8],
     shown: &mut [u8],
 ) -> Played
-    ensures { λ r. ⌜ Plays (frameTurn rec st (now (array .entry)) (now (shown .entry)) (now (line .entry)) wp tail) r (now (array .exit)) (now (shown .exit)) ⌝ }
+    ensures { λ r. ⌜ Plays (frameTurn rec (chipOf st (now (array .entry))) (now (shown .entry)) (now (line .entry)) wp tail) r (now (array .exit)) (now (shown .exit)) ⌝ }
 {
     let mut sent = [0u8; 300];
     let n = script::frame_bytes(line, &mut sent);
@@ -57,7 +56,7 @@ fn play_frame(
 
 // Any line, of any bytes: a bad one is answered 20 and changes nothing.
 pub fn play(line: &[u8], rec: Record, st: State, array: &mut [u8], shown: &mut [u8]) -> Played
-    ensures { λ r. ⌜ Plays (playOf rec st (now (array .entry)) (now (shown .entry)) (now (line .entry))) r (now (array .exit)) (now (shown .exit)) ⌝ }
+    ensures { λ r. ⌜ Plays (playOf rec (chipOf st (now (array .entry))) (now (shown .entry)) (now (line .entry))) r (now (array .exit)) (now (shown .exit)) ⌝ }
 {
     let said = script::read_line(line);
     match said {

@@ -33,7 +33,8 @@ use Rattle.time.specs.declared.After.{After}
 use Rattle.effects.specs.Effects.{Effect, Gives, stateOnly, programPage}
 use Rattle.chip.specs.Frames.{Ready, headOf, acceptedOf, frameOf}
 use Rattle.time.specs.Time.{later, cycled, ifValid, waitOf, powerOf}
-use Rattle.chip.proofs.Ready.{ready, page-fits}
+use Rattle.chip.proofs.Ready.{ready}
+use Rattle.effects.proofs.Fits.{page-fits}
 use Rattle.chip.proofs.Sorts.{kind, is-done, changes-only}
 use Rattle.promises.specs.Laws.{WaitsAdd, RefusedFrame, RefusedWait, RefusedCycle, OnlyItsUnit, ProgramFalls, OneAnswer, OneFrame, OneWait, OneCycle}
 use Rattle.promises.proofs.Valid.{later-sound}

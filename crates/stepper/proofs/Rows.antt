@@ -15,6 +15,7 @@ use Rattle.log.specs.Row.{logText, roomOf, Rowed, longestRow}
 use Rattle.log.proofs.Laws.{row-most}
 use Rattle.play.specs.declared.Played.{Played}
 use Rattle.play.specs.Play.{Turn, Plays}
+use Rattle.chip.specs.Frames.{chipOf}
 use Rattle.play.proofs.Laws.{played-within}
 use Rattle.stepper.specs.declared.Logged.{Logged}
 use Rattle.stepper.specs.Steps.{OneSteps}
@@ -37,7 +38,7 @@ row-logs rec s cells number line d at {r} {next} {xs} {os} {e} room p l w =
     shown = take (r .from + r .count - r .from) (drop (r .from) os)
 
     within : r .from + r .count ≤ 300
-    within = played-within rec s cells (replicate 300 0) line (p .played)
+    within = played-within rec (chipOf s cells) (replicate 300 0) line (p .played)
 
     long : length shown ≤ 300
     long = omega (arith, length-take (r .from + r .count - r .from) (drop (r .from) os), length-drop (r .from) os)
@@ -68,7 +69,7 @@ pub row-short : (rec : Record) (s : State) (cells : List ℕ) (number : ℕ) (li
 unfolding rowText
 row-short rec s cells number line =
     let t : Turn = lineTurn rec s cells line in
-    let within : t .played .from + t .played .count ≤ 300 = played-within rec s cells (replicate 300 0) line refl in
+    let within : t .played .from + t .played .count ≤ 300 = played-within rec (chipOf s cells) (replicate 300 0) line refl in
     let few = row-most number (t .played .answer) (t .played .from) (part (t .shown) (t .played .from) (t .played .count)) in
     let long : length (part (t .shown) (t .played .from) (t .played .count)) ≤ t .played .count = omega (arith, length-take (t .played .count) (drop (t .played .from) (t .shown))) in
     omega (arith, few, long, within)

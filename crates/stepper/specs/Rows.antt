@@ -8,12 +8,13 @@ use Rattle.states.specs.declared.Record.{Record}
 use Rattle.states.specs.declared.State.{State}
 use Rattle.text.specs.Put.{Put}
 use Rattle.log.specs.Row.{logText, longestRow}
+use Rattle.chip.specs.Frames.{chipOf}
 use Rattle.play.specs.Play.{Turn, playOf}
 use Rattle.stepper.specs.declared.Logged.{Logged}
 
 -- a line of the log is played with an output of 300 zeros, of which it shows what was driven
 abbrev pub lineTurn : Record → State → List ℕ → List ℕ → Turn
-lineTurn rec s cells line = playOf rec s cells (replicate 300 0) line
+lineTurn rec s cells line = playOf rec (chipOf s cells) (replicate 300 0) line
 
 unfoldable pub rowText : Record → State → List ℕ → ℕ → List ℕ → List ℕ
 rowText rec s cells number line =

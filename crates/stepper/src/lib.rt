@@ -3,6 +3,7 @@
 ghost use mathlib.Core.Path.{_≡_};
 ghost use Prim.Native.Nat.{_+_, _≤_};
 ghost use lib.ListN.{length};
+ghost use Rattle.chip.specs.Frames.{chipOf};
 ghost use Rattle.play.specs.Play.{Plays, playOf};
 ghost use Rattle.log.specs.Row.{longestRow};
 ghost use Rattle.stepper.specs.Steps.{Steps};
@@ -13,7 +14,7 @@ use states::State;
 
 // A line is played: the state is altered where it lies.
 pub fn step(st: &mut State, rec: Record, line: &[u8], array: &mut [u8], shown: &mut [u8]) -> Played
-    ensures { λ r. ⌜ Steps (playOf rec (now (st .entry)) (now (array .entry)) (now (shown .entry)) (now (line .entry))) r (now (st .exit)) (now (array .exit)) (now (shown .exit)) ⌝ }
+    ensures { λ r. ⌜ Steps (playOf rec (chipOf (now (st .entry)) (now (array .entry))) (now (shown .entry)) (now (line .entry))) r (now (st .exit)) (now (array .exit)) (now (shown .exit)) ⌝ }
 {
     let p = play::play(line, rec, *st, array, shown);
     *st = p.state;
@@ -22,7 +23,7 @@ pub fn step(st: &mut State, rec: Record, line: &[u8], array: &mut [u8], shown: &
 
 // The same with the state by value: it lies in a local that is lent to the step.
 pub fn stepped(st: State, rec: Record, line: &[u8], array: &mut [u8], shown: &mut [u8]) -> Played
-    ensures { λ r. ⌜ Plays (playOf rec st (now (array .entry)) (now (shown .entry)) (now (line .entry))) r (now (array .exit)) (now (shown .exit)) ⌝ }
+    ensures { λ r. ⌜ Plays (playOf rec (chipOf st (now (array .entry))) (now (shown .entry)) (now (line .entry))) r (now (array .exit)) (now (shown .exit)) ⌝ }
 {
     let mut s = st;
     let p = step(&mut s, rec, line, array, shown);

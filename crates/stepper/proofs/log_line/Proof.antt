@@ -2,6 +2,7 @@
 use mathlib.Core.Path.{_≡_}
 use native.Mathlib.Omega.{arith}
 use lib.ListN.{length, replicate}
+use Rattle.chip.specs.Frames.{chipOf}
 use Rattle.play.proofs.Laws.{played-within}
 use Rattle.stepper.proofs.Rows.{row-logs}
 use borrow.Author.Needs.{needs}
@@ -12,7 +13,7 @@ part-put-row-end : tie.Need-part-put-row-end
 part-put-row-end c =
     let a = c .before .before .before .before .before .before .before .before .before .before .before .before .args in
     let p = c .before .before .before .before .before .before .stepped in
-    let w = played-within (a .rec) (a .st) (a .array .now) (replicate 300 0) (a .line .now) (p .ensures .played) in
+    let w = played-within (a .rec) (chipOf (a .st) (a .array .now)) (replicate 300 0) (a .line .now) (p .ensures .played) in
     let n : length (p .last .1 .1 .1 .1 .0) ≡ 300 = p .kept .1 .1 .1 .1 .0 in
     omega arith
 

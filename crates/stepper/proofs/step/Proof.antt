@@ -48,6 +48,7 @@ use Rattle.play.proofs.Played.Laws as TPlayed′
 use Rattle.states.specs.declared.Record.{Record}
 use Rattle.states.proofs.Record as TRecord
 use Rattle.states.proofs.Record.Laws as TRecord′
+use Rattle.chip.specs.Frames.{chipOf}
 use Rattle.play.specs.Play.{Turn, Plays, playOf}
 use Rattle.stepper.specs.Steps.{Steps}
 use Rattle.play.proofs.play as callee
@@ -104,7 +105,7 @@ module _ {M : Type 1} (𝓤 : URA M) (H : Heap 𝓤) (A : Atoms 𝓤) (W : Given
   h = st .now
 
   abbrev does : Turn
-  does = playOf x-rec h (x-array .now) (x-shown .now) (x-line .now)
+  does = playOf x-rec (chipOf h (x-array .now)) (x-shown .now) (x-line .now)
 
   -- what the step ensures, from what the callee does: the state is the result's
   steps : (r : Played) (last-array last-shown : List ℕ) → Plays does r last-array last-shown → Steps does r (r .state) last-array last-shown

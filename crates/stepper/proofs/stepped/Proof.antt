@@ -49,6 +49,7 @@ use Rattle.play.proofs.Played.Laws as TPlayed′
 use Rattle.states.specs.declared.Record.{Record}
 use Rattle.states.proofs.Record as TRecord
 use Rattle.states.proofs.Record.Laws as TRecord′
+use Rattle.chip.specs.Frames.{chipOf}
 use Rattle.play.specs.Play.{Turn, Plays, playOf}
 use Rattle.stepper.specs.Steps.{Steps}
 use Rattle.stepper.proofs.Lent.{lies-in, lies-out}
@@ -97,7 +98,7 @@ Callee 𝓤 H A at-mem run = tripleOf 𝓤 H A callee.signature (callee.spec �
 module _ {M : Type 1} (𝓤 : URA M) (H : Heap 𝓤) (A : Atoms 𝓤) (W : Given 𝓤 H A) (at-mem : Memory → SProp 𝓤) (run : Routine → Fun 𝓤) (κ-line : Lft) (κ-array : Lft) (κ-shown : Lft) (q-line : Share) (q-array : Share) (q-shown : Share) (st : State) (x-rec : Record) (x-line : Slice) (x-array : Slice) (x-shown : Slice)
     (is-st : Is TState.the-row st (valState st ∷ [])) (is-rec : Is TRecord.the-row x-rec (valRecord x-rec ∷ [])) (room-line : Room u8 (length (x-line .now))) (room-array : Room u8 (length (x-array .now))) (room-shown : Room u8 (length (x-shown .now))) where
   abbrev does : Turn
-  does = playOf x-rec st (x-array .now) (x-shown .now) (x-line .now)
+  does = playOf x-rec (chipOf st (x-array .now)) (x-shown .now) (x-line .now)
 
   -- of what the step ensures: the last state is the result's, and the rest is what this function ensures
   last-is : (r : Played) (z : State) (last-array last-shown : List ℕ) → Steps does r z last-array last-shown → z ≡ r .state
