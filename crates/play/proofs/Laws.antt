@@ -1,19 +1,17 @@
 -- Laws of played lines. Assumes nothing.
 use mathlib.Core.Path.{_≡_, refl, sym, ap, subst, _∙_}
-use mathlib.Core.Bool.{Bool, true, false, cond}
+use mathlib.Core.Bool.{Bool}
 use mathlib.Core.List.{List, [], _∷_, _++_}
 use Prim.Native.Nat.{ℕ, zero, suc, _+_, _-_, _≤_}
 use native.Mathlib.Omega.{arith}
 use lib.ListN.{length, take, drop, length-take}
 use lib.Seq.{take-at}
-use Rattle.answers.specs.Answers.{isDone, numberOf}
+use Rattle.answers.specs.Answers.{numberOf}
 use Rattle.states.specs.declared.Record.{Record}
-use Rattle.ladder.specs.Ladder.{refusalOf}
-use Rattle.ladder.specs.declared.Head.{Head}
 use Rattle.effects.specs.declared.Reply.{Reply}
-use Rattle.effects.specs.Effects.{Effect, Gives}
-use Rattle.chip.specs.Frames.{Chip, Sent, sentOf, headOf, acceptedOf, refusedOf, frameOf}
-use Rattle.chip.proofs.Sorts.{kind, within}
+use Rattle.effects.specs.Effects.{Gives}
+use Rattle.chip.specs.Frames.{Chip, sentOf, frameOf}
+use Rattle.chip.proofs.Ways.{frame-within}
 use Rattle.script.specs.declared.Line.{Line}
 use Rattle.script.specs.declared.Line.the-variants.{Frame, Wait, Power, Bad}
 use Rattle.script.specs.Hex.{hexBytes, Unhexed}
@@ -56,20 +54,6 @@ pub at-line : (rec : Record) (x : Chip) (shown line : List ℕ) {l : Line} {r : 
 at-line rec x shown line {l} {r} {xs} {os} e k f p = subst (λ (z : Line). Plays (turnOf rec x shown line z) r xs os) (sym f ∙ e) p
 
 -- ---- what a line drives lies in its frame
-frame-within : (rec : Record) (x : Chip) (f : Sent) → frameOf rec x f .reply .from + frameOf rec x f .reply .count ≤ length (f .bytes)
-unfolding frameOf
-frame-within rec x f = go (isDone (refusalOf rec (x .state) h))
-  where
-    h : Head
-    h = headOf rec x f
-
-    e : Bool → Effect
-    e b = cond b (acceptedOf rec x (h .command) (h .address) (f .bytes) (f .out)) (refusedOf (refusalOf rec (x .state) h) x f)
-
-    go : (b : Bool) → e b .reply .from + e b .reply .count ≤ length (f .bytes)
-    go true = within (kind rec x (h .address) (f .bytes) (f .out) (h .command))
-    go false = omega arith
-
 turn-within : (rec : Record) (x : Chip) (shown line : List ℕ) (l : Line)
     → turnOf rec x shown line l .played .from + turnOf rec x shown line l .played .count ≤ 300
 unfolding turnOf frameTurn
