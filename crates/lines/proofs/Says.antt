@@ -1,7 +1,7 @@
 -- What a cut says of the lines of the input, whatever line is held and whatever comes after the block. Assumes nothing.
 use mathlib.Core.Path.{_≡_, refl, sym, ap, _∙_, subst, subst₂}
 use mathlib.Core.Bool.{Bool, true, false, _&&_}
-use mathlib.Core.List.{List, [], _∷_, _++_, append-assoc, append-nil}
+use mathlib.Core.List.{List, [], _∷_, _++_, append-nil}
 use Prim.Native.Nat.{ℕ, zero, suc, _+_, _-_, _≤_, _<_, min}
 use native.Mathlib.Nat.{sub-zero, suc-sub-suc, not-suc-le-zero}
 use native.Mathlib.Omega.{arith}
@@ -9,8 +9,7 @@ use lib.Dec.{eqb, ltb}
 use lib.ListN.{length, drop, take, length-append, length-drop, length-take}
 use lib.Seq.{length-take-le, take-at, take-nil, drop-drop, take-all, append-snoc}
 use borrow.Author.Tests.{ltb-true, ltb-false, eqb-true}
-use Rattle.parts.specs.Parts.{lay}
-use Rattle.parts.proofs.Lay.{length-lay}
+use Rattle.parts.proofs.Lay.{length-lay, take-lay}
 use Rattle.lines.specs.declared.Cut.{Cut}
 use Rattle.lines.specs.declared.Cut.the-variants.{Here, Joined, Open}
 use Rattle.lines.specs.Lines.{linesFrom}
@@ -52,14 +51,6 @@ take-append : (m : ℕ) (xs ys : List ℕ) → take m (xs ++ ys) ≡ take m xs +
 take-append m [] ys = rw (take-nil m, sub-zero m)
 take-append zero (x ∷ xs) ys = let z : 0 - suc (length xs) ≡ 0 = omega arith in rw z
 take-append (suc m) (x ∷ xs) ys = rw (suc-sub-suc) (ap (λ (z : List ℕ). x ∷ z) (take-append m xs ys))
-
--- what stands up to the end of a part that was laid
-take-lay : (xs : List ℕ) (at : ℕ) (ys : List ℕ) → at ≤ length xs → take (at + length ys) (lay xs at ys) ≡ take at xs ++ ys
-unfolding lay
-take-lay xs at ys l =
-    let rest : List ℕ = drop (at + length ys) xs in
-    let n : length (take at xs ++ ys) ≡ at + length ys = length-append (take at xs) ys ∙ ap (λ (z : ℕ). z + length ys) (length-take-le at xs l) in
-    ap (take (at + length ys)) (sym (append-assoc (take at xs) ys rest)) ∙ take-at (take at xs ++ ys) rest (at + length ys) n
 
 -- more of the line
 pub holds-more : (line part held : List ℕ) (used : ℕ) → Holds line held used → Holds (line ++ part) (heldWith held used part) (usedOf held used part)

@@ -3,25 +3,18 @@ use mathlib.Core.Path.{_≡_, refl, sym, ap, _∙_, subst}
 use mathlib.Core.List.{List, [], _∷_, _++_}
 use Prim.Native.Nat.{ℕ, _+_, _-_, _≤_, _<_}
 use native.Mathlib.Nat.{add-zero}
-use native.Mathlib.Numerals.{add-one}
 use native.Mathlib.Omega.{arith}
-use lib.ListN.{length, take, drop, set, length-append}
-use lib.Seq.{set-split}
+use lib.ListN.{length, set, length-append}
 use borrow.Rule.Slice.PartMut.{putMid}
 use Rattle.parts.specs.Parts.{lay}
-use Rattle.parts.proofs.Lay.{lay-none, lay-next, length-lay, put-back}
+use Rattle.parts.proofs.Lay.{lay-none, lay-one, lay-next, length-lay, put-back}
 use Rattle.text.specs.Put.{Put, OnePut}
 
 pub put-none : (d : List ℕ) (at : ℕ) → at ≤ length d → Put [] d at d at
 put-none d at l = record { room = omega arith; is = sym (lay-none d at); next = sym (add-zero at) }
 
--- one byte stored
-set-lay : (d : List ℕ) (at b : ℕ) → at < length d → set d at b ≡ lay d at (b ∷ [])
-unfolding lay
-set-lay d at b l = set-split d at b l ∙ ap (λ (n : ℕ). take at d ++ (b ∷ drop n d)) (sym (add-one at))
-
 pub put-one : (b : ℕ) (d : List ℕ) (at : ℕ) → at < length d → Put (b ∷ []) d at (set d at b) (at + 1)
-put-one b d at l = record { room = omega arith; is = set-lay d at b l; next = refl }
+put-one b d at l = record { room = omega arith; is = lay-one d at b l; next = refl }
 
 -- a part of the buffer that was lent, and came back as the text
 pub put-part : (text d e : List ℕ) (at : ℕ) → at + length text ≤ length d → e ≡ text → Put text d at (putMid at (at + length text - at) d e) (at + length text)
