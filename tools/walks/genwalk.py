@@ -1,4 +1,4 @@
-"""Writes the two proofs by hand of a step that is lent a struct: of the step, and of its caller with plain parameters (see line.py).
+"""Writes the two proofs of a step that is lent a struct, a walk of the code each: of the step, and of its caller with plain parameters (see line.py).
 
 The code has to be of this shape (CALLEE is covered, has no requires, takes the state by value, and returns a struct RES that holds it):
     pub fn STEP(st: &mut State, P..) -> RES { let r = CALLEE(..); *st = r.state; r }
