@@ -14,10 +14,10 @@ use Rattle.chip.specs.Frames.{Chip, sentOf, frameOf}
 use Rattle.chip.proofs.Ways.{frame-within}
 use Rattle.script.specs.declared.Line.{Line}
 use Rattle.script.specs.declared.Line.the-variants.{Frame, Wait, Power, Bad}
-use Rattle.script.specs.Hex.{bytesOf, Unhexed}
+use Rattle.script.specs.Hex.{hexBytes, Unhexed}
 use Rattle.script.specs.Reading.{lineOf}
 use Rattle.play.specs.declared.Played.{Played}
-use Rattle.play.specs.Play.{Plays, frameTurn, turnOf, playOf}
+use Rattle.play.specs.Play.{Plays, OnePlays, frameTurn, turnOf, playOf}
 
 -- ---- what is sent of a frame's line
 take-long : (m : ℕ) (xs : List ℕ) → take (length (take m xs)) xs ≡ take m xs
@@ -25,9 +25,9 @@ take-long zero xs = refl
 take-long (suc m) [] = refl
 take-long (suc m) (x ∷ xs) = ap (λ (ys : List ℕ). x ∷ ys) (take-long m xs)
 
-pub unhexed-front : {digits d e : List ℕ} {r : ℕ} (m : ℕ) → length d ≡ m → Unhexed digits d e r → take (r - 0) (drop 0 e) ≡ take m (bytesOf digits)
+pub unhexed-front : {digits d e : List ℕ} {r : ℕ} (m : ℕ) → length d ≡ m → Unhexed digits d e r → take (r - 0) (drop 0 e) ≡ take m (hexBytes digits)
 unhexed-front {digits} {d} {e} {r} m l u =
-    let bs = bytesOf digits in
+    let bs = hexBytes digits in
     let n : r ≡ length (take m bs) = u .count ∙ ap (λ (k : ℕ). length (take k bs)) l in
     let front : take r bs ≡ take m bs = ap (λ (k : ℕ). take k bs) n ∙ take-long m bs in
     let is : e ≡ take m bs ++ drop r d = u .is ∙ ap (λ (z : List ℕ). z ++ drop r d) front in
@@ -35,7 +35,7 @@ unhexed-front {digits} {d} {e} {r} m l u =
     ap (λ (k : ℕ). take k e) z ∙ ap (take (length (take m bs))) is ∙ take-at (take m bs) (drop r d) (length (take m bs)) refl
 
 pub frame-plays : (rec : Record) (x : Chip) (shown line : List ℕ) (wp : Bool) (tail : ℕ) {frame : List ℕ} {r : Reply} {number : ℕ} {xs os : List ℕ}
-    → frame ≡ take 300 (bytesOf (drop 6 line)) → Gives (frameOf rec x (sentOf frame tail wp shown)) r xs os → number ≡ numberOf (r .answer)
+    → frame ≡ take 300 (hexBytes (drop 6 line)) → Gives (frameOf rec x (sentOf frame tail wp shown)) r xs os → number ≡ numberOf (r .answer)
     → Plays (frameTurn rec x shown line wp tail) (record { answer = number; from = r .from; count = r .count; state = r .state }) xs os
 unfolding frameTurn
 frame-plays rec x shown line wp tail {frame} {r} {number} {xs} {os} e g n =
@@ -58,11 +58,14 @@ turn-within : (rec : Record) (x : Chip) (shown line : List ℕ) (l : Line)
     → turnOf rec x shown line l .played .from + turnOf rec x shown line l .played .count ≤ 300
 unfolding turnOf frameTurn
 turn-within rec x shown line (Frame wp tail n) =
-    let sent = take 300 (bytesOf (drop 6 line)) in
-    omega (arith, frame-within rec x (sentOf sent tail wp shown), length-take 300 (bytesOf (drop 6 line)))
+    let sent = take 300 (hexBytes (drop 6 line)) in
+    omega (arith, frame-within rec x (sentOf sent tail wp shown), length-take 300 (hexBytes (drop 6 line)))
 turn-within rec x shown line (Wait us) = omega arith
 turn-within rec x shown line Power = omega arith
 turn-within rec x shown line Bad = omega arith
 
 pub played-within : (rec : Record) (x : Chip) (shown line : List ℕ) {r : Played} → r ≡ playOf rec x shown line .played → r .from + r .count ≤ 300
 played-within rec x shown line {r} e = subst (λ (q : Played). q .from + q .count ≤ 300) (sym e) (turn-within rec x shown line (lineOf line))
+
+pub one-plays : OnePlays
+one-plays t r r′ xs xs′ os os′ p q = (p .played ∙ sym (q .played), p .cells ∙ sym (q .cells), p .shown ∙ sym (q .shown))
