@@ -4,3 +4,5 @@ pub mod Recovery
 pub mod Histories
 pub mod Shorter
 pub mod Reached
+pub mod Laws
+pub mod Sheet

@@ -1,0 +1,218 @@
+-- The statements of `specs/Laws.antt`. Assumes nothing.
+use mathlib.Core.Path.{_≡_, refl, sym, ap, subst, _∙_}
+use mathlib.Core.Bool.{Bool, true, false, _&&_, _||_, cond, true≢false}
+use mathlib.Core.List.{List}
+use mathlib.Core.Logic.{_⊎_}
+use Prim.Native.Nat.{ℕ, _+_, _-_, _≤_, _<_}
+use native.Mathlib.Nat.{le-refl}
+use native.Mathlib.Omega.{arith}
+use lib.Dec.{eqb, ltb}
+use lib.ListN.{length, getD, drop}
+use borrow.Author.Tests.{eqb-true, ltb-true, ltb-false, lt-ltb, le-ltb, ne-eqb, eq-eqb}
+use Rattle.units.specs.declared.Address.{Address}
+use Rattle.units.specs.Kinds.{pageStart, pageOffset}
+use Rattle.cells.specs.Cell.{bit}
+use Rattle.fold.specs.Fold.{cellAfter}
+use Rattle.flash.specs.Arrays.{programmed}
+use Rattle.fold.proofs.Counts.{only-falls}
+use Rattle.flash.proofs.Arrays.{page-folds, outside-stays}
+use Rattle.answers.specs.Answers.{isDone}
+use Rattle.commands.specs.Commands.{decodeOf}
+use Rattle.states.specs.States.{recordOk, stateOk}
+use Rattle.states.specs.declared.Record.{Record}
+use Rattle.states.specs.declared.State.{State}
+use Rattle.answers.specs.declared.Answer.{Answer}
+use Rattle.answers.specs.declared.Answer.the-variants.{Done, BadRecord, BadState}
+use Rattle.commands.specs.declared.Command.{Command}
+use Rattle.commands.specs.declared.Command.the-variants.{Program}
+use Rattle.states.proofs.States.{sound, valid}
+use Rattle.ladder.specs.Ladder.{refusalOf}
+use Rattle.ladder.specs.declared.Head.{Head}
+use Rattle.effects.specs.declared.Reply.{Reply}
+use Rattle.time.specs.declared.After.{After}
+use Rattle.effects.specs.Effects.{Effect, Gives, programPage}
+use Rattle.chip.specs.Frames.{Chip, Sent, headFor, headOf, acceptedOf, refusedOf, frameOf}
+use Rattle.chip.specs.Units.{drivenBytes}
+use Rattle.time.specs.Time.{later, cycled, ifValid, waitOf, powerOf}
+use Rattle.chip.proofs.Ready.{ready}
+use Rattle.effects.proofs.Fits.{page-fits}
+use Rattle.chip.proofs.Sorts.{Kind, kind, is-done, counts, changes-only}
+use Rattle.promises.specs.Laws.{WaitsAdd, RefusedFrame, RefusedWait, RefusedCycle, addressed, OnlyItsUnit, ProgramFalls, OneOutcome, OneEffect, OneWait, OneCycle}
+use Rattle.promises.specs.Pods.{NumberFixed}
+use Rattle.promises.proofs.Valid.{later-sound}
+use Rattle.promises.proofs.Steps.{wait-taken}
+
+-- ---- waits
+-- WEL stays exactly while neither wait has run the busy time out
+latch-stays : (busy a b : ℕ) (w : Bool)
+    → ((w && (eqb busy 0 || ltb a busy)) && (eqb (busy - a) 0 || ltb b (busy - a))) ≡ (w && (eqb busy 0 || ltb (a + b) busy))
+latch-stays busy a b false = refl
+latch-stays busy a b true = go (eqb busy 0) refl (ltb a busy) refl (ltb (a + b) busy) refl
+  where
+    go : (x : Bool) → eqb busy 0 ≡ x → (y : Bool) → ltb a busy ≡ y → (z : Bool) → ltb (a + b) busy ≡ z
+        → ((x || y) && (eqb (busy - a) 0 || ltb b (busy - a))) ≡ (x || z)
+    go true p y q z r =
+        let n : busy ≡ 0 = eqb-true busy 0 p in
+        rw (eq-eqb (busy - a) 0 (omega arith))
+    go false p true q true r =
+        let l : a < busy = ltb-true a busy q in
+        let m : a + b < busy = ltb-true (a + b) busy r in
+        rw (ne-eqb (busy - a) 0 (λ e. omega arith), lt-ltb b (busy - a) (omega arith))
+    go false p true q false r =
+        let l : a < busy = ltb-true a busy q in
+        let m : busy ≤ a + b = ltb-false (a + b) busy r in
+        rw (ne-eqb (busy - a) 0 (λ e. omega arith), le-ltb b (busy - a) (omega arith))
+    go false p false q true r =
+        let l : busy ≤ a = ltb-false a busy q in
+        let m : a + b < busy = ltb-true (a + b) busy r in
+        absurd (omega arith)
+    go false p false q false r = refl
+
+later-adds : (s : State) (a b : ℕ) → later (later s a) b ≡ later s (a + b)
+unfolding later
+later-adds s a b =
+    let e : s .busy - a - b ≡ s .busy - (a + b) = omega arith in
+    rw (latch-stays (s .busy) a b (s .wel), e)
+
+wait-refused : (rec : Record) (s : State) (us : ℕ) → recordOk rec ≡ true → stateOk rec s ≡ false → waitOf rec s us ≡ record { answer = BadState; state = s }
+unfolding waitOf ifValid
+wait-refused rec s us p q = rw (p, q)
+
+no-record : (rec : Record) (s : State) (a b : ℕ) → recordOk rec ≡ false → waitOf rec (waitOf rec s a .state) b ≡ waitOf rec s (a + b)
+unfolding waitOf ifValid
+no-record rec s a b p = rw p
+
+pub waits-add : WaitsAdd
+waits-add rec s a b = go (recordOk rec) refl (stateOk rec s) refl
+  where
+    go : (x : Bool) → recordOk rec ≡ x → (y : Bool) → stateOk rec s ≡ y → waitOf rec (waitOf rec s a .state) b ≡ waitOf rec s (a + b)
+    go false p y q = no-record rec s a b p
+    go true p false q = ap (λ (t : After). waitOf rec (t .state) b) (wait-refused rec s a p q) ∙ wait-refused rec s b p q ∙ sym (wait-refused rec s (a + b) p q)
+    go true p true q =
+        let v : stateOk rec (later s a) ≡ true = valid rec (later s a) (later-sound rec s (sound rec s q) a) in
+        ap (λ (t : After). waitOf rec (t .state) b) (wait-taken rec s a p q)
+        ∙ wait-taken rec (later s a) b p v
+        ∙ ap (λ (t : State). record { answer = Done; state = t }) (later-adds s a b)
+        ∙ sym (wait-taken rec s (a + b) p q)
+
+-- ---- refused calls
+module _ (rec : Record) (x : Chip) (f : Sent) where
+  abbrev h : Head
+  h = headOf rec x f
+
+  abbrev a : Answer
+  a = refusalOf rec (x .state) h
+
+  -- what the frame does when it is accepted, and what it comes to by whether it is refused
+  abbrev accepted : Effect
+  accepted = acceptedOf rec x (h .command) (h .address) (f .bytes) (f .out)
+
+  abbrev either-way : Bool → Effect
+  either-way b = cond b accepted (refusedOf a x f)
+
+  -- its sort
+  sort : Kind rec x (h .command) (h .address) (f .bytes) (f .out) (addressed rec x f) (drivenBytes (h .command) (length (f .bytes))) accepted
+  sort = kind rec x (h .address) (f .bytes) (f .out) (h .command)
+
+  refused-case : (b : Bool) → isDone (either-way b .reply .answer) ≡ false → either-way b ≡ refusedOf (either-way b .reply .answer) x f
+  refused-case true d = absurd (true≢false (sym (is-done sort) ∙ d))
+  refused-case false d = refl
+
+  unit-case : (k : ℕ) → (k < addressed rec x f .start) ⊎ (addressed rec x f .start + addressed rec x f .size ≤ k)
+      → (b : Bool) → isDone a ≡ b → getD (either-way b .cells) k 0 ≡ getD (x .cells) k 0
+  unit-case k o true e =
+      let r = ready rec x f {h = h} refl refl e in
+      changes-only sort (r .inside) (r .whole) .rest k o
+  unit-case k o false e = refl
+
+pub refused : RefusedFrame
+unfolding frameOf
+refused rec x f d = refused-case rec x f (isDone (refusalOf rec (x .state) (headOf rec x f))) d
+
+if-valid-refused : (rec : Record) (s next : State) → isDone (ifValid rec s next .answer) ≡ false → ifValid rec s next .state ≡ s
+unfolding ifValid
+if-valid-refused rec s next d = go (recordOk rec) (stateOk rec s) d
+  where
+    go : (x y : Bool) → isDone (cond {A = After} x (cond y (record { answer = Done; state = next }) (record { answer = BadState; state = s })) (record { answer = BadRecord; state = s }) .answer) ≡ false
+        → cond {A = After} x (cond y (record { answer = Done; state = next }) (record { answer = BadState; state = s })) (record { answer = BadRecord; state = s }) .state ≡ s
+    go true true d = absurd (true≢false d)
+    go true false d = refl
+    go false y d = refl
+
+pub refused-wait : RefusedWait
+unfolding waitOf
+refused-wait rec s us d = if-valid-refused rec s (later s us) d
+
+pub refused-cycle : RefusedCycle
+unfolding powerOf
+refused-cycle rec s d = if-valid-refused rec s (cycled s) d
+
+-- ---- units
+pub only-its-unit : OnlyItsUnit
+unfolding frameOf
+only-its-unit rec x f k o = unit-case rec x f k o (isDone (refusalOf rec (x .state) (headOf rec x f))) refl
+
+-- ---- programs
+falls-in : (cells : List ℕ) (at : Address) (sent : List ℕ) (b k : ℕ) → pageStart at + 256 ≤ length cells → bit b (getD (programmed cells at sent) k 0) ≤ bit b (getD cells k 0)
+falls-in cells at sent b k h = go (ltb k (pageStart at)) refl (ltb k (pageStart at + 256)) refl
+  where
+    same : getD (programmed cells at sent) k 0 ≡ getD cells k 0 → bit b (getD (programmed cells at sent) k 0) ≤ bit b (getD cells k 0)
+    same e = rw e (le-refl (bit b (getD cells k 0)))
+
+    go : (x : Bool) → ltb k (pageStart at) ≡ x → (y : Bool) → ltb k (pageStart at + 256) ≡ y → bit b (getD (programmed cells at sent) k 0) ≤ bit b (getD cells k 0)
+    go true p y q =
+        let l : k < pageStart at = ltb-true k (pageStart at) p in
+        same (outside-stays cells at sent k h (λ e. omega arith))
+    go false p false q =
+        let l : pageStart at + 256 ≤ k = ltb-false k (pageStart at + 256) q in
+        same (outside-stays cells at sent k h (λ e. omega arith))
+    go false p true q =
+        let l : pageStart at ≤ k = ltb-false k (pageStart at) p in
+        let m : k < pageStart at + 256 = ltb-true k (pageStart at + 256) q in
+        let i : pageStart at + (k - pageStart at) ≡ k = omega arith in
+        let e = page-folds cells at sent (k - pageStart at) h (omega arith) in
+        let f : getD (programmed cells at sent) k 0 ≡ cellAfter (pageOffset at) sent (k - pageStart at) (getD cells k 0) =
+        subst (λ (n : ℕ). getD (programmed cells at sent) n 0 ≡ cellAfter (pageOffset at) sent (k - pageStart at) (getD cells n 0)) i e
+        in
+        rw f (only-falls b (pageOffset at) sent (k - pageStart at) (getD cells k 0))
+
+module _ (rec : Record) (x : Chip) (f : Sent) (b k : ℕ) where
+  program-case : (at : Address) → pageStart at + 256 ≤ length (x .cells)
+      → bit b (getD (acceptedOf rec x Program at (f .bytes) (f .out) .cells) k 0) ≤ bit b (getD (x .cells) k 0)
+  unfolding acceptedOf programPage
+  program-case at h = falls-in (x .cells) at (drop 4 (f .bytes)) b k h
+
+  falls-case : h rec x f .command ≡ Program → (t : Bool) → isDone (a rec x f) ≡ t → bit b (getD (either-way rec x f t .cells) k 0) ≤ bit b (getD (x .cells) k 0)
+  falls-case e true p =
+      let r = ready rec x f {h = h rec x f} refl refl p in
+      subst (λ (d : Command). bit b (getD (acceptedOf rec x d (h rec x f .address) (f .bytes) (f .out) .cells) k 0) ≤ bit b (getD (x .cells) k 0)) (sym e)
+      (program-case (h rec x f .address) (page-fits rec (x .cells) (h rec x f .address) (r .inside) (r .whole)))
+  falls-case e false p = le-refl (bit b (getD (x .cells) k 0))
+
+pub program-falls : ProgramFalls
+unfolding frameOf
+program-falls rec x f b k e = falls-case rec x f b k e (isDone (refusalOf rec (x .state) (headOf rec x f))) refl
+
+-- ---- no second answer
+pub one-outcome : OneOutcome
+one-outcome A a r t p q = p ∙ sym q
+
+pub one-effect : OneEffect
+one-effect rec x f r t xs ys os ps g k = (g .reply ∙ sym (k .reply), g .cells ∙ sym (k .cells), g .out ∙ sym (k .out))
+
+pub one-wait : OneWait
+one-wait rec s us r t p q = p ∙ sym q
+
+pub one-cycle : OneCycle
+one-cycle rec s r t p q = p ∙ sym q
+
+-- ---- the number of driven bytes
+pub number-fixed : NumberFixed
+unfolding frameOf headFor
+number-fixed rec x f r xs os g d =
+    ap (λ (q : Reply). q .count) (g .reply) ∙ go (isDone (a rec x f)) refl (sym (ap (λ (q : Reply). isDone (q .answer)) (g .reply)) ∙ d)
+  where
+    go : (b : Bool) → isDone (a rec x f) ≡ b → isDone (either-way rec x f b .reply .answer) ≡ true
+        → either-way rec x f b .reply .count ≡ drivenBytes (decodeOf (getD (f .bytes) 0 0)) (length (f .bytes))
+    go true e p = counts (sort rec x f)
+    go false e p = absurd (true≢false (sym p ∙ e))
