@@ -4,5 +4,6 @@ pub mod Recovery
 pub mod Histories
 pub mod Shorter
 pub mod Reached
-pub mod Laws
+pub mod Pods
 pub mod Sheet
+pub mod Laws
