@@ -42,8 +42,7 @@ module _ (rec : Record) (cells : List ℕ) (j : Job) (e : recordOk rec ≡ true)
   by : (bytes : List ℕ) (g : Effect) (time : ℕ) → frameOf rec armed (frame bytes room) ≡ g → g .reply .answer ≡ Done
       → left g ≡ chipOf (running time) (g .cells) → 0 < time → longestOf rec ≡ time → Reached
   by bytes g time p d s t m =
-      let b = sends-to rec armed (arms .bench) (frame bytes room) g p d in
-      (
+      let b = sends-to rec armed (arms .bench) (frame bytes room) g p d in (
         sends (frame (0x06 ∷ []) room) ∷ sends (frame bytes room) ∷ [],
         subst (TooShort rec j) (sym (goes-run [] (goes arms (goes b ends)) ∙ s)) (still rec (g .cells) j time t m (subst (Bench rec) s (b .bench)) f),
       )
