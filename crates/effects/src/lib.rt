@@ -100,10 +100,7 @@ pub fn write_disable(st: State) -> Reply
 pub fn write_status(rec: Record, st: State, bytes: &[u8]) -> Reply
     ensures { λ r. ⌜ r ≡ writeStatus rec st (now (bytes .entry)) ⌝ }
 {
-    quiet(
-        Answer::Done,
-        write(st, parts::byte_at(bytes, 1), rec.status_write),
-    )
+    quiet(Answer::Done, write(st, parts::byte_at(bytes, 1), rec.status_write))
 }
 
 // B9

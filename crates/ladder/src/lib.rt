@@ -4,9 +4,9 @@ ghost use Rattle.ladder.specs.Ladder.{refusalOf};
 ghost use Rattle.ladder.specs.Stages.{givenOf, heardOf, allowedOf};
 use answers::Answer;
 use commands::Command;
-use commands::Traits;
 use states::Record;
 use states::State;
+use commands::Traits;
 use units::Address;
 
 // What the refusals look at of one frame: the cells of the array that it is given, its whole bytes, tail bits and WP# level, the room of its output,

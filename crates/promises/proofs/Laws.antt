@@ -2,7 +2,6 @@
 use mathlib.Core.Path.{_≡_, refl, sym, ap, subst, _∙_}
 use mathlib.Core.Bool.{Bool, true, false, _&&_, _||_, cond, true≢false}
 use mathlib.Core.List.{List}
-use mathlib.Core.Logic.{_⊎_}
 use Prim.Native.Nat.{ℕ, _+_, _-_, _≤_, _<_}
 use native.Mathlib.Nat.{le-refl}
 use native.Mathlib.Omega.{arith}
@@ -21,24 +20,21 @@ use Rattle.commands.specs.Commands.{decodeOf}
 use Rattle.states.specs.States.{recordOk, stateOk}
 use Rattle.states.specs.declared.Record.{Record}
 use Rattle.states.specs.declared.State.{State}
-use Rattle.answers.specs.declared.Answer.{Answer}
 use Rattle.answers.specs.declared.Answer.the-variants.{Done, BadRecord, BadState}
 use Rattle.commands.specs.declared.Command.{Command}
 use Rattle.commands.specs.declared.Command.the-variants.{Program}
 use Rattle.states.proofs.States.{sound, valid}
-use Rattle.ladder.specs.Ladder.{refusalOf}
-use Rattle.ladder.specs.declared.Head.{Head}
 use Rattle.effects.specs.declared.Reply.{Reply}
 use Rattle.time.specs.declared.After.{After}
 use Rattle.effects.specs.Effects.{Effect, Gives, programPage}
-use Rattle.chip.specs.Frames.{Chip, Sent, headFor, headOf, acceptedOf, refusedOf, frameOf}
+use Rattle.chip.specs.Frames.{Chip, headFor, acceptedOf, refusedOf}
 use Rattle.chip.specs.Units.{drivenBytes}
 use Rattle.time.specs.Time.{later, cycled, ifValid, waitOf, powerOf}
-use Rattle.chip.proofs.Ready.{ready}
 use Rattle.effects.proofs.Fits.{page-fits}
-use Rattle.chip.proofs.Sorts.{Kind, kind, is-done, counts, changes-only}
-use Rattle.promises.specs.Laws.{WaitsAdd, RefusedFrame, RefusedWait, RefusedCycle, addressed, OnlyItsUnit, ProgramFalls, OneOutcome, OneEffect, OneWait, OneCycle}
+use Rattle.chip.proofs.Sorts.{is-done, counts, changes-only}
+use Rattle.promises.specs.Laws.{WaitsAdd, RefusedFrame, RefusedWait, RefusedCycle, OnlyItsUnit, ProgramFalls, OneOutcome, OneEffect, OneWait, OneCycle}
 use Rattle.promises.specs.Pods.{NumberFixed}
+use Rattle.promises.proofs.Cases.{head, frame-cases, sort, shown-ready}
 use Rattle.promises.proofs.Valid.{later-sound}
 use Rattle.promises.proofs.Steps.{wait-taken}
 
@@ -96,38 +92,10 @@ waits-add rec s a b = go (recordOk rec) refl (stateOk rec s) refl
         ∙ sym (wait-taken rec s (a + b) p q)
 
 -- ---- refused calls
-module _ (rec : Record) (x : Chip) (f : Sent) where
-  abbrev h : Head
-  h = headOf rec x f
-
-  abbrev a : Answer
-  a = refusalOf rec (x .state) h
-
-  -- what the frame does when it is accepted, and what it comes to by whether it is refused
-  abbrev accepted : Effect
-  accepted = acceptedOf rec x (h .command) (h .address) (f .bytes) (f .out)
-
-  abbrev either-way : Bool → Effect
-  either-way b = cond b accepted (refusedOf a x f)
-
-  -- its sort
-  sort : Kind rec x (h .command) (h .address) (f .bytes) (f .out) (addressed rec x f) (drivenBytes (h .command) (length (f .bytes))) accepted
-  sort = kind rec x (h .address) (f .bytes) (f .out) (h .command)
-
-  refused-case : (b : Bool) → isDone (either-way b .reply .answer) ≡ false → either-way b ≡ refusedOf (either-way b .reply .answer) x f
-  refused-case true d = absurd (true≢false (sym (is-done sort) ∙ d))
-  refused-case false d = refl
-
-  unit-case : (k : ℕ) → (k < addressed rec x f .start) ⊎ (addressed rec x f .start + addressed rec x f .size ≤ k)
-      → (b : Bool) → isDone a ≡ b → getD (either-way b .cells) k 0 ≡ getD (x .cells) k 0
-  unit-case k o true e =
-      let r = ready rec x f {h = h} refl refl e in
-      changes-only sort (r .inside) (r .whole) .rest k o
-  unit-case k o false e = refl
-
 pub refused : RefusedFrame
-unfolding frameOf
-refused rec x f d = refused-case rec x f (isDone (refusalOf rec (x .state) (headOf rec x f))) d
+refused rec x f =
+    frame-cases rec x f (λ (e : Effect). isDone (e .reply .answer) ≡ false → e ≡ refusedOf (e .reply .answer) x f)
+    (λ d q. absurd (true≢false (sym (is-done (sort rec x f)) ∙ q))) (λ d q. refl)
 
 if-valid-refused : (rec : Record) (s next : State) → isDone (ifValid rec s next .answer) ≡ false → ifValid rec s next .state ≡ s
 unfolding ifValid
@@ -149,8 +117,9 @@ refused-cycle rec s d = if-valid-refused rec s (cycled s) d
 
 -- ---- units
 pub only-its-unit : OnlyItsUnit
-unfolding frameOf
-only-its-unit rec x f k o = unit-case rec x f k o (isDone (refusalOf rec (x .state) (headOf rec x f))) refl
+only-its-unit rec x f k o =
+    frame-cases rec x f (λ (e : Effect). getD (e .cells) k 0 ≡ getD (x .cells) k 0)
+    (λ d. let r = shown-ready rec x f d in changes-only (sort rec x f) (r .inside) (r .whole) .rest k o) (λ d. refl)
 
 -- ---- programs
 falls-in : (cells : List ℕ) (at : Address) (sent : List ℕ) (b k : ℕ) → pageStart at + 256 ≤ length cells → bit b (getD (programmed cells at sent) k 0) ≤ bit b (getD cells k 0)
@@ -176,22 +145,21 @@ falls-in cells at sent b k h = go (ltb k (pageStart at)) refl (ltb k (pageStart 
         in
         rw f (only-falls b (pageOffset at) sent (k - pageStart at) (getD cells k 0))
 
-module _ (rec : Record) (x : Chip) (f : Sent) (b k : ℕ) where
-  program-case : (at : Address) → pageStart at + 256 ≤ length (x .cells)
-      → bit b (getD (acceptedOf rec x Program at (f .bytes) (f .out) .cells) k 0) ≤ bit b (getD (x .cells) k 0)
-  unfolding acceptedOf programPage
-  program-case at h = falls-in (x .cells) at (drop 4 (f .bytes)) b k h
-
-  falls-case : h rec x f .command ≡ Program → (t : Bool) → isDone (a rec x f) ≡ t → bit b (getD (either-way rec x f t .cells) k 0) ≤ bit b (getD (x .cells) k 0)
-  falls-case e true p =
-      let r = ready rec x f {h = h rec x f} refl refl p in
-      subst (λ (d : Command). bit b (getD (acceptedOf rec x d (h rec x f .address) (f .bytes) (f .out) .cells) k 0) ≤ bit b (getD (x .cells) k 0)) (sym e)
-      (program-case (h rec x f .address) (page-fits rec (x .cells) (h rec x f .address) (r .inside) (r .whole)))
-  falls-case e false p = le-refl (bit b (getD (x .cells) k 0))
+program-case : (rec : Record) (x : Chip) (c : Command) (at : Address) (bytes out : List ℕ) (b k : ℕ) → c ≡ Program → pageStart at + 256 ≤ length (x .cells)
+    → bit b (getD (acceptedOf rec x c at bytes out .cells) k 0) ≤ bit b (getD (x .cells) k 0)
+unfolding acceptedOf programPage
+program-case rec x c at bytes out b k e h =
+    subst (λ (d : Command). bit b (getD (acceptedOf rec x d at bytes out .cells) k 0) ≤ bit b (getD (x .cells) k 0)) (sym e)
+    (falls-in (x .cells) at (drop 4 bytes) b k h)
 
 pub program-falls : ProgramFalls
-unfolding frameOf
-program-falls rec x f b k e = falls-case rec x f b k e (isDone (refusalOf rec (x .state) (headOf rec x f))) refl
+program-falls rec x f b k e =
+    frame-cases rec x f (λ (g : Effect). bit b (getD (g .cells) k 0) ≤ bit b (getD (x .cells) k 0))
+    (λ d.
+        let at = head rec x f .address in
+        let r = shown-ready rec x f d in
+        program-case rec x (head rec x f .command) at (f .bytes) (f .out) b k e (page-fits rec (x .cells) at (r .inside) (r .whole)))
+    (λ d. le-refl (bit b (getD (x .cells) k 0)))
 
 -- ---- no second answer
 pub one-outcome : OneOutcome
@@ -208,11 +176,9 @@ one-cycle rec s r t p q = p ∙ sym q
 
 -- ---- the number of driven bytes
 pub number-fixed : NumberFixed
-unfolding frameOf headFor
+unfolding headFor
 number-fixed rec x f r xs os g d =
-    ap (λ (q : Reply). q .count) (g .reply) ∙ go (isDone (a rec x f)) refl (sym (ap (λ (q : Reply). isDone (q .answer)) (g .reply)) ∙ d)
-  where
-    go : (b : Bool) → isDone (a rec x f) ≡ b → isDone (either-way rec x f b .reply .answer) ≡ true
-        → either-way rec x f b .reply .count ≡ drivenBytes (decodeOf (getD (f .bytes) 0 0)) (length (f .bytes))
-    go true e p = counts (sort rec x f)
-    go false e p = absurd (true≢false (sym p ∙ e))
+    ap (λ (q : Reply). q .count) (g .reply)
+    ∙ frame-cases rec x f (λ (e : Effect). isDone (e .reply .answer) ≡ true → e .reply .count ≡ drivenBytes (decodeOf (getD (f .bytes) 0 0)) (length (f .bytes)))
+    (λ e p. counts (sort rec x f)) (λ e p. absurd (true≢false (sym p ∙ e)))
+    (sym (ap (λ (q : Reply). isDone (q .answer)) (g .reply)) ∙ d)

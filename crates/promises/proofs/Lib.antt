@@ -1,3 +1,4 @@
+pub mod Cases
 pub mod Valid
 pub mod Steps
 pub mod Recovery

@@ -1,36 +1,28 @@
 -- Every call leaves a valid state valid and the array as long as it was. Assumes nothing.
-use mathlib.Core.Path.{_≡_, refl, sym, ap, subst, _∙_}
-use mathlib.Core.Bool.{Bool, true, false, not, _&&_, _||_, cond, or-true}
-use mathlib.Core.List.{List, [], _∷_}
+use mathlib.Core.Path.{_≡_, refl}
+use mathlib.Core.Bool.{Bool, true, false, _&&_, _||_, cond, or-true}
+use mathlib.Core.List.{List}
 use mathlib.Core.Logic.{⊎-elim, _⊎_, inl, inr}
-use Prim.Native.Nat.{ℕ, _≤_, _<_, _-_, _/_, _%_}
-use native.Mathlib.Nat.{mod-lt, le-trans}
+use Prim.Native.Nat.{ℕ, _≤_, _-_, _/_, _%_}
+use native.Mathlib.Nat.{mod-lt}
 use native.Mathlib.Omega.{arith}
 use lib.Dec.{eqb, leb, ltb, lit<}
-use lib.ListN.{length, getD}
-use borrow.Author.Tests.{eqb-true, not-false, leb-true, ltb-false}
-use Rattle.units.proofs.Bools.{unless, only-if}
+use lib.ListN.{length}
+use borrow.Author.Tests.{leb-true, ltb-false}
 use Rattle.units.proofs.Table.{found}
-use Rattle.units.specs.declared.Address.{Address}
 use Rattle.units.specs.Models.{Part, partOf, modelOf, models, kh25l512}
-use Rattle.answers.specs.Answers.{isDone}
-use Rattle.commands.specs.Commands.{traitsOf}
 use Rattle.states.specs.States.{recordOk, stateOk, longestOf, powerOn}
 use Rattle.states.specs.declared.Record.{Record}
 use Rattle.states.specs.declared.State.{State}
-use Rattle.answers.specs.declared.Answer.{Answer}
 use Rattle.answers.specs.declared.Answer.the-variants.{Done, BadState, BadRecord}
 use Rattle.states.proofs.States.{Sound}
-use Rattle.ladder.specs.Ladder.{refusalOf}
-use Rattle.ladder.specs.declared.Head.{Head}
-use Rattle.ladder.proofs.Passed.{passed}
 use Rattle.time.specs.declared.After.{After}
 use Rattle.effects.specs.Effects.{Effect, latched, dozing, working, written}
-use Rattle.chip.specs.Frames.{Chip, Sent, headOf, acceptedOf, refusedOf, frameOf}
-use Rattle.chip.proofs.Ready.{ready}
-use Rattle.chip.proofs.Sorts.{Move, stays, latches, dozes, works, writes, kind, moves, changes-only}
+use Rattle.chip.specs.Frames.{Chip, Sent, frameOf}
+use Rattle.chip.proofs.Sorts.{Move, stays, latches, dozes, works, writes, moves, changes-only}
 use Rattle.time.specs.Time.{later, cycled, ifValid, waitOf, powerOf}
 use Rattle.promises.specs.Calls.{Call, sends, waits, cycles, ours, after}
+use Rattle.promises.proofs.Cases.{frame-cases, sort, shown-ready, shown-asked}
 
 -- a status write gives a BP that every model has
 bpOfTwoBits : Part → Bool
@@ -86,38 +78,17 @@ moved-sound rec s p (dozes b z) = dozing-sound rec s p b z
 moved-sound rec s p (works t l w a) = working-sound rec s p t l w a
 moved-sound rec s p (writes b t l w a) = written-sound rec s p b t l w a
 
+-- a frame, whatever it is given
 module _ (rec : Record) (x : Chip) (f : Sent) where
-  abbrev h : Head
-  h = headOf rec x f
+  frame-sound : Sound rec (x .state) → Sound rec (frameOf rec x f .reply .state)
+  frame-sound p =
+      frame-cases rec x f (λ (e : Effect). Sound rec (e .reply .state))
+      (λ d. moved-sound rec (x .state) p (moves (sort rec x f) (shown-asked rec x f d))) (λ d. p)
 
-  abbrev a : Answer
-  a = refusalOf rec (x .state) h
-
-  -- what a frame comes to, by whether it is refused
-  abbrev either-way : Bool → Effect
-  either-way b = cond b (acceptedOf rec x (h .command) (h .address) (f .bytes) (f .out)) (refusedOf a x f)
-
-  -- a frame, whatever it is given
-  pub frame-sound : Sound rec (x .state) → Sound rec (frameOf rec x f .reply .state)
-  unfolding frameOf
-  frame-sound p = go (isDone a) refl
-    where
-      go : (b : Bool) → isDone a ≡ b → Sound rec (either-way b .reply .state)
-      go true e =
-          let q = passed rec (x .state) h e in
-          moved-sound rec (x .state) p
-          (moves (kind rec x (h .address) (f .bytes) (f .out) (h .command)) (record { listens = q .listens; awake = q .awake; enabled = q .enabled }))
-      go false e = p
-
-  pub frame-length : length (frameOf rec x f .cells) ≡ length (x .cells)
-  unfolding frameOf
-  frame-length = go (isDone a) refl
-    where
-      go : (b : Bool) → isDone a ≡ b → length (either-way b .cells) ≡ length (x .cells)
-      go true e =
-          let r = ready rec x f {h = h} refl refl e in
-          changes-only (kind rec x (h .address) (f .bytes) (f .out) (h .command)) (r .inside) (r .whole) .long
-      go false e = refl
+  frame-length : length (frameOf rec x f .cells) ≡ length (x .cells)
+  frame-length =
+      frame-cases rec x f (λ (e : Effect). length (e .cells) ≡ length (x .cells))
+      (λ d. let r = shown-ready rec x f d in changes-only (sort rec x f) (r .inside) (r .whole) .long) (λ d. refl)
 
 if-valid-sound : (rec : Record) (s next : State) → Sound rec s → Sound rec next → Sound rec (ifValid rec s next .state)
 unfolding ifValid
