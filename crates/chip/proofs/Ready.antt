@@ -42,7 +42,7 @@ module _ (rec : Record) (x : Chip) (f : Sent) where
   abbrev H : Head
   H = headOf rec x f
 
-  arrived : Passed rec (x .state) H → Ready rec x (H .command) (H .address) (f .bytes) (f .out)
+  pub arrived : Passed rec (x .state) H → Ready rec x (H .command) (H .address) (f .bytes) (f .out)
   unfolding headFor addressOf
   arrived p =
       let b : List ℕ = f .bytes in

@@ -11,7 +11,7 @@ use Rattle.states.specs.declared.Record.{Record}
 use Rattle.effects.specs.declared.Reply.{Reply}
 use Rattle.effects.specs.Effects.{Gives}
 use Rattle.chip.specs.Frames.{Chip, sentOf, frameOf}
-use Rattle.chip.proofs.Ways.{frame-within}
+use Rattle.chip.proofs.Cases.{frame-within}
 use Rattle.script.specs.declared.Line.{Line}
 use Rattle.script.specs.declared.Line.the-variants.{Frame, Wait, Power, Bad}
 use Rattle.script.specs.Hex.{hexBytes, Unhexed}

@@ -29,7 +29,7 @@ module _ (rec : Record) (xs cells : List ℕ) (f : Sent) where
   abbrev E : Effect
   E = frameOf rec (chipOf (unpackOf xs) cells) f
 
-  pub frame-taken : isDone (E .reply .answer) ≡ true → Taken rec (chipOf (unpackOf xs) cells) f
+  pub frame-taken : isDone (E .reply .answer) ≡ true → Taken rec (chipOf (unpackOf xs) cells) E
   frame-taken d = taken rec (chipOf (unpackOf xs) cells) f d
 
   frame-fits : Packs (E .reply .answer) (E .reply .state) xs

@@ -20,9 +20,9 @@ use Rattle.ladder.proofs.Passed.{passed}
 use Rattle.effects.specs.declared.Reply.{Reply}
 use Rattle.effects.specs.Effects.{stateOnly, drives, latched, dozing, working, written, readStatus, readFrom, eraseSector, eraseBlock, eraseChip, programPage, readId, wake, readMaker, Effect}
 use Rattle.chip.specs.Frames.{Chip, Sent, headOf, refusedOf, frameOf}
-use Rattle.chip.proofs.Ways.{Way, accepts, refuses, way}
+use Rattle.chip.proofs.Cases.{refusal, accepted, frame-cases, sort, shown-asked}
 use Rattle.time.specs.Time.{later, cycled, ifValid}
-use Rattle.chip.proofs.Sorts.{Asked, Move, stays, latches, dozes, works, writes, kind, is-done, moves}
+use Rattle.chip.proofs.Sorts.{Move, stays, latches, dozes, works, writes, is-done, moves}
 use Rattle.pod.specs.Packing.{isPacking, noState, unpackOf}
 use Rattle.pod.proofs.Packing.{Small, unpack-none}
 
@@ -99,27 +99,21 @@ module _ (rec : Record) (s : State) (ok : recordOk rec ≡ true) (h : Small s) w
   moved (writes b us l w a) = record { level = omega arith; short = busy-for us l }
 
 -- ---- frames
--- what an accepted frame has shown, and its reply
-pub record Taken (rec : Record) (x : Chip) (f : Sent) : Type 0 where
+-- what an accepted frame has shown of the state, and its reply
+pub record Taken (rec : Record) (x : Chip) (e : Effect) : Type 0 where
   pub valid : stateOk rec (x .state) ≡ true
-  pub replied : Done-small (frameOf rec x f .reply)
+  pub replied : Done-small (e .reply)
 
-module _ {rec : Record} {x : Chip} {f : Sent} where
-  way-small : {e : Effect} → Way rec x f e → isDone (e .reply .answer) ≡ true → (stateOk rec (x .state) ≡ true) × Done-small (e .reply)
-  way-small (accepts p) d =
-      let h = headOf rec x f in
-      let k = kind rec x (h .address) (f .bytes) (f .out) (h .command) in
-      let q : Asked (x .state) (h .command) = record { listens = p .listens; awake = p .awake; enabled = p .enabled } in
-      (p .valid, record { done = d; small = moved rec (x .state) (p .right) (valid-small rec (x .state) (p .right) (p .valid)) (moves k q) })
-  way-small (refuses a n) d = absurd (true≢false (sym d ∙ n))
+module _ (rec : Record) (x : Chip) (f : Sent) where
+  pub taken : isDone (frameOf rec x f .reply .answer) ≡ true → Taken rec x (frameOf rec x f)
+  taken = frame-cases rec x f (λ (e : Effect). isDone (e .reply .answer) ≡ true → Taken rec x e) does (λ n d. absurd (true≢false (sym d ∙ n)))
+    where
+      does : isDone (refusal rec x f) ≡ true → isDone (accepted rec x f .reply .answer) ≡ true → Taken rec x (accepted rec x f)
+      does g d =
+          let p = passed rec (x .state) (headOf rec x f) g in
+          let s = valid-small rec (x .state) (p .right) (p .valid) in
+          record { valid = p .valid; replied = record { done = d; small = moved rec (x .state) (p .right) s (moves (sort rec x f) (shown-asked rec x f g)) } }
 
-  way-refused : {e : Effect} → Way rec x f e → isDone (e .reply .answer) ≡ false → e ≡ refusedOf (e .reply .answer) x f
-  way-refused (accepts p) d = absurd (true≢false (sym (is-done (kind rec x (headOf rec x f .address) (f .bytes) (f .out) (headOf rec x f .command))) ∙ d))
-  way-refused (refuses a n) d = refl
-
-pub taken : (rec : Record) (x : Chip) (f : Sent) → isDone (frameOf rec x f .reply .answer) ≡ true → Taken rec x f
-taken rec x f d = let s = way-small (way rec x f) d in record { valid = s .0; replied = s .1 }
-
--- a refusal changes nothing
-pub refused : (rec : Record) (x : Chip) (f : Sent) → isDone (frameOf rec x f .reply .answer) ≡ false → frameOf rec x f ≡ refusedOf (frameOf rec x f .reply .answer) x f
-refused rec x f d = way-refused (way rec x f) d
+  -- a refusal changes nothing
+  pub refused : isDone (frameOf rec x f .reply .answer) ≡ false → frameOf rec x f ≡ refusedOf (frameOf rec x f .reply .answer) x f
+  refused = frame-cases rec x f (λ (e : Effect). isDone (e .reply .answer) ≡ false → e ≡ refusedOf (e .reply .answer) x f) (λ g d. absurd (true≢false (sym (is-done (sort rec x f)) ∙ d))) (λ n d. refl)

@@ -1,8 +1,8 @@
 pub mod Valid
 pub mod Steps
-pub mod Twelve
+pub mod Recovery
+pub mod Histories
 pub mod Shorter
-pub mod Lengths
 pub mod Reached
 pub mod Pods
 pub mod Sheet

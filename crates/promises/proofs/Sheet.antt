@@ -9,13 +9,13 @@ use Rattle.flash.specs.Arrays.{sectorErased, programmed}
 use Rattle.commands.specs.Commands.{decodeOf, traitsOf, lengthOk}
 use Rattle.states.specs.States.{inRange, recordOk, longestOf, stateOk, statusOf}
 use Rattle.ladder.specs.Ladder.{refusalOf}
-use Rattle.effects.specs.Effects.{drives, latched, dozing, working, written, readStatus, readFrom, eraseSector, programPage, wake}
-use Rattle.chip.specs.Frames.{headOf, acceptedOf, frameOf}
+use Rattle.effects.specs.Effects.{drives, latched, dozing, working, written, writeEnable, writeStatus, readStatus, readFrom, eraseSector, programPage, wake}
+use Rattle.chip.specs.Frames.{headFor, acceptedOf, frameOf}
 use Rattle.time.specs.Time.{later}
 use Rattle.promises.specs.Sheet.{BenchSheet}
 
 pub bench-sheet : BenchSheet
-unfolding isModel partOf addressOf rangeOf isProtected lay ring counts cellAfter pageAfter sectorErased programmed decodeOf traitsOf lengthOk inRange recordOk longestOf stateOk statusOf refusalOf drives latched dozing working written readStatus readFrom eraseSector programPage wake headOf acceptedOf frameOf later
+unfolding isModel partOf addressOf rangeOf isProtected lay ring counts cellAfter pageAfter sectorErased programmed decodeOf traitsOf lengthOk inRange recordOk longestOf stateOk statusOf refusalOf drives latched dozing working written writeEnable writeStatus readStatus readFrom eraseSector programPage wake headFor acceptedOf frameOf later
 bench-sheet = (
   λ rest e. rw e,
   (

@@ -1,61 +1,80 @@
--- No wait of the twelve calls can be a microsecond shorter. Assumes nothing.
-use mathlib.Core.Path.{_≡_, refl, sym, ap, subst, _∙_}
-use mathlib.Core.Bool.{Bool, true, false}
-use mathlib.Core.List.{List, [], _∷_, _++_}
-use Prim.Native.Nat.{ℕ, suc, _+_, _-_, _≤_, _<_}
+-- No wait of the list can be a microsecond shorter. Assumes nothing.
+use mathlib.Core.Path.{_≡_, refl, _∙_}
+use mathlib.Core.Bool.{true, false}
+use mathlib.Core.List.{List, [], _∷_}
+use Prim.Native.Nat.{ℕ, _+_, _-_, _≤_, _<_}
 use native.Mathlib.Omega.{arith}
+use native.Mathlib.Nat.{le-refl}
 use lib.Dec.{lit≤}
-use lib.ListN.{length, getD, replicate}
+use lib.ListN.{length, getD}
+use mathlib.Core.Logic.{inr}
 use Rattle.commands.specs.Commands.{decodeOf, traitsOf}
 use Rattle.states.specs.States.{recordOk, stateOk, longestOf}
 use Rattle.states.specs.declared.Record.{Record}
 use Rattle.states.specs.declared.State.{State}
-use Rattle.answers.specs.declared.Answer.the-variants.{Done, Busy}
-use Rattle.states.proofs.States.{times}
+use Rattle.answers.specs.declared.Answer.the-variants.{Busy}
+use Rattle.states.proofs.States.{valid, times, status-write-le}
+use Rattle.chip.specs.Frames.{Chip, Sent, chipOf}
 use Rattle.time.specs.Time.{later}
-use Rattle.promises.specs.Calls.{Call, sends, waits, World, ours, answer, answers}
-use Rattle.promises.specs.Twelve.{Job, Bench, Fits, call₆, call₉, call₁₂}
-use Rattle.promises.specs.Shorter.{Shorter₅, Shorter₈, Shorter₁₁}
+use Rattle.promises.specs.Calls.{Call, sends, waits, ours, answer}
+use Rattle.promises.specs.Recovery.{Job, Bench, JobFits, Roomy, frame, wakeUp, enableErase, enableProgram, readBack}
+use Rattle.promises.specs.Shorter.{ThenBusy, TooShort, ShorterUnlock, ShorterErase, ShorterProgram, ShorterFirst}
 use Rattle.promises.proofs.Steps.{Goes, ends, goes, goes-on, goes-then, Step, waits-to, while-busy}
-use Rattle.promises.proofs.Twelve.{running, not-yet, first-four, first-seven, first-ten, step₄, step₇, step₁₀}
+use Rattle.promises.proofs.Recovery.{running, not-yet, to-unlock, to-erase, to-program, unlocks, erases, programs}
+
+-- calls answered 0, and a frame more that is answered 11
+then-busy : {rec : Record} {cs : List Call} {x w : Chip} (f : Sent) → Goes rec cs x w → answer ours rec [] (sends f) w ≡ Busy → ThenBusy rec cs f x
+then-busy f g e = goes-then [] (sends f) g ∙ rw e
 
 -- after a wait that is a microsecond short the operation still runs
-module _ (rec : Record) (seen : List Call) (cells : List ℕ) (time : ℕ) (p : 0 < time) (b : Bench rec (record { state = running time; cells = cells })) where
-  abbrev pub almost : World
-  almost = record { state = later (running time) (time - 1); cells = cells }
+module _ (rec : Record) (cells : List ℕ) (time : ℕ) (p : 0 < time) (b : Bench rec (chipOf (running time) cells)) where
+  abbrev almost : Chip
+  almost = chipOf (later (running time) (time - 1)) cells
 
-  pub short-wait : Step rec seen (waits (time - 1)) (record { state = running time; cells = cells }) almost
-  short-wait = waits-to rec seen (record { state = running time; cells = cells }) b (time - 1) (later (running time) (time - 1)) refl
+  pub short-wait : Step rec (waits (time - 1)) (chipOf (running time) cells) almost
+  short-wait = waits-to rec (chipOf (running time) cells) b (time - 1) (later (running time) (time - 1)) refl
 
-  pub refused : (bytes out : List ℕ) → 0 < length bytes → length bytes ≤ 65541 → length bytes ≤ length out
-      → traitsOf (decodeOf (getD bytes 0 0)) .«while_busy» ≡ false → answer ours rec [] (sends bytes 0 true out) almost ≡ Busy
-  refused bytes out some l r w = while-busy rec almost bytes out (short-wait .bench) (omega (arith, not-yet time p)) some l r w
+  pub refused : (bytes out : List ℕ) → 0 < length bytes → length bytes ≤ 65541 → Roomy (frame bytes out)
+      → traitsOf (decodeOf (getD bytes 0 0)) .«while_busy» ≡ false → answer ours rec [] (sends (frame bytes out)) almost ≡ Busy
+  refused bytes out some l r w = while-busy rec almost (short-wait .bench) bytes out (omega (arith, not-yet time p)) some l r w
 
--- calls answered 0, and one more that is answered 11
-pub last-busy : {rec : Record} {cs : List Call} {x w : World} (c : Call) → Goes rec [] cs x w → answer ours rec [] c w ≡ Busy
-    → answers ours rec [] (cs ++ (c ∷ [])) x ≡ replicate (length cs) Done ++ (Busy ∷ [])
-last-busy {cs = cs} c g e = goes-then c g ∙ rw e
-
-pub shorter₅ : Shorter₅
+pub shorter-unlock : ShorterUnlock
 unfolding decodeOf traitsOf
-shorter₅ rec j x b f =
-    let c = step₄ rec j x b f [] .bench in
+shorter-unlock rec j x b f =
+    let c = unlocks rec j x b f .bench in
     let t = times rec (b .right) .status in
-    last-busy (call₆ rec j) (goes-on (first-four rec j x b f) (goes (short-wait rec _ (x .cells) (rec .«status_write») t c .does) ends))
-    (refused rec [] (x .cells) (rec .«status_write») t c (0x06 ∷ []) (j .out₆) (lit≤ tt) (lit≤ tt) (f .room₆) refl)
+    then-busy (enableErase j) (goes-on (to-unlock rec j x b f) (goes (short-wait rec _ _ t c) ends))
+    (refused rec _ _ t c (0x06 ∷ []) (j .outs .enableErase) (lit≤ tt) (lit≤ tt) (f .rooms .enableErase) refl)
 
-pub shorter₈ : Shorter₈
+pub shorter-erase : ShorterErase
 unfolding decodeOf traitsOf
-shorter₈ rec j x b f =
-    let c = step₇ rec j x b f [] .bench in
+shorter-erase rec j x b f =
+    let c = erases rec j x b f .bench in
     let t = times rec (b .right) .sector in
-    last-busy (call₉ rec j) (goes-on (first-seven rec j x b f) (goes (short-wait rec _ _ (rec .sector) t c .does) ends))
-    (refused rec [] _ (rec .sector) t c (0x06 ∷ []) (j .out₉) (lit≤ tt) (lit≤ tt) (f .room₉) refl)
+    then-busy (enableProgram j) (goes-on (to-erase rec j x b f) (goes (short-wait rec _ _ t c) ends))
+    (refused rec _ _ t c (0x06 ∷ []) (j .outs .enableProgram) (lit≤ tt) (lit≤ tt) (f .rooms .enableProgram) refl)
 
-pub shorter₁₁ : Shorter₁₁
+pub shorter-program : ShorterProgram
 unfolding decodeOf traitsOf
-shorter₁₁ rec j x b f =
-    let c = step₁₀ rec j x b f [] .bench in
+shorter-program rec j x b f =
+    let c = programs rec j x b f .bench in
     let t = times rec (b .right) .page in
-    last-busy (call₁₂ rec j) (goes-on (first-ten rec j x b f) (goes (short-wait rec _ _ (rec .page) t c .does) ends))
-    (refused rec [] _ (rec .page) t c (0x03 ∷ j .high ∷ j .middle ∷ j .low ∷ j .more) (j .out₁₂) (omega arith) (omega (arith, f .page, f .more)) (omega (arith, f .room₁₂, f .more)) refl)
+    then-busy (readBack j) (goes-on (to-program rec j x b f) (goes (short-wait rec _ _ t c) ends))
+    (refused rec _ _ t c (readBack j .bytes) (j .outs .readBack) (omega arith) (omega (arith, f .page, f .more)) (f .rooms .readBack) refl)
+
+-- ---- the first wait
+-- a chip that runs its longest operation is still busy a microsecond before that time has passed
+pub still : (rec : Record) (cells : List ℕ) (j : Job) (time : ℕ) → 0 < time → longestOf rec ≡ time → Bench rec (chipOf (running time) cells)
+    → JobFits j → TooShort rec j (chipOf (running time) cells)
+unfolding decodeOf traitsOf
+still rec cells j time p e b f =
+    rw e
+    (then-busy (wakeUp j) (goes (short-wait rec cells time p b) ends)
+    (refused rec cells time p b (0xAB ∷ []) (j .outs .wakeUp) (lit≤ tt) (lit≤ tt) (f .rooms .wakeUp) refl))
+
+pub shorter-first : ShorterFirst
+shorter-first rec cells j e l f =
+    let s : State = running (longestOf rec) in
+    let some : 0 < longestOf rec = omega (arith, times rec e .status, status-write-le rec) in
+    let v : stateOk rec s ≡ true = valid rec s (record { level = omega arith; time = le-refl (longestOf rec); mood = inr (refl, refl) }) in
+    (s, v, still rec cells j (longestOf rec) some refl (record { right = e; whole = l; valid = v }) f)

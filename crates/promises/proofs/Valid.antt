@@ -1,38 +1,28 @@
 -- Every call leaves a valid state valid and the array as long as it was. Assumes nothing.
-use mathlib.Core.Path.{_≡_, refl, sym, ap, subst, _∙_}
-use mathlib.Core.Bool.{Bool, true, false, not, _&&_, _||_, cond, or-true}
-use mathlib.Core.List.{List, [], _∷_}
+use mathlib.Core.Path.{_≡_, refl}
+use mathlib.Core.Bool.{Bool, true, false, _&&_, _||_, cond, or-true}
+use mathlib.Core.List.{List}
 use mathlib.Core.Logic.{⊎-elim, _⊎_, inl, inr}
-use Prim.Native.Nat.{ℕ, _≤_, _<_, _-_, _/_, _%_}
-use native.Mathlib.Nat.{mod-lt, le-trans}
+use Prim.Native.Nat.{ℕ, _≤_, _-_, _/_, _%_}
+use native.Mathlib.Nat.{mod-lt}
 use native.Mathlib.Omega.{arith}
 use lib.Dec.{eqb, leb, ltb, lit<}
-use lib.ListN.{length, getD}
-use borrow.Author.Tests.{eqb-true, not-false, leb-true, ltb-false}
-use Rattle.units.proofs.Bools.{unless, only-if}
+use lib.ListN.{length}
+use borrow.Author.Tests.{leb-true, ltb-false}
 use Rattle.units.proofs.Table.{found}
-use Rattle.units.specs.declared.Address.{Address}
 use Rattle.units.specs.Models.{Part, partOf, modelOf, models, kh25l512}
-use Rattle.answers.specs.Answers.{isDone}
-use Rattle.commands.specs.Commands.{traitsOf}
 use Rattle.states.specs.States.{recordOk, stateOk, longestOf, powerOn}
 use Rattle.states.specs.declared.Record.{Record}
 use Rattle.states.specs.declared.State.{State}
-use Rattle.answers.specs.declared.Answer.{Answer}
 use Rattle.answers.specs.declared.Answer.the-variants.{Done, BadState, BadRecord}
-use Rattle.commands.specs.declared.Command.{Command}
-use Rattle.commands.specs.declared.Command.the-variants.{WriteEnable, WriteDisable, ReadStatus, WriteStatus, Read, FastRead, EraseSector, EraseBlock, EraseChip, Program, ReadId, Wake, ReadMaker, Sleep, Unknown}
-use Rattle.states.proofs.States.{Sound, sound, valid, status-write-le, page-le, sector-le, block-le, chip-le}
-use Rattle.ladder.specs.Ladder.{refusalOf}
-use Rattle.ladder.specs.declared.Head.{Head}
-use Rattle.ladder.proofs.Passed.{passed}
+use Rattle.states.proofs.States.{Sound}
 use Rattle.time.specs.declared.After.{After}
-use Rattle.effects.specs.Effects.{Effect, stateOnly, drives, latched, dozing, working, written, readStatus, readFrom, eraseSector, eraseBlock, eraseChip, programPage, readId, wake, readMaker}
-use Rattle.chip.specs.Frames.{headOf, acceptedOf, frameOf}
-use Rattle.chip.proofs.Sorts.{Move, stays, latches, dozes, works, writes, kind, moves}
+use Rattle.effects.specs.Effects.{Effect, latched, dozing, working, written}
+use Rattle.chip.specs.Frames.{Chip, Sent, frameOf}
+use Rattle.chip.proofs.Sorts.{Move, stays, latches, dozes, works, writes, moves, changes-only}
 use Rattle.time.specs.Time.{later, cycled, ifValid, waitOf, powerOf}
-use Rattle.promises.specs.Calls.{Call, sends, waits, cycles, World, ours, after, run}
-use Rattle.promises.specs.Histories.{factory, ValidHistories}
+use Rattle.promises.specs.Calls.{Call, sends, waits, cycles, ours, after}
+use Rattle.chip.proofs.Cases.{frame-cases, sort, shown-ready, shown-asked}
 
 -- a status write gives a BP that every model has
 bpOfTwoBits : Part → Bool
@@ -89,20 +79,16 @@ moved-sound rec s p (works t l w a) = working-sound rec s p t l w a
 moved-sound rec s p (writes b t l w a) = written-sound rec s p b t l w a
 
 -- a frame, whatever it is given
-pub frame-sound : (rec : Record) (s : State) (cells bytes : List ℕ) (tail : ℕ) (wp : Bool) (out : List ℕ)
-    → Sound rec s → Sound rec (frameOf rec s cells bytes tail wp out .reply .state)
-unfolding frameOf
-frame-sound rec s cells bytes tail wp out p = go (isDone (refusalOf rec s (length cells) h (length out))) refl
-  where
-    h : Head
-    h = headOf (rec .model) bytes tail wp
+module _ (rec : Record) (x : Chip) (f : Sent) where
+  frame-sound : Sound rec (x .state) → Sound rec (frameOf rec x f .reply .state)
+  frame-sound p =
+      frame-cases rec x f (λ (e : Effect). Sound rec (e .reply .state))
+      (λ d. moved-sound rec (x .state) p (moves (sort rec x f) (shown-asked rec x f d))) (λ d. p)
 
-    go : (b : Bool) → isDone (refusalOf rec s (length cells) h (length out)) ≡ b
-        → Sound rec (cond b (acceptedOf rec s (h .command) cells (h .address) bytes out) (stateOnly (refusalOf rec s (length cells) h (length out)) s cells out) .reply .state)
-    go true e =
-        let q = passed rec s (length cells) h (length out) e in
-        moved-sound rec s p (moves (kind rec s cells (h .address) bytes out (h .command)) (record { listens = q .listens; awake = q .awake; enabled = q .enabled }))
-    go false e = p
+  frame-length : length (frameOf rec x f .cells) ≡ length (x .cells)
+  frame-length =
+      frame-cases rec x f (λ (e : Effect). length (e .cells) ≡ length (x .cells))
+      (λ d. let r = shown-ready rec x f d in changes-only (sort rec x f) (r .inside) (r .whole) .long) (λ d. refl)
 
 if-valid-sound : (rec : Record) (s next : State) → Sound rec s → Sound rec next → Sound rec (ifValid rec s next .state)
 unfolding ifValid
@@ -113,17 +99,19 @@ if-valid-sound rec s next p q = go (recordOk rec) (stateOk rec s)
     go true false = p
     go false b = p
 
-pub call-sound : (rec : Record) (seen : List Call) (c : Call) (x : World) → Sound rec (x .state) → Sound rec (after ours rec seen c x .state)
-unfolding after waitOf powerOf
-call-sound rec seen (sends b t w o) x p = frame-sound rec (x .state) (x .cells) b t w o p
-call-sound rec seen (waits us) x p = if-valid-sound rec (x .state) (later (x .state) us) p (later-sound rec (x .state) p us)
-call-sound rec seen cycles x p = if-valid-sound rec (x .state) (cycled (x .state)) p (cycled-sound rec (x .state) p)
+-- any call
+module _ (rec : Record) (seen : List Call) where
+  pub call-sound : (c : Call) (x : Chip) → Sound rec (x .state) → Sound rec (after ours rec seen c x .state)
+  unfolding after waitOf powerOf
+  call-sound (sends f) x p = frame-sound rec x f p
+  call-sound (waits us) x p = if-valid-sound rec (x .state) (later (x .state) us) p (later-sound rec (x .state) p us)
+  call-sound cycles x p = if-valid-sound rec (x .state) (cycled (x .state)) p (cycled-sound rec (x .state) p)
 
--- any sequence of calls
-pub run-sound : (rec : Record) (seen cs : List Call) (x : World) → Sound rec (x .state) → Sound rec (run ours rec seen cs x .state)
-run-sound rec seen [] x p = p
-run-sound rec seen (c ∷ cs) x p = run-sound rec (c ∷ seen) cs (after ours rec seen c x) (call-sound rec seen c x p)
+  pub call-length : (c : Call) (x : Chip) → length (after ours rec seen c x .cells) ≡ length (x .cells)
+  unfolding after
+  call-length (sends f) x = frame-length rec x f
+  call-length (waits us) x = refl
+  call-length cycles x = refl
 
-pub valid-histories : ValidHistories
-valid-histories rec cells calls =
-    valid rec _ (run-sound rec [] calls (factory cells) (record { level = omega arith; time = omega arith; mood = inl refl }))
+pub power-on-sound : (rec : Record) → Sound rec powerOn
+power-on-sound rec = record { level = omega arith; time = omega arith; mood = inl refl }

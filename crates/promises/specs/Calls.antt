@@ -1,5 +1,4 @@
 -- Calls, pods, and what a list of calls does. Assumes nothing.
-use mathlib.Core.Bool.{Bool}
 use mathlib.Core.List.{List, [], _∷_}
 use Prim.Native.Nat.{ℕ}
 use Rattle.states.specs.declared.Record.{Record}
@@ -7,18 +6,18 @@ use Rattle.states.specs.declared.State.{State}
 use Rattle.answers.specs.declared.Answer.{Answer}
 use Rattle.time.specs.declared.After.{After}
 use Rattle.effects.specs.Effects.{Effect}
-use Rattle.chip.specs.Frames.{frameOf}
+use Rattle.chip.specs.Frames.{Chip, Sent, chipOf, frameOf}
 use Rattle.time.specs.Time.{waitOf, powerOf}
 
--- a frame with its bytes, tail, WP# level and the output lent to it; a wait; a power cycle
+-- a frame; a wait of so many microseconds; a power cycle
 pub data Call : Type 0 where
-  sends : List ℕ → ℕ → Bool → List ℕ → Call
+  sends : Sent → Call
   waits : ℕ → Call
   cycles : Call
 
 -- what a pod answers in the place of a chip; it may remember the calls made of it, the latest first
 pub record Pod : Type 0 where
-  pub frame : List Call → Record → State → List ℕ → List ℕ → ℕ → Bool → List ℕ → Effect
+  pub frame : List Call → Record → Chip → Sent → Effect
   pub wait : List Call → Record → State → ℕ → After
   pub power : List Call → Record → State → After
 
@@ -26,29 +25,36 @@ pub record Pod : Type 0 where
 abbrev pub ours : Pod
 ours = record { frame = λ seen. frameOf; wait = λ seen. waitOf; power = λ seen. powerOf }
 
--- the state and the array between two calls
-pub record World : Type 0 where
-  pub state : State
-  pub cells : List ℕ
+-- the chip that a frame leaves
+abbrev pub left : Effect → Chip
+left e = chipOf (e .reply .state) (e .cells)
+
+-- the calls seen, the latest first, after a list of calls more
+abbrev pub saw : List Call → List Call → List Call
+saw seen [] = seen
+saw seen (c ∷ cs) = saw (c ∷ seen) cs
 
 module _ (p : Pod) (rec : Record) where
-  unfoldable pub after : List Call → Call → World → World
-  after seen (sends bytes tail wp out) x =
-      let e : Effect = p .frame seen rec (x .state) (x .cells) bytes tail wp out in
-      record { state = e .reply .state; cells = e .cells }
-  after seen (waits us) x = record { state = p .wait seen rec (x .state) us .state; cells = x .cells }
-  after seen cycles x = record { state = p .power seen rec (x .state) .state; cells = x .cells }
+  -- the chip after a call, and the call's answer
+  unfoldable pub after : List Call → Call → Chip → Chip
+  after seen (sends f) x = left (p .frame seen rec x f)
+  after seen (waits us) x = chipOf (p .wait seen rec (x .state) us .state) (x .cells)
+  after seen cycles x = chipOf (p .power seen rec (x .state) .state) (x .cells)
 
-  unfoldable pub answer : List Call → Call → World → Answer
-  answer seen (sends bytes tail wp out) x = p .frame seen rec (x .state) (x .cells) bytes tail wp out .reply .answer
+  unfoldable pub answer : List Call → Call → Chip → Answer
+  answer seen (sends f) x = p .frame seen rec x f .reply .answer
   answer seen (waits us) x = p .wait seen rec (x .state) us .answer
   answer seen cycles x = p .power seen rec (x .state) .answer
 
   -- where a list of calls leads, and the answers it gives
-  abbrev pub run : List Call → List Call → World → World
+  abbrev pub run : List Call → List Call → Chip → Chip
   run seen [] x = x
   run seen (c ∷ cs) x = run (c ∷ seen) cs (after seen c x)
 
-  abbrev pub answers : List Call → List Call → World → List Answer
+  abbrev pub answers : List Call → List Call → Chip → List Answer
   answers seen [] x = []
   answers seen (c ∷ cs) x = answer seen c x ∷ answers (c ∷ seen) cs (after seen c x)
+
+  -- what a frame does that is sent after a list of calls
+  abbrev pub effectAfter : List Call → Chip → Sent → Effect
+  effectAfter cs x f = p .frame (saw [] cs) rec (run [] cs x) f

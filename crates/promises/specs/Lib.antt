@@ -1,5 +1,5 @@
 pub mod Calls
-pub mod Twelve
+pub mod Recovery
 pub mod Histories
 pub mod Shorter
 pub mod Pods

@@ -13,8 +13,9 @@ use Rattle.states.specs.States.{statusOf, powerOn, benchKH25L512, benchKH25L200
 use Rattle.states.specs.declared.Record.{Record}
 use Rattle.states.specs.declared.State.{State}
 use Rattle.effects.specs.Effects.{Effect}
-use Rattle.chip.specs.Frames.{frameOf}
+use Rattle.chip.specs.Frames.{Sent, chipOf, sentOf, frameOf}
 use Rattle.time.specs.Time.{later}
+use Rattle.promises.specs.Recovery.{frame}
 
 -- what comes out: the answer, the first driven position, the driven bytes, the status byte after, the status byte after a wait, and
 -- the first cells of the array
@@ -26,15 +27,13 @@ pub record Outcome : Type 0 where
   pub then : ℕ
   pub cells : List ℕ
 
--- what is given: model, state, the array's first cells (the others are any), the frame, its tail and WP#, a wait after it, and how
--- many cells are looked at; what has to come out may speak of the array
+-- what is given: model, state, the array's first cells (the others are any), the frame, a wait after it, and how many cells are
+-- looked at; what has to come out may speak of the array
 pub record Case : Type 0 where
   pub model : ℕ
   pub state : State
   pub front : List ℕ
-  pub bytes : List ℕ
-  pub tail : ℕ
-  pub wp : Bool
+  pub sent : Sent
   pub wait : ℕ
   pub look : ℕ
   pub wants : List ℕ → Outcome
@@ -42,10 +41,9 @@ pub record Case : Type 0 where
 abbrev pub bench : ℕ → Record
 bench m = cond (eqb m 2) benchKH25L2006E benchKH25L512
 
--- with an output of 300 bytes AA
 abbrev pub comesOut : Case → List ℕ → Outcome
 comesOut c array =
-    let e : Effect = frameOf (bench (c .model)) (c .state) array (c .bytes) (c .tail) (c .wp) (replicate 300 0xAA) in
+    let e : Effect = frameOf (bench (c .model)) (chipOf (c .state) array) (c .sent) in
     record {
       answer = numberOf (e .reply .answer);
       from = e .reply .from;
@@ -69,40 +67,40 @@ idle srwd bp wel = record { srwd = srwd; bp = bp; wel = wel; asleep = false; bus
 abbrev pub sleeping : State
 sleeping = record { srwd = false; bp = 0; wel = false; asleep = true; busy = 0 }
 
+-- an output of 300 bytes AA
+abbrev pub blank : List ℕ
+blank = replicate 300 0xAA
+
 -- a case with no wait that looks at no cell
-abbrev pub plain : ℕ → State → List ℕ → ℕ → Bool → ℕ → ℕ → List ℕ → ℕ → Case
-plain model state bytes tail wp answer from drives status =
+abbrev pub simple : ℕ → State → Sent → ℕ → ℕ → List ℕ → ℕ → Case
+simple model state sent answer from drives status =
     record {
       model = model;
       state = state;
       front = [];
-      bytes = bytes;
-      tail = tail;
-      wp = wp;
+      sent = sent;
       wait = 0;
       look = 0;
       wants = λ (array : List ℕ). record { answer = answer; from = from; drives = drives; status = status; then = status; cells = [] };
     }
 
--- model, state, frame, tail, WP#: answer, first driven position, driven bytes, status after
+-- model, state, frame: answer, first driven position, driven bytes, status after
 abbrev pub sheet : List Case
 sheet =
     -- power-on, 05 00: drives 00
-    plain 1 powerOn (0x05 ∷ 0x00 ∷ []) 0 true 0 1 (0x00 ∷ []) 0x00
+    simple 1 powerOn (frame (0x05 ∷ 0x00 ∷ []) blank) 0 1 (0x00 ∷ []) 0x00
     -- 06 with tail 1: 14, WEL 0
-    ∷ plain 1 powerOn (0x06 ∷ []) 1 true 14 0 [] 0x00
+    ∷ simple 1 powerOn (sentOf (0x06 ∷ []) 1 true blank) 14 0 [] 0x00
     -- empty, tail 7: 10
-    ∷ plain 1 powerOn [] 7 true 10 0 [] 0x00
+    ∷ simple 1 powerOn (sentOf [] 7 true blank) 10 0 [] 0x00
     -- 02 with WEL 0 and BP 1: 15
-    ∷ plain 1 (idle false 1 false) (0x02 ∷ 0 ∷ 0 ∷ 0 ∷ 0x11 ∷ []) 0 true 15 0 [] 0x04
+    ∷ simple 1 (idle false 1 false) (frame (0x02 ∷ 0 ∷ 0 ∷ 0 ∷ 0x11 ∷ []) blank) 15 0 [] 0x04
     -- fresh page, 257 data bytes at 0, the first 11, the others 22: all 256 hold 22
     ∷ record {
       model = 1;
       state = idle false 0 true;
       front = erased 256;
-      bytes = 0x02 ∷ 0 ∷ 0 ∷ 0 ∷ 0x11 ∷ replicate 256 0x22;
-      tail = 0;
-      wp = true;
+      sent = frame (0x02 ∷ 0 ∷ 0 ∷ 0 ∷ 0x11 ∷ replicate 256 0x22) blank;
       wait = 5000;
       look = 256;
       wants = λ (array : List ℕ). record { answer = 0; from = 0; drives = []; status = 0x03; then = 0x00; cells = replicate 256 0x22 };
@@ -112,44 +110,38 @@ sheet =
       model = 1;
       state = idle false 0 true;
       front = 0xF0 ∷ [];
-      bytes = 0x02 ∷ 0 ∷ 0 ∷ 0 ∷ 0x3C ∷ [];
-      tail = 0;
-      wp = true;
+      sent = frame (0x02 ∷ 0 ∷ 0 ∷ 0 ∷ 0x3C ∷ []) blank;
       wait = 5000;
       look = 1;
       wants = λ (array : List ℕ). record { answer = 0; from = 0; drives = []; status = 0x03; then = 0x00; cells = 0x30 ∷ [] };
     }
     -- WEL 1, BP 1, 20 at 0: 17, WEL still 1
-    ∷ plain 1 (idle false 1 true) (0x20 ∷ 0 ∷ 0 ∷ 0 ∷ []) 0 true 17 0 [] 0x06
+    ∷ simple 1 (idle false 1 true) (frame (0x20 ∷ 0 ∷ 0 ∷ 0 ∷ []) blank) 17 0 [] 0x06
     -- model 2, WEL 1, BP 1: 20 at 02FFFF is 0, at 030000 is 17
-    ∷ plain 2 (idle false 1 true) (0x20 ∷ 0x02 ∷ 0xFF ∷ 0xFF ∷ []) 0 true 0 0 [] 0x07
-    ∷ plain 2 (idle false 1 true) (0x20 ∷ 0x03 ∷ 0x00 ∷ 0x00 ∷ []) 0 true 17 0 [] 0x06
+    ∷ simple 2 (idle false 1 true) (frame (0x20 ∷ 0x02 ∷ 0xFF ∷ 0xFF ∷ []) blank) 0 0 [] 0x07
+    ∷ simple 2 (idle false 1 true) (frame (0x20 ∷ 0x03 ∷ 0x00 ∷ 0x00 ∷ []) blank) 17 0 [] 0x06
     -- SRWD 1, WEL 1, 01 00: WP# low 16, high 0
-    ∷ plain 1 (idle true 0 true) (0x01 ∷ 0x00 ∷ []) 0 false 16 0 [] 0x82
-    ∷ plain 1 (idle true 0 true) (0x01 ∷ 0x00 ∷ []) 0 true 0 0 [] 0x03
+    ∷ simple 1 (idle true 0 true) (sentOf (0x01 ∷ 0x00 ∷ []) 0 false blank) 16 0 [] 0x82
+    ∷ simple 1 (idle true 0 true) (frame (0x01 ∷ 0x00 ∷ []) blank) 0 0 [] 0x03
     -- 01 FF accepted: status 8F, after the wait 8C
     ∷ record {
       model = 1;
       state = idle false 0 true;
       front = [];
-      bytes = 0x01 ∷ 0xFF ∷ [];
-      tail = 0;
-      wp = true;
+      sent = frame (0x01 ∷ 0xFF ∷ []) blank;
       wait = 15000;
       look = 0;
       wants = λ (array : List ℕ). record { answer = 0; from = 0; drives = []; status = 0x8F; then = 0x8C; cells = [] };
     }
     -- deep power-down: 05 00 is 12; AB and four bytes drives 05
-    ∷ plain 1 sleeping (0x05 ∷ 0x00 ∷ []) 0 true 12 0 [] 0x00
-    ∷ plain 1 sleeping (0xAB ∷ 0 ∷ 0 ∷ 0 ∷ 0 ∷ []) 0 true 0 4 (0x05 ∷ []) 0x00
+    ∷ simple 1 sleeping (frame (0x05 ∷ 0x00 ∷ []) blank) 12 0 [] 0x00
+    ∷ simple 1 sleeping (frame (0xAB ∷ 0 ∷ 0 ∷ 0 ∷ 0 ∷ []) blank) 0 4 (0x05 ∷ []) 0x00
     -- 03 00FFFF and two bytes: the last cell, then the first
     ∷ record {
       model = 1;
       state = powerOn;
       front = [];
-      bytes = 0x03 ∷ 0x00 ∷ 0xFF ∷ 0xFF ∷ 0 ∷ 0 ∷ [];
-      tail = 0;
-      wp = true;
+      sent = frame (0x03 ∷ 0x00 ∷ 0xFF ∷ 0xFF ∷ 0 ∷ 0 ∷ []) blank;
       wait = 0;
       look = 0;
       wants = λ (array : List ℕ). record { answer = 0; from = 4; drives = getD array 65535 0 ∷ getD array 0 0 ∷ []; status = 0x00; then = 0x00; cells = [] };

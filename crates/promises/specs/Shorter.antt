@@ -1,49 +1,50 @@
--- No wait of the twelve calls can be a microsecond shorter: 01, "The twelve calls". Assumes nothing.
+-- No wait of the list can be a microsecond shorter: 01, "The twelve calls". Assumes nothing.
 use mathlib.Core.Path.{_≡_}
 use mathlib.Core.Bool.{true}
 use mathlib.Core.List.{List, [], _∷_, _++_}
-use Prim.Native.Nat.{ℕ, _-_, _≤_}
+use Prim.Native.Nat.{ℕ, _-_}
 use lib.ListN.{length, replicate}
 use Rattle.units.specs.Models.{modelOf}
-use Rattle.states.specs.States.{recordOk, stateOk, longestOf}
+use Rattle.states.specs.States.{recordOk, stateOk, longestOf, powerOn}
 use Rattle.states.specs.declared.Record.{Record}
 use Rattle.states.specs.declared.State.{State}
 use Rattle.answers.specs.declared.Answer.the-variants.{Done, Busy}
-use Rattle.promises.specs.Calls.{Call, waits, World, ours, run, answers}
-use Rattle.promises.specs.Histories.{factory}
-use Rattle.promises.specs.Twelve.{Job, Bench, Fits, frame, wait₁, call₂, call₃, call₄, wait₅, call₆, call₇, wait₈, call₉, call₁₀, call₁₂}
+use Rattle.chip.specs.Frames.{Chip, Sent, chipOf}
+use Rattle.promises.specs.Calls.{Call, sends, waits, ours, run, answers}
+use Rattle.promises.specs.Recovery.{Job, Bench, JobFits, toUnlock, toErase, toProgram, wakeUp, enableErase, enableProgram, readBack}
 
--- with wait 5, 8 or 11 shortened by one, the next call is answered 11, for every record and state
-abbrev pub Shorter₅ : Type 0
-Shorter₅ =
-    (rec : Record) (j : Job) (x : World) → Bench rec x → Fits j
-    → answers ours rec [] (wait₁ rec j ∷ call₂ rec j ∷ call₃ rec j ∷ call₄ rec j ∷ waits (rec .«status_write» - 1) ∷ call₆ rec j ∷ []) x
-    ≡ replicate 5 Done ++ (Busy ∷ [])
+-- the calls are answered 0, and the frame after them 11
+abbrev pub ThenBusy : Record → List Call → Sent → Chip → Type 0
+ThenBusy rec cs f x = answers ours rec [] (cs ++ (sends f ∷ [])) x ≡ replicate (length cs) Done ++ (Busy ∷ [])
 
-abbrev pub Shorter₈ : Type 0
-Shorter₈ =
-    (rec : Record) (j : Job) (x : World) → Bench rec x → Fits j
-    → answers ours rec [] (wait₁ rec j ∷ call₂ rec j ∷ call₃ rec j ∷ call₄ rec j ∷ wait₅ rec j ∷ call₆ rec j ∷ call₇ rec j ∷ waits (rec .sector - 1) ∷ call₉ rec j ∷ []) x
-    ≡ replicate 8 Done ++ (Busy ∷ [])
+-- with the wait after an operation shortened by one, the next call is answered 11, for every record and state
+abbrev pub ShorterUnlock : Type 0
+ShorterUnlock =
+    (rec : Record) (j : Job) (x : Chip) → Bench rec x → JobFits j
+    → ThenBusy rec (toUnlock rec j ++ (waits (rec .«status_write» - 1) ∷ [])) (enableErase j) x
 
-abbrev pub Shorter₁₁ : Type 0
-Shorter₁₁ =
-    (rec : Record) (j : Job) (x : World) → Bench rec x → Fits j
-    → answers ours rec [] (wait₁ rec j ∷ call₂ rec j ∷ call₃ rec j ∷ call₄ rec j ∷ wait₅ rec j ∷ call₆ rec j ∷ call₇ rec j ∷ wait₈ rec j ∷ call₉ rec j ∷ call₁₀ rec j ∷ waits (rec .page - 1) ∷ call₁₂ rec j ∷ []) x
-    ≡ replicate 11 Done ++ (Busy ∷ [])
+abbrev pub ShorterErase : Type 0
+ShorterErase =
+    (rec : Record) (j : Job) (x : Chip) → Bench rec x → JobFits j
+    → ThenBusy rec (toErase rec j ++ (waits (rec .sector - 1) ∷ [])) (enableProgram j) x
 
--- with wait 1 shortened by one, AB is answered 11 on some chip
-abbrev pub TooShort : Record → List ℕ → World → Type 0
-TooShort rec out x = answers ours rec [] (waits (longestOf rec - 1) ∷ frame (0xAB ∷ []) out ∷ []) x ≡ Done ∷ Busy ∷ []
+abbrev pub ShorterProgram : Type 0
+ShorterProgram =
+    (rec : Record) (j : Job) (x : Chip) → Bench rec x → JobFits j
+    → ThenBusy rec (toProgram rec j ++ (waits (rec .page - 1) ∷ [])) (readBack j) x
+
+-- with the first wait shortened by one, AB is answered 11 on some chip
+abbrev pub TooShort : Record → Job → Chip → Type 0
+TooShort rec j x = ThenBusy rec (waits (longestOf rec - 1) ∷ []) (wakeUp j) x
 
 -- there is a valid state for which it is
-abbrev pub Shorter₁ : Type 0
-Shorter₁ =
-    (rec : Record) (cells out : List ℕ) → recordOk rec ≡ true → length cells ≡ modelOf (rec .model) .length → 1 ≤ length out
-    → (s : State) × (stateOk rec s ≡ true) × TooShort rec out (record { state = s; cells = cells })
+abbrev pub ShorterFirst : Type 0
+ShorterFirst =
+    (rec : Record) (cells : List ℕ) (j : Job) → recordOk rec ≡ true → length cells ≡ modelOf (rec .model) .length → JobFits j
+    → (s : State) × (stateOk rec s ≡ true) × TooShort rec j (chipOf s cells)
 
--- and a history from power-on that reaches one, for every record
-abbrev pub Reached₁ : Type 0
-Reached₁ =
-    (rec : Record) (cells out : List ℕ) → recordOk rec ≡ true → length cells ≡ modelOf (rec .model) .length → 1 ≤ length out
-    → (calls : List Call) × TooShort rec out (run ours rec [] calls (factory cells))
+-- and calls from power-on on one array that lead to one, for every record
+abbrev pub ReachedFirst : Type 0
+ReachedFirst =
+    (rec : Record) (cells : List ℕ) (j : Job) → recordOk rec ≡ true → length cells ≡ modelOf (rec .model) .length → JobFits j
+    → (calls : List Call) × TooShort rec j (run ours rec [] calls (chipOf powerOn cells))
