@@ -156,9 +156,9 @@ pub program-falls : ProgramFalls
 program-falls rec x f b k e =
     frame-cases rec x f (λ (g : Effect). bit b (getD (g .cells) k 0) ≤ bit b (getD (x .cells) k 0))
     (λ d.
-        let at = head rec x f .address in
-        let r = shown-ready rec x f d in
-        program-case rec x (head rec x f .command) at (f .bytes) (f .out) b k e (page-fits rec (x .cells) at (r .inside) (r .whole)))
+    let at = head rec x f .address in
+    let r = shown-ready rec x f d in
+    program-case rec x (head rec x f .command) at (f .bytes) (f .out) b k e (page-fits rec (x .cells) at (r .inside) (r .whole)))
     (λ d. le-refl (bit b (getD (x .cells) k 0)))
 
 -- ---- no second answer
