@@ -3,15 +3,13 @@ use mathlib.Core.Bool.{Bool, true, false, cond}
 use mathlib.Core.List.{List}
 use mathlib.Core.Path.{_≡_}
 use Prim.Native.Nat.{ℕ, _≤_, _<_}
-use lib.Dec.{eqb}
 use lib.ListN.{length, getD}
 use Rattle.units.specs.declared.Address.{Address}
 use Rattle.units.specs.Models.{modelOf, addressOf}
 use Rattle.answers.specs.Answers.{isDone}
-use Rattle.commands.specs.Commands.{decodeOf, traitsOf}
+use Rattle.commands.specs.Commands.{decodeOf, traitsOf, fewest}
 use Rattle.states.specs.declared.Record.{Record}
 use Rattle.states.specs.declared.State.{State}
-use Rattle.commands.specs.declared.Traits.{Traits}
 use Rattle.commands.specs.declared.Command.{Command}
 use Rattle.commands.specs.declared.Command.the-variants.{WriteEnable, WriteDisable, ReadStatus, WriteStatus, Read, FastRead, EraseSector, EraseBlock, EraseChip, Program, ReadId, Wake, ReadMaker, Sleep, Unknown}
 use Rattle.answers.specs.declared.Answer.{Answer}
@@ -84,9 +82,6 @@ frameOf rec x f =
     cond (isDone a) (acceptedOf rec x (h .command) (h .address) (f .bytes) (f .out)) (refusedOf a x f)
 
 -- what the refusals have shown of an accepted frame, for the code below them
-abbrev pub fewest : Traits → ℕ
-fewest k = cond (eqb (k .exact) 0) (k .least) (k .exact)
-
 pub record Ready (rec : Record) (x : Chip) (c : Command) (at : Address) (bytes out : List ℕ) : Type 0 where
   pub level : x .state .bp ≤ 15
   pub whole : length (x .cells) ≡ modelOf (rec .model) .length

@@ -1,5 +1,9 @@
 // The chip: any frame, on values and slices.
 ghost use mathlib.Core.Path.{_≡_};
+ghost use mathlib.Core.Bool.{true};
+ghost use lib.ListN.{length};
+ghost use Rattle.answers.specs.Answers.{isDone};
+ghost use Rattle.ladder.specs.Stages.{givenOf};
 ghost use Rattle.effects.specs.Effects.{Gives};
 ghost use Rattle.chip.specs.Frames.{chipOf, sentOf, headFor, acceptedOf, frameOf, Ready};
 use answers::Answer;
@@ -13,13 +17,13 @@ use units::Address;
 fn head(model: u32, cells: usize, bytes: &[u8], tail: u32, wp: bool, room: usize) -> Head
     ensures { λ r. ⌜ r ≡ headFor model cells (now (bytes .entry)) tail wp room ⌝ }
 {
-    let command = commands::decode(parts::byte_at(bytes, 0));
     let address = units::address_of(
         model,
         parts::byte_at(bytes, 1),
         parts::byte_at(bytes, 2),
         parts::byte_at(bytes, 3),
     );
+    let command = commands::decode(parts::byte_at(bytes, 0));
     Head {
         cells,
         count: bytes.len(),
@@ -63,7 +67,31 @@ fn accepted(
     }
 }
 
-// Any frame, of any record, state, array, tail and output.
+// A frame that the refusals 1 to 5 let pass.
+fn spoken(
+    rec: Record,
+    st: State,
+    array: &mut [u8],
+    bytes: &[u8],
+    tail: u32,
+    wp: bool,
+    out: &mut [u8],
+) -> Reply
+    requires { ⌜ isDone (givenOf rec st (headFor (rec .model) (length (now array)) (now bytes) tail wp (length (now out)))) ≡ true ⌝ }
+    ensures { λ r. ⌜ Gives (frameOf rec (chipOf st (now (array .entry))) (sentOf (now (bytes .entry)) tail wp (now (out .entry)))) r (now (array .exit)) (now (out .exit)) ⌝ }
+{
+    let h = head(rec.model, array.len(), bytes, tail, wp, out.len());
+    let answer = ladder::said(rec, st, h);
+    if answers::is_done(answer) {
+        let c = h.command;
+        let at = h.address;
+        accepted(rec, st, c, array, at, bytes, out)
+    } else {
+        effects::quiet(answer, st)
+    }
+}
+
+// Any frame, of any record, state, array, tail and output. What the call is given is looked at before a byte is read.
 pub fn frame(
     rec: Record,
     st: State,
@@ -75,12 +103,18 @@ pub fn frame(
 ) -> Reply
     ensures { λ r. ⌜ Gives (frameOf rec (chipOf st (now (array .entry))) (sentOf (now (bytes .entry)) tail wp (now (out .entry)))) r (now (array .exit)) (now (out .exit)) ⌝ }
 {
-    let h = head(rec.model, array.len(), bytes, tail, wp, out.len());
-    let answer = ladder::refusal(rec, st, h);
+    let unread = Head {
+        cells: array.len(),
+        count: bytes.len(),
+        tail,
+        wp,
+        room: out.len(),
+        command: Command::Unknown,
+        address: Address(0),
+    };
+    let answer = ladder::given(rec, st, unread);
     if answers::is_done(answer) {
-        let c = h.command;
-        let at = h.address;
-        accepted(rec, st, c, array, at, bytes, out)
+        spoken(rec, st, array, bytes, tail, wp, out)
     } else {
         effects::quiet(answer, st)
     }

@@ -1,7 +1,7 @@
 -- The commands: 01, "Commands" (000 L158-187, 002 L304-340). Assumes nothing.
 use mathlib.Core.Bool.{Bool, true, false, _&&_, _||_, cond}
 use mathlib.Core.List.{List, [], _∷_}
-use Prim.Native.Nat.{ℕ}
+use Prim.Native.Nat.{ℕ, min}
 use lib.Dec.{eqb, leb}
 use Rattle.commands.specs.declared.Traits.{Traits}
 use Rattle.commands.specs.declared.Command.{Command}
@@ -43,43 +43,67 @@ lookUp b (r ∷ rs) = cond (eqb b (r .byte)) (r .means) (lookUp b rs)
 unfoldable pub decodeOf : ℕ → Command
 decodeOf b = lookUp b commands
 
--- a row of the table below
-abbrev pub row : ℕ → ℕ → Bool → Bool → Bool → Bool → Bool → Bool → Bool → Traits
-row exact least tail busy asleep latch lock unit whole =
-    record { known = true; exact = exact; least = least; «any_tail» = tail; «while_busy» = busy; «while_asleep» = asleep; latch = latch; lock = lock; unit = unit; whole = whole }
-
 abbrev pub ■ : Bool
 ■ = true
 
 abbrev pub □ : Bool
 □ = false
 
--- no exact length; and no frame is as long as `never`
-abbrev pub none : ℕ
-none = 0
+-- no frame is longer than `most`; none is as long as `never`
+abbrev pub most : ℕ
+most = 65541
 
 abbrev pub never : ℕ
 never = 65542
 
--- bytes: exactly so many without tail, or at least so many; then: any tail, taken while busy, taken while asleep, needs WEL,
--- heeds SRWD and WP#, changes the addressed unit, changes the whole chip
+-- a row of the table below
+abbrev pub row : Bool → Bool → Bool → Bool → Bool → Bool → ℕ → ℕ → ℕ → Traits
+row busy asleep latch lock unit whole low high least =
+    record { known = true; «while_busy» = busy; «while_asleep» = asleep; latch = latch; lock = lock; unit = unit; whole = whole; low = low; high = high; least = least }
+
 unfoldable pub traitsOf : Command → Traits
-traitsOf WriteEnable = row 1 never □ □ □ □ □ □ □
-traitsOf WriteDisable = row 1 never □ □ □ □ □ □ □
-traitsOf ReadStatus = row none 1 ■ ■ □ □ □ □ □
-traitsOf WriteStatus = row 2 never □ □ □ ■ ■ □ □
-traitsOf Read = row none 4 ■ □ □ □ □ □ □
-traitsOf FastRead = row none 5 ■ □ □ □ □ □ □
-traitsOf EraseSector = row 4 never □ □ □ ■ □ ■ □
-traitsOf EraseBlock = row 4 never □ □ □ ■ □ ■ □
-traitsOf EraseChip = row 1 never □ □ □ ■ □ □ ■
-traitsOf Program = row none 5 □ □ □ ■ □ ■ □
-traitsOf ReadId = row none 1 ■ □ □ □ □ □ □
-traitsOf Wake = row 1 5 ■ □ ■ □ □ □ □
-traitsOf ReadMaker = row none 4 ■ □ □ □ □ □ □
-traitsOf Sleep = row 1 never □ □ □ □ □ □ □
-traitsOf Unknown = record { known = false; exact = 0; least = 0; «any_tail» = true; «while_busy» = false; «while_asleep» = false; latch = false; lock = false; unit = false; whole = false }
+--      taken while busy
+--      | taken while asleep
+--      | | needs WEL
+--      | | | heeds SRWD and WP#
+--      | | | | changes the addressed unit
+--      | | | | | changes the whole chip
+--      | | | | | | bytes without tail: low to high; bytes with any tail: least and more
+traitsOf WriteEnable =  -- 06
+    row □ □ □ □ □ □ 1 1 never
+traitsOf WriteDisable =  -- 04
+    row □ □ □ □ □ □ 1 1 never
+traitsOf ReadStatus =  -- 05
+    row ■ □ □ □ □ □ 1 1 1
+traitsOf WriteStatus =  -- 01
+    row □ □ ■ ■ □ □ 2 2 never
+traitsOf Read =  -- 03
+    row □ □ □ □ □ □ 4 4 4
+traitsOf FastRead =  -- 0B
+    row □ □ □ □ □ □ 5 5 5
+traitsOf EraseSector =  -- 20
+    row □ □ ■ □ ■ □ 4 4 never
+traitsOf EraseBlock =  -- 52, D8
+    row □ □ ■ □ ■ □ 4 4 never
+traitsOf EraseChip =  -- 60, C7
+    row □ □ ■ □ □ ■ 1 1 never
+traitsOf Program =  -- 02
+    row □ □ ■ □ ■ □ 5 most never
+traitsOf ReadId =  -- 9F
+    row □ □ □ □ □ □ 1 1 1
+traitsOf Wake =  -- AB
+    row □ ■ □ □ □ □ 1 1 5
+traitsOf ReadMaker =  -- 90
+    row □ □ □ □ □ □ 4 4 4
+traitsOf Sleep =  -- B9
+    row □ □ □ □ □ □ 1 1 never
+traitsOf Unknown =
+    record { known = false; «while_busy» = □; «while_asleep» = □; latch = □; lock = □; unit = □; whole = □; low = 0; high = 0; least = 0 }
 
 -- whole bytes and tail bits that the command may have
 unfoldable pub lengthOk : Traits → ℕ → ℕ → Bool
-lengthOk k n tail = (eqb n (k .exact) && eqb tail 0) || (leb (k .least) n && (eqb tail 0 || k .«any_tail»))
+lengthOk k n tail = ((leb (k .low) n && leb n (k .high)) && eqb tail 0) || leb (k .least) n
+
+-- the fewest bytes of an allowed frame
+abbrev pub fewest : Traits → ℕ
+fewest k = min (k .low) (k .least)

@@ -45,48 +45,55 @@ pub fn decode(byte: u8) -> Command
     }
 }
 
-// What the refusals ask of a command: a frame of exactly so many bytes and no tail, or of at least so many, with any tail or none;
-// whether it is taken while busy and while asleep; whether it needs WEL, heeds SRWD, and changes one unit or the whole chip.
+// What the refusals ask of a command: whether it is taken while busy and while asleep; whether it needs WEL, heeds SRWD, and changes
+// one unit or the whole chip; its frame: low to high bytes without tail, or least bytes and more with any tail.
 pub struct Traits {
     pub known: bool,
-    pub exact: usize,
-    pub least: usize,
-    pub any_tail: bool,
     pub while_busy: bool,
     pub while_asleep: bool,
     pub latch: bool,
     pub lock: bool,
     pub unit: bool,
     pub whole: bool,
+    pub low: usize,
+    pub high: usize,
+    pub least: usize,
 }
 
-// No frame is that long.
+// The longest frame, and a length that no frame has.
+const MOST: usize = 65541;
+
 const NEVER: usize = 65542;
 
+// Yes and no, as the table has them.
+const Y: bool = true;
+
+const N: bool = false;
+
 fn row(
-    exact: usize,
-    least: usize,
-    any_tail: bool,
     while_busy: bool,
     while_asleep: bool,
     latch: bool,
     lock: bool,
     unit: bool,
     whole: bool,
+    low: usize,
+    high: usize,
+    least: usize,
 ) -> Traits
-    ensures { λ r. ⌜ r ≡ Commands·row exact least «any_tail» «while_busy» «while_asleep» latch lock unit whole ⌝ }
+    ensures { λ r. ⌜ r ≡ Commands·row «while_busy» «while_asleep» latch lock unit whole low high least ⌝ }
 {
     Traits {
         known: true,
-        exact,
-        least,
-        any_tail,
         while_busy,
         while_asleep,
         latch,
         lock,
         unit,
         whole,
+        low,
+        high,
+        least,
     }
 }
 
@@ -95,15 +102,15 @@ fn unknown() -> Traits
 {
     Traits {
         known: false,
-        exact: 0,
-        least: 0,
-        any_tail: true,
         while_busy: false,
         while_asleep: false,
         latch: false,
         lock: false,
         unit: false,
         whole: false,
+        low: 0,
+        high: 0,
+        least: 0,
     }
 }
 
@@ -112,20 +119,36 @@ pub fn traits_of(c: Command) -> Traits
     ensures { λ r. ⌜ r ≡ traitsOf c ⌝ }
 {
     match c {
-        Command::WriteEnable => row(1, NEVER, false, false, false, false, false, false, false),
-        Command::WriteDisable => row(1, NEVER, false, false, false, false, false, false, false),
-        Command::ReadStatus => row(0, 1, true, true, false, false, false, false, false),
-        Command::WriteStatus => row(2, NEVER, false, false, false, true, true, false, false),
-        Command::Read => row(0, 4, true, false, false, false, false, false, false),
-        Command::FastRead => row(0, 5, true, false, false, false, false, false, false),
-        Command::EraseSector => row(4, NEVER, false, false, false, true, false, true, false),
-        Command::EraseBlock => row(4, NEVER, false, false, false, true, false, true, false),
-        Command::EraseChip => row(1, NEVER, false, false, false, true, false, false, true),
-        Command::Program => row(0, 5, false, false, false, true, false, true, false),
-        Command::ReadId => row(0, 1, true, false, false, false, false, false, false),
-        Command::Wake => row(1, 5, true, false, true, false, false, false, false),
-        Command::ReadMaker => row(0, 4, true, false, false, false, false, false, false),
-        Command::Sleep => row(1, NEVER, false, false, false, false, false, false, false),
+        //      busy  latch unit  low, high, least
+        //         sleep lock  whole
+        Command::WriteEnable => // 06
+            row(N, N, N, N, N, N, 1, 1, NEVER),
+        Command::WriteDisable => // 04
+            row(N, N, N, N, N, N, 1, 1, NEVER),
+        Command::ReadStatus => // 05
+            row(Y, N, N, N, N, N, 1, 1, 1),
+        Command::WriteStatus => // 01
+            row(N, N, Y, Y, N, N, 2, 2, NEVER),
+        Command::Read => // 03
+            row(N, N, N, N, N, N, 4, 4, 4),
+        Command::FastRead => // 0B
+            row(N, N, N, N, N, N, 5, 5, 5),
+        Command::EraseSector => // 20
+            row(N, N, Y, N, Y, N, 4, 4, NEVER),
+        Command::EraseBlock => // 52, D8
+            row(N, N, Y, N, Y, N, 4, 4, NEVER),
+        Command::EraseChip => // 60, C7
+            row(N, N, Y, N, N, Y, 1, 1, NEVER),
+        Command::Program => // 02
+            row(N, N, Y, N, Y, N, 5, MOST, NEVER),
+        Command::ReadId => // 9F
+            row(N, N, N, N, N, N, 1, 1, 1),
+        Command::Wake => // AB
+            row(N, Y, N, N, N, N, 1, 1, 5),
+        Command::ReadMaker => // 90
+            row(N, N, N, N, N, N, 4, 4, 4),
+        Command::Sleep => // B9
+            row(N, N, N, N, N, N, 1, 1, NEVER),
         Command::Unknown => unknown(),
     }
 }
@@ -134,5 +157,5 @@ pub fn traits_of(c: Command) -> Traits
 pub fn length_ok(t: Traits, n: usize, tail: u32) -> bool
     ensures { λ r. ⌜ r ≡ lengthOk t n tail ⌝ }
 {
-    ((n == t.exact) & (tail == 0)) | ((t.least <= n) & ((tail == 0) | t.any_tail))
+    (((t.low <= n) & (n <= t.high)) & (tail == 0)) | (t.least <= n)
 }

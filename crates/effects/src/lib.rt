@@ -100,7 +100,10 @@ pub fn write_disable(st: State) -> Reply
 pub fn write_status(rec: Record, st: State, bytes: &[u8]) -> Reply
     ensures { λ r. ⌜ r ≡ writeStatus rec st (now (bytes .entry)) ⌝ }
 {
-    quiet(Answer::Done, write(st, parts::byte_at(bytes, 1), rec.status_write))
+    quiet(
+        Answer::Done,
+        write(st, parts::byte_at(bytes, 1), rec.status_write),
+    )
 }
 
 // B9
@@ -131,7 +134,7 @@ pub fn read_from(
     bytes: &[u8],
     out: &mut [u8],
 ) -> Reply
-    requires { ⌜ (0 < length (now array)) × Room first (now bytes) (now out) ⌝ }
+    requires { ⌜ (at .0 < length (now array)) × Room first (now bytes) (now out) ⌝ }
     ensures { λ r. ⌜ Shows (readFrom first st (now (array .entry)) at (now (bytes .entry)) (now (out .entry))) r (now (out .exit)) ⌝ }
 {
     let n = bytes.len();

@@ -12,13 +12,14 @@ use Rattle.states.specs.declared.Record.{Record}
 use Rattle.text.specs.Put.{Put}
 use Rattle.text.proofs.PutLaws.{put-none, put-as, put-then}
 use Rattle.lines.specs.Lines.{linesFrom, lastLine}
-use Rattle.lines.specs.Cutting.{Holds}
+use Rattle.lines.specs.Cutting.{Holds, heldRoom}
 use Rattle.stepper.specs.declared.Logged.{Logged}
 use Rattle.play.specs.Play.{Turn}
 use Rattle.stepper.specs.Rows.{lineTurn, rowText, Logs, logFrom, cellsFrom}
 use Rattle.stepper.proofs.Rows.{row-short}
+use Rattle.log.specs.Row.{longestRow}
 use Rattle.feed.specs.declared.Run.{Run}
-use Rattle.feed.specs.Feed.{Start, Ready, Stand, standing, lineDone, feedTurn, feedFor, feedOf, lastOf, Stands, Ends}
+use Rattle.feed.specs.Feed.{Start, TurnStart, Stand, standing, lineDone, feedTurn, feedFor, feedOf, lastOf, Stands, Ends, OneStands, OneEnds}
 use Rattle.feed.specs.Fed.{Did, Fed, Finished, FeedFeeds, LastFinishes}
 use Rattle.feed.proofs.Turns.{Same, same-clip, stands, line-done, Turned, turned}
 
@@ -42,9 +43,9 @@ did-then {rec} {r₀} {r₁} {r₂} {block} {c₀} {l₀} {h₁} {c₁} {l₁} {
 -- ---- turns one after the other: from `first` the feed has come to `run`
 record Going (rec : Record) (first : Run) (held₀ block cells₀ log₀ : List ℕ) (run : Run) (held cells log : List ℕ) : Type 0 where
   pub inside : run .at ≤ length block
-  pub whole : length held₀ ≡ 641
+  pub whole : length held₀ ≡ heldRoom
   pub hold : length held ≡ length held₀
-  pub used : run .used ≤ 641
+  pub used : run .used ≤ heldRoom
   pub within : run .filled ≤ length log₀
   pub same : length log ≡ length log₀
   pub on : ((run .at ≡ first .at) × (run .filled ≡ first .filled)) ⊎ (first .at < run .at)
@@ -64,7 +65,7 @@ going-none rec run held block cells log s =
     }
 
 going-on : {rec : Record} {first : Run} {held₀ block cells₀ log₀ : List ℕ} {run : Run} {held cells log : List ℕ} {next : Run} {held′ cells′ log′ : List ℕ}
-    → Going rec first held₀ block cells₀ log₀ run held cells log → run .filled + 665 ≤ length log → Turned rec run held block cells log next held′ cells′ log′ → Going rec first held₀ block cells₀ log₀ next held′ cells′ log′
+    → Going rec first held₀ block cells₀ log₀ run held cells log → run .filled + longestRow ≤ length log → Turned rec run held block cells log next held′ cells′ log′ → Going rec first held₀ block cells₀ log₀ next held′ cells′ log′
 going-on g r t =
     record {
       inside = t .inside;
@@ -79,7 +80,7 @@ going-on g r t =
 
 -- it ends at the block's end, or where the log lacks room
 going-fed : {rec : Record} {first : Run} {held₀ block cells₀ log₀ : List ℕ} {run : Run} {held cells log : List ℕ} → Going rec first held₀ block cells₀ log₀ run held cells log
-    → (length block ≤ run .at) ⊎ (length log - run .filled < 665) → Fed rec first held₀ block cells₀ log₀ run held cells log
+    → (length block ≤ run .at) ⊎ (length log - run .filled < longestRow) → Fed rec first held₀ block cells₀ log₀ run held cells log
 going-fed {first = first} {block = block} {log₀ = log₀} {run = run} g e =
     record {
       inside = g .inside;
@@ -96,20 +97,20 @@ Reached rec first held₀ block cells₀ log₀ s = Going rec first held₀ bloc
 fed-for : (rec : Record) (first : Run) (held₀ block cells₀ log₀ : List ℕ) (n : ℕ) (s : Stand) → Reached rec first held₀ block cells₀ log₀ s → length block ≤ s .run .at + n
     → let t : Stand = feedFor rec block n s in Fed rec first held₀ block cells₀ log₀ (t .run) (t .held) (t .cells) (t .log)
 fed-for rec first held₀ block cells₀ log₀ zero s g l = going-fed g (inl (omega arith))
-fed-for rec first held₀ block cells₀ log₀ (suc n) s g l = go (ltb (s .run .at) (length block)) refl (leb (s .run .filled + 665) (length (s .log))) refl (fed-for rec first held₀ block cells₀ log₀ n (feedTurn rec block s))
+fed-for rec first held₀ block cells₀ log₀ (suc n) s g l = go (ltb (s .run .at) (length block)) refl (leb (s .run .filled + longestRow) (length (s .log))) refl (fed-for rec first held₀ block cells₀ log₀ n (feedTurn rec block s))
   where
     t : Bool → Stand
     t b = cond b (feedFor rec block n (feedTurn rec block s)) s
 
-    go : (a : Bool) → ltb (s .run .at) (length block) ≡ a → (b : Bool) → leb (s .run .filled + 665) (length (s .log)) ≡ b
+    go : (a : Bool) → ltb (s .run .at) (length block) ≡ a → (b : Bool) → leb (s .run .filled + longestRow) (length (s .log)) ≡ b
         → (Reached rec first held₀ block cells₀ log₀ (feedTurn rec block s) → length block ≤ feedTurn rec block s .run .at + n
         → let u : Stand = feedFor rec block n (feedTurn rec block s) in Fed rec first held₀ block cells₀ log₀ (u .run) (u .held) (u .cells) (u .log))
-        → let u : Stand = t (ltb (s .run .at) (length block) && leb (s .run .filled + 665) (length (s .log))) in Fed rec first held₀ block cells₀ log₀ (u .run) (u .held) (u .cells) (u .log)
+        → let u : Stand = t (ltb (s .run .at) (length block) && leb (s .run .filled + longestRow) (length (s .log))) in Fed rec first held₀ block cells₀ log₀ (u .run) (u .held) (u .cells) (u .log)
     go true p true q f =
-        let r : s .run .filled + 665 ≤ length (s .log) = leb-true _ _ q in
+        let r : s .run .filled + longestRow ≤ length (s .log) = leb-true _ _ q in
         let d = turned rec (s .run) (s .held) block (s .cells) (s .log) (record { inside = ltb-true _ _ p; hold = g .hold ∙ g .whole; used = g .used; room = r }) in
         rw (p, q) (f (going-on g r d) (omega (arith, d .on)))
-    go true p false q f = rw (p, q) (going-fed g (inr (omega (arith, leb-false (s .run .filled + 665) (length (s .log)) q, g .within, g .same))))
+    go true p false q f = rw (p, q) (going-fed g (inr (omega (arith, leb-false (s .run .filled + longestRow) (length (s .log)) q, g .within, g .same))))
     go false p b q f = rw p (going-fed g (inl (ltb-false _ _ p)))
 
 pub feed-feeds : FeedFeeds
@@ -133,15 +134,15 @@ pub feeding-none : (rec : Record) (run : Run) (held block cells log : List ℕ) 
 unfolding feedOf
 feeding-none rec run held block cells log s = record { ready = s; left = length block; enough = omega arith; same = refl }
 
-pub feeding-ready : {rec : Record} {block : List ℕ} {start s : Stand} → Feeding rec block start s → s .run .at < length block → 665 ≤ length (s .log) - s .run .filled
-    → Ready (s .run) (s .held) block (s .log)
+pub feeding-ready : {rec : Record} {block : List ℕ} {start s : Stand} → Feeding rec block start s → s .run .at < length block → longestRow ≤ length (s .log) - s .run .filled
+    → TurnStart (s .run) (s .held) block (s .log)
 feeding-ready g l r = record { inside = l; hold = g .ready .hold; used = g .ready .used; room = omega (arith, g .ready .within) }
 
-one-more : (rec : Record) (block : List ℕ) (n : ℕ) (s : Stand) → s .run .at < length block → s .run .filled + 665 ≤ length (s .log)
+one-more : (rec : Record) (block : List ℕ) (n : ℕ) (s : Stand) → s .run .at < length block → s .run .filled + longestRow ≤ length (s .log)
     → feedFor rec block (suc n) s ≡ feedFor rec block n (feedTurn rec block s)
-one-more rec block n s l r = rw (lt-ltb (s .run .at) (length block) l, le-leb (s .run .filled + 665) (length (s .log)) r)
+one-more rec block n s l r = rw (lt-ltb (s .run .at) (length block) l, le-leb (s .run .filled + longestRow) (length (s .log)) r)
 
-feeding-turn : {rec : Record} {block : List ℕ} {start s : Stand} → Feeding rec block start s → Ready (s .run) (s .held) block (s .log)
+feeding-turn : {rec : Record} {block : List ℕ} {start s : Stand} → Feeding rec block start s → TurnStart (s .run) (s .held) block (s .log)
     → Feeding rec block start (feedTurn rec block s)
 feeding-turn {rec} {block} {start} {s} g p = go (g .left) (g .enough) (g .same)
   where
@@ -158,28 +159,28 @@ feeding-turn {rec} {block} {start} {s} g p = go (g .left) (g .enough) (g .same)
           same = e ∙ one-more rec block n s (p .inside) (p .room);
         }
 
-pub feeding-on : {rec : Record} {block : List ℕ} {start s : Stand} {r : Run} {held cells log : List ℕ} → Feeding rec block start s → Ready (s .run) (s .held) block (s .log)
+pub feeding-on : {rec : Record} {block : List ℕ} {start s : Stand} {r : Run} {held cells log : List ℕ} → Feeding rec block start s → TurnStart (s .run) (s .held) block (s .log)
     → Stands (feedTurn rec block s) r held cells log → Feeding rec block start (standing r held cells log)
 feeding-on {rec} {block} {start} g p e = subst (Feeding rec block start) (sym (stands e)) (feeding-turn g p)
 
 -- it goes on in the block
-pub turn-on : (rec : Record) (block : List ℕ) (s : Stand) {r : Run} {held cells log : List ℕ} → Ready (s .run) (s .held) block (s .log) → Stands (feedTurn rec block s) r held cells log → s .run .at < r .at
+pub turn-on : (rec : Record) (block : List ℕ) (s : Stand) {r : Run} {held cells log : List ℕ} → TurnStart (s .run) (s .held) block (s .log) → Stands (feedTurn rec block s) r held cells log → s .run .at < r .at
 turn-on rec block s {r} p e =
     let d = turned rec (s .run) (s .held) block (s .cells) (s .log) p in
     let a : r .at ≡ feedTurn rec block s .run .at = ap (λ (z : Run). z .at) (e .run′) in
     omega (arith, d .on)
 
 -- and ends at the block's end, or where the log lacks room
-stopped : (rec : Record) (block : List ℕ) (n : ℕ) (s : Stand) → (length block ≤ s .run .at) ⊎ (length (s .log) - s .run .filled < 665) → feedFor rec block n s ≡ s
+stopped : (rec : Record) (block : List ℕ) (n : ℕ) (s : Stand) → (length block ≤ s .run .at) ⊎ (length (s .log) - s .run .filled < longestRow) → feedFor rec block n s ≡ s
 stopped rec block zero s e = refl
 stopped rec block (suc n) s (inl l) = rw (le-ltb (s .run .at) (length block) l)
 stopped rec block (suc n) s (inr l) = go (ltb (s .run .at) (length block)) refl
   where
     go : (b : Bool) → ltb (s .run .at) (length block) ≡ b → feedFor rec block (suc n) s ≡ s
-    go true p = rw (p, lt-leb (s .run .filled + 665) (length (s .log)) (omega arith))
+    go true p = rw (p, lt-leb (s .run .filled + longestRow) (length (s .log)) (omega arith))
     go false p = rw p
 
-pub feeding-fed : {rec : Record} {block : List ℕ} {start s : Stand} → Feeding rec block start s → (length block ≤ s .run .at) ⊎ (length (s .log) - s .run .filled < 665)
+pub feeding-fed : {rec : Record} {block : List ℕ} {start s : Stand} → Feeding rec block start s → (length block ≤ s .run .at) ⊎ (length (s .log) - s .run .filled < longestRow)
     → Stands (feedOf rec block start) (s .run) (s .held) (s .cells) (s .log)
 feeding-fed {rec} {block} {start} {s} g e =
     let q : s ≡ feedOf rec block start = sym (g .same ∙ stopped rec block (g .left) s e) in
@@ -197,7 +198,7 @@ ends-line rec run held cells log {handed} {done} u m l =
     let e = line-done rec run held cells log {kept = held} {to = run .at} m refl l refl in
     rw (ne-eqb (run .used) 0 u) (record { filled′ = ap (λ (z : Run). z .filled) (e .run′); cells′ = e .cells′; log′ = e .log′ })
 
-module _ (rec : Record) (run : Run) (held cells log : List ℕ) (l : length held ≡ 641) (room : run .filled + 665 ≤ length log) where
+module _ (rec : Record) (run : Run) (held cells log : List ℕ) (l : length held ≡ heldRoom) (room : run .filled + longestRow ≤ length log) where
   abbrev Fin : Stand → Type 0
   Fin t = Finished rec run held cells log (t .run .filled) (t .cells) (t .log)
 
@@ -219,14 +220,14 @@ module _ (rec : Record) (run : Run) (held cells log : List ℕ) (l : length held
   unfolding lineDone
   last-held u = record { within = omega (arith, short); did = λ line h. row line h; array = λ line h. array line h }
     where
-      short : length (rowText rec (run .chip) cells (run .number) (take (run .used) held)) ≤ 665
+      short : length (rowText rec (run .chip) cells (run .number) (take (run .used) held)) ≤ longestRow
       short = row-short rec (run .chip) cells (run .number) (take (run .used) held)
 
       no-line : Holds [] held (run .used) → ⊥
       no-line h = u (h .count ∙ omega (arith, length-take {A = ℕ} (length held) []))
 
       same : (line : List ℕ) → Holds line held (run .used) → Same rec (run .chip) cells (run .number) (take (run .used) held) line
-      same line h = same-clip rec (run .chip) cells (run .number) 641 line (lit< tt) (h .is ∙ ap (λ (n : ℕ). take n line) l)
+      same line h = same-clip rec (run .chip) cells (run .number) heldRoom line (lit< tt) (h .is ∙ ap (λ (n : ℕ). take n line) l)
 
       row : (line : List ℕ) → Holds line held (run .used)
           → let t : Stand = lineDone rec (standing run held cells log) held (take (run .used) held) (run .at) in Put (logFrom rec (run .chip) cells (run .number) (lastLine line)) log (run .filled) (t .log) (t .run .filled)
@@ -250,3 +251,10 @@ module _ (rec : Record) (run : Run) (held cells log : List ℕ) (l : length held
 
 pub last-finishes : LastFinishes
 last-finishes rec run held cells log l r = finishes rec run held cells log l r
+
+-- ---- no second answer
+pub one-stands : OneStands
+one-stands t r r₂ held held₂ cells cells₂ log log₂ p q = (p .run′ ∙ sym (q .run′), p .held′ ∙ sym (q .held′), p .cells′ ∙ sym (q .cells′), p .log′ ∙ sym (q .log′))
+
+pub one-ends : OneEnds
+one-ends t filled filled₂ cells cells₂ log log₂ p q = (p .filled′ ∙ sym (q .filled′), p .cells′ ∙ sym (q .cells′), p .log′ ∙ sym (q .log′))

@@ -6,37 +6,39 @@ use Prim.Native.Nat.{ℕ, zero, suc, _+_, _≤_}
 use native.Mathlib.Omega.{arith}
 use lib.Dec.{ltb}
 use lib.ListN.{length, take, drop, length-take}
-use lib.Seq.{take-at, drop-length}
+use lib.Seq.{drop-length}
 use borrow.Author.Tests.{ltb-true, ltb-false}
+use Rattle.parts.proofs.Lay.{part-lay}
 use Rattle.states.specs.declared.Record.{Record}
 use Rattle.text.specs.Put.{Put}
 use Rattle.text.proofs.PutLaws.{put-same}
-use Rattle.lines.specs.Lines.{linesFrom}
-use Rattle.lines.specs.Cutting.{Holds}
+use Rattle.lines.specs.Lines.{linesFrom, joinedUp}
+use Rattle.lines.specs.Cutting.{Holds, heldRoom}
 use Rattle.stepper.specs.Rows.{logFrom}
+use Rattle.log.specs.Row.{longestRow}
 use Rattle.feed.specs.Feed.{Stand, feedOf}
 use Rattle.feed.specs.Fed.{Did, Fed}
-use Rattle.feed.specs.Script.{emptied, begun, filledPart, Wrote, blockFor, blockOf, joined, WholeScript}
+use Rattle.feed.specs.Script.{emptied, begun, filledPart, Wrote, blockFor, wholeBlock, WholeScript}
 use Rattle.feed.proofs.Feeds.{feed-feeds, last-finishes}
 
 -- a text that was put into an empty log is what is written out of it
 put-filled : {text d e : List ℕ} {r : ℕ} → Put text d 0 e r → take r e ≡ text
 put-filled {text} {d} {e} {r} p =
-    let n : length text ≡ r = omega (arith, p .next) in
-    ap (take r) (p .is) ∙ take-at text (drop (0 + length text) d) r n
+    let n : r ≡ length text = omega (arith, p .next) in
+    ap (λ (k : ℕ). take k e) n ∙ ap (take (length text)) (p .is) ∙ part-lay d 0 text (omega arith)
 
 -- ---- a block
 record Within (block : List ℕ) (s : Stand) (line : List ℕ) : Type 0 where
   inside : s .run .at ≤ length block
-  hold : length (s .held) ≡ 641
-  room : 665 ≤ length (s .log)
+  hold : length (s .held) ≡ heldRoom
+  room : longestRow ≤ length (s .log)
   holds : Holds line (s .held) (s .run .used)
 
 -- the block is used up, and `rest` is held
 record Through (rec : Record) (block : List ℕ) (s : Stand) (line : List ℕ) (w : Wrote) : Type 0 where
   rest : List ℕ
-  hold : length (w .stand .held) ≡ 641
-  room : 665 ≤ length (w .stand .log)
+  hold : length (w .stand .held) ≡ heldRoom
+  room : longestRow ≤ length (w .stand .log)
   holds : Holds rest (w .stand .held) (w .stand .run .used)
   same : (later : List ℕ)
       → logFrom rec (s .run .chip) (s .cells) (s .run .number) (linesFrom line (drop (s .run .at) block ++ later))
@@ -100,5 +102,5 @@ pub whole-script : WholeScript
 whole-script rec s line [] l r h = put-filled (last-finishes rec (begun s .run) (s .held) (s .cells) (s .log) l r .did line h)
 whole-script rec s line (block ∷ blocks) l r h =
     let t = through-for rec block (length block) (begun s) line (record { inside = omega arith; hold = l; room = r; holds = h }) (omega arith) in
-    let w : Wrote = blockOf rec block s in
-    ap (λ (z : List ℕ). w .text ++ z) (whole-script rec (w .stand) (t .rest) blocks (t .hold) (t .room) (t .holds)) ∙ sym (t .same (joined blocks))
+    let w : Wrote = wholeBlock rec block s in
+    ap (λ (z : List ℕ). w .text ++ z) (whole-script rec (w .stand) (t .rest) blocks (t .hold) (t .room) (t .holds)) ∙ sym (t .same (joinedUp blocks))

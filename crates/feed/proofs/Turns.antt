@@ -14,23 +14,26 @@ use Rattle.script.specs.declared.Line.the-variants.{Bad}
 use Rattle.script.specs.Reading.{lineOf}
 use Rattle.script.proofs.Agree.{clipped}
 use Rattle.script.proofs.ReadLaws.{too-long}
-use Rattle.text.proofs.PutLaws.{put-none, put-as, length-lay}
+use Rattle.text.proofs.PutLaws.{put-none, put-as}
+use Rattle.parts.proofs.Lay.{length-lay}
 use Rattle.lines.specs.declared.Cut.{Cut}
 use Rattle.lines.specs.declared.Cut.the-variants.{Here, Joined, Open}
 use Rattle.lines.specs.Lines.{linesFrom}
-use Rattle.lines.specs.Cutting.{firstLine, cutOf, heldOf, Cuts, Holds}
+use Rattle.lines.specs.Cutting.{firstLine, cutOf, heldOf, Cuts, Holds, heldRoom}
 use Rattle.lines.proofs.Says.{holds-none, length-held, here-in, joined-in, open-in, says-here, says-joined, says-open}
 use Rattle.chip.specs.Frames.{Chip, chipOf}
 use Rattle.play.specs.Play.{Turn, turnOf, playOf}
 use Rattle.stepper.specs.declared.Logged.{Logged}
 use Rattle.stepper.specs.Rows.{lineTurn, rowText, Logs, next, logFrom}
 use Rattle.stepper.proofs.Rows.{row-short}
+use Rattle.log.specs.Row.{longestRow}
+use Rattle.script.specs.Grammar.{longestLine}
 use Rattle.feed.specs.declared.Run.{Run}
-use Rattle.feed.specs.Feed.{Ready, Stand, standing, goesOn, lineDone, cutTurn, feedTurn, Stands}
+use Rattle.feed.specs.Feed.{TurnStart, Stand, standing, goesOn, lineDone, cutTurn, feedTurn, Stands}
 use Rattle.feed.specs.Fed.{Did}
 
 -- ---- a line over 640 bytes is played as its first 641 are
-clip-turn : (rec : Record) (x : Chip) (shown : List ℕ) (m : ℕ) (line : List ℕ) → 640 < m → playOf rec x shown (take m line) ≡ playOf rec x shown line
+clip-turn : (rec : Record) (x : Chip) (shown : List ℕ) (m : ℕ) (line : List ℕ) → longestLine < m → playOf rec x shown (take m line) ≡ playOf rec x shown line
 unfolding turnOf
 clip-turn rec x shown m line l = go (leb (length line) m) refl
   where
@@ -40,7 +43,7 @@ clip-turn rec x shown m line l = go (leb (length line) m) refl
         let bad : lineOf line ≡ Bad = sym (too-long line (omega (arith, leb-false (length line) m e))) in
         ap (turnOf rec x shown (take m line)) (clipped m line l ∙ bad) ∙ ap (turnOf rec x shown line) (sym bad)
 
-pub clip-row : (rec : Record) (s : State) (cells : List ℕ) (number m : ℕ) (line : List ℕ) → 640 < m → rowText rec s cells number (take m line) ≡ rowText rec s cells number line
+pub clip-row : (rec : Record) (s : State) (cells : List ℕ) (number m : ℕ) (line : List ℕ) → longestLine < m → rowText rec s cells number (take m line) ≡ rowText rec s cells number line
 unfolding rowText
 clip-row rec s cells number m line l = rw (clip-turn rec (chipOf s cells) (replicate 300 0) m line l)
 
@@ -59,7 +62,7 @@ pub record Same (rec : Record) (s : State) (cells : List ℕ) (number : ℕ) (ha
 pub same-line : (rec : Record) (s : State) (cells : List ℕ) (number : ℕ) (line : List ℕ) → Same rec s cells number line line
 same-line rec s cells number line = record { row = refl; turn = refl }
 
-pub same-clip : (rec : Record) (s : State) (cells : List ℕ) (number m : ℕ) {handed : List ℕ} (whole : List ℕ) → 640 < m → handed ≡ take m whole → Same rec s cells number handed whole
+pub same-clip : (rec : Record) (s : State) (cells : List ℕ) (number m : ℕ) {handed : List ℕ} (whole : List ℕ) → longestLine < m → handed ≡ take m whole → Same rec s cells number handed whole
 same-clip rec s cells number m {handed} whole l e =
     subst (λ (z : List ℕ). Same rec s cells number z whole) (sym e)
     (record { row = clip-row rec s cells number m whole l; turn = clip-turn rec (chipOf s cells) (replicate 300 0) m whole l })
@@ -100,8 +103,8 @@ pub record Turned (rec : Record) (run : Run) (held block cells log : List ℕ) (
   pub on : run .at < r .at
   pub inside : r .at ≤ length block
   pub hold : length held′ ≡ length held
-  pub used : r .used ≤ 641
-  pub row : r .filled ≤ run .filled + 665
+  pub used : r .used ≤ heldRoom
+  pub row : r .filled ≤ run .filled + longestRow
   pub same : length log′ ≡ length log
   pub did : (line : List ℕ) → Holds line held (run .used) → Did rec run block cells log r held′ cells′ log′ line
 
@@ -111,7 +114,7 @@ holds-front held used l =
     let all : take (length held) (take used held) ≡ take used held = take-all (length held) (take used held) (omega arith) in
     record { is = sym all; count = sym (ap length all ∙ n) }
 
-module _ (rec : Record) (run : Run) (held block cells log : List ℕ) (p : Ready run held block log) where
+module _ (rec : Record) (run : Run) (held block cells log : List ℕ) (p : TurnStart run held block log) where
   abbrev from : Stand
   from = standing run held cells log
 
@@ -145,7 +148,7 @@ module _ (rec : Record) (run : Run) (held block cells log : List ℕ) (p : Ready
   unfolding lineDone
   turned-line handed to a b d =
       let row : List ℕ = rowText rec (run .chip) cells (run .number) handed in
-      let short : length row ≤ 665 = row-short rec (run .chip) cells (run .number) handed in
+      let short : length row ≤ longestRow = row-short rec (run .chip) cells (run .number) handed in
       record { on = a; inside = b; hold = same-held; used = omega arith; row = omega (arith, short); same = length-lay log (run .filled) row (omega (arith, p .room, short)); did = d }
 
   by-cut : (k : Cut) → cutOf held (run .used) block (run .at) ≡ k → To (cutTurn rec block from kept k)
@@ -160,8 +163,8 @@ module _ (rec : Record) (run : Run) (held block cells log : List ℕ) (p : Ready
       (λ line h.
       let o = says-joined line held (run .used) block (run .at) n e h q in
       let whole : List ℕ = line ++ firstLine (drop (run .at) block) in
-      let same : take n kept ≡ take 641 whole = o .holds .is ∙ ap (λ (z : ℕ). take z whole) (same-held ∙ p .hold) in
-      did-line whole line (e + 1) (same-clip rec (run .chip) cells (run .number) 641 whole (lit< tt) same) (o .ended))
+      let same : take n kept ≡ take heldRoom whole = o .holds .is ∙ ap (λ (z : ℕ). take z whole) (same-held ∙ p .hold) in
+      did-line whole line (e + 1) (same-clip rec (run .chip) cells (run .number) heldRoom whole (lit< tt) same) (o .ended))
   by-cut (Open n) q =
       record {
         on = p .inside;

@@ -6,8 +6,9 @@ use lib.ListN.{length, drop}
 use Rattle.states.specs.declared.Record.{Record}
 use Rattle.text.specs.Put.{Put}
 use Rattle.lines.specs.Lines.{linesFrom, lastLine}
-use Rattle.lines.specs.Cutting.{Holds}
+use Rattle.lines.specs.Cutting.{Holds, heldRoom}
 use Rattle.stepper.specs.Rows.{logFrom, cellsFrom}
+use Rattle.log.specs.Row.{longestRow}
 use Rattle.feed.specs.declared.Run.{Run}
 use Rattle.feed.specs.Feed.{Start, Stand, standing, feedOf, lastOf}
 
@@ -25,9 +26,9 @@ pub record Did (rec : Record) (run : Run) (block cells log : List ℕ) (r : Run)
 -- a feed goes on to the block's end, or until the log lacks room for a row
 pub record Fed (rec : Record) (run : Run) (held block cells log : List ℕ) (r : Run) (held′ cells′ log′ : List ℕ) : Type 0 where
   pub inside : r .at ≤ length block
-  pub on : run .at < length block → run .filled + 665 ≤ length log → run .at < r .at
+  pub on : run .at < length block → run .filled + longestRow ≤ length log → run .at < r .at
   pub hold : length held′ ≡ length held
-  pub used : r .used ≤ 641
+  pub used : r .used ≤ heldRoom
   pub within : r .filled ≤ length log
   pub did : (line : List ℕ) → Holds line held (run .used) → Did rec run block cells log r held′ cells′ log′ line
 
@@ -42,5 +43,5 @@ FeedFeeds = (rec : Record) (run : Run) (held block cells log : List ℕ) → Sta
     → let t : Stand = feedOf rec block (standing run held cells log) in Fed rec run held block cells log (t .run) (t .held) (t .cells) (t .log)
 
 abbrev pub LastFinishes : Type 0
-LastFinishes = (rec : Record) (run : Run) (held cells log : List ℕ) → length held ≡ 641 → run .filled + 665 ≤ length log
+LastFinishes = (rec : Record) (run : Run) (held cells log : List ℕ) → length held ≡ heldRoom → run .filled + longestRow ≤ length log
     → let t : Stand = lastOf rec (standing run held cells log) in Finished rec run held cells log (t .run .filled) (t .cells) (t .log)

@@ -5,29 +5,30 @@ use mathlib.Core.List.{List}
 use Prim.Native.Nat.{ℕ, zero, suc, _+_, _-_, _≤_, _<_}
 use lib.Dec.{eqb, leb, ltb}
 use lib.ListN.{length, take, drop}
+use Rattle.parts.specs.Parts.{lay}
 use Rattle.states.specs.declared.Record.{Record}
-use Rattle.text.specs.Put.{lay}
 use Rattle.lines.specs.declared.Cut.{Cut}
 use Rattle.lines.specs.declared.Cut.the-variants.{Here, Joined, Open}
-use Rattle.lines.specs.Cutting.{cutOf, heldOf}
+use Rattle.lines.specs.Cutting.{cutOf, heldOf, heldRoom}
 use Rattle.play.specs.Play.{Turn}
 use Rattle.stepper.specs.declared.Logged.{Logged}
 use Rattle.stepper.specs.Rows.{lineTurn, rowText, next}
+use Rattle.log.specs.Row.{longestRow}
 use Rattle.feed.specs.declared.Run.{Run}
 
 -- where a feed starts
 pub record Start (run : Run) (held block log : List ℕ) : Type 0 where
   pub inside : run .at ≤ length block
-  pub hold : length held ≡ 641
-  pub used : run .used ≤ 641
+  pub hold : length held ≡ heldRoom
+  pub used : run .used ≤ heldRoom
   pub within : run .filled ≤ length log
 
 -- the log has room for the longest row, and the buffer for the line that is held has 641 bytes: enough to know a line over 640 for one
-pub record Ready (run : Run) (held block log : List ℕ) : Type 0 where
+pub record TurnStart (run : Run) (held block log : List ℕ) : Type 0 where
   pub inside : run .at < length block
-  pub hold : length held ≡ 641
-  pub used : run .used ≤ 641
-  pub room : run .filled + 665 ≤ length log
+  pub hold : length held ≡ heldRoom
+  pub used : run .used ≤ heldRoom
+  pub room : run .filled + longestRow ≤ length log
 
 -- after a line: nothing is held, and the next line has the next number
 abbrev pub goesOn : Logged → ℕ → ℕ → Run
@@ -73,7 +74,7 @@ feedTurn rec block s = cutTurn rec block s (heldOf (s .held) (s .run .used) bloc
 -- at most n turns, while the block is not used up and the log has room for the longest row
 abbrev pub feedFor : Record → List ℕ → ℕ → Stand → Stand
 feedFor rec block zero s = s
-feedFor rec block (suc n) s = cond (ltb (s .run .at) (length block) && leb (s .run .filled + 665) (length (s .log))) (feedFor rec block n (feedTurn rec block s)) s
+feedFor rec block (suc n) s = cond (ltb (s .run .at) (length block) && leb (s .run .filled + longestRow) (length (s .log))) (feedFor rec block n (feedTurn rec block s)) s
 
 -- each turn uses up a byte at least, so that the block's length is enough
 unfoldable pub feedOf : Record → List ℕ → Stand → Stand
@@ -94,3 +95,12 @@ pub record Ends (t : Stand) (filled : ℕ) (cells log : List ℕ) : Type 0 where
   pub filled′ : filled ≡ t .run .filled
   pub cells′ : cells ≡ t .cells
   pub log′ : log ≡ t .log
+
+-- no second answer
+abbrev pub OneStands : Type 0
+OneStands = (t : Stand) (r r₂ : Run) (held held₂ cells cells₂ log log₂ : List ℕ) → Stands t r held cells log → Stands t r₂ held₂ cells₂ log₂
+    → (r ≡ r₂) × (held ≡ held₂) × (cells ≡ cells₂) × (log ≡ log₂)
+
+abbrev pub OneEnds : Type 0
+OneEnds = (t : Stand) (filled filled₂ : ℕ) (cells cells₂ log log₂ : List ℕ) → Ends t filled cells log → Ends t filled₂ cells₂ log₂
+    → (filled ≡ filled₂) × (cells ≡ cells₂) × (log ≡ log₂)

@@ -6,9 +6,10 @@ use Prim.Native.Nat.{ℕ, zero, suc, _≤_}
 use lib.Dec.{ltb}
 use lib.ListN.{length, take}
 use Rattle.states.specs.declared.Record.{Record}
-use Rattle.lines.specs.Lines.{linesFrom}
-use Rattle.lines.specs.Cutting.{Holds}
+use Rattle.lines.specs.Lines.{linesFrom, joinedUp}
+use Rattle.lines.specs.Cutting.{Holds, heldRoom}
 use Rattle.stepper.specs.Rows.{logFrom}
+use Rattle.log.specs.Row.{longestRow}
 use Rattle.feed.specs.Feed.{Stand, standing, feedOf, lastOf}
 
 -- the log was written out, and is empty again
@@ -37,19 +38,15 @@ blockFor rec block (suc n) s =
     (record { text = []; stand = s })
 
 -- each feed uses up a byte at least
-abbrev pub blockOf : Record → List ℕ → Stand → Wrote
-blockOf rec block s = blockFor rec block (length block) (begun s)
+abbrev pub wholeBlock : Record → List ℕ → Stand → Wrote
+wholeBlock rec block s = blockFor rec block (length block) (begun s)
 
 -- block after block, and at the input's end the line that is held
 abbrev pub writtenOf : Record → Stand → List (List ℕ) → List ℕ
 writtenOf rec s [] = filledPart (lastOf rec (begun s))
-writtenOf rec s (block ∷ blocks) = blockOf rec block s .text ++ writtenOf rec (blockOf rec block s .stand) blocks
-
-abbrev pub joined : List (List ℕ) → List ℕ
-joined [] = []
-joined (b ∷ bs) = b ++ joined bs
+writtenOf rec s (block ∷ blocks) = wholeBlock rec block s .text ++ writtenOf rec (wholeBlock rec block s .stand) blocks
 
 -- it is the log of the lines of all blocks together, whatever `line` is held at the start
 abbrev pub WholeScript : Type 0
-WholeScript = (rec : Record) (s : Stand) (line : List ℕ) (blocks : List (List ℕ)) → length (s .held) ≡ 641 → 665 ≤ length (s .log) → Holds line (s .held) (s .run .used)
-    → writtenOf rec s blocks ≡ logFrom rec (s .run .chip) (s .cells) (s .run .number) (linesFrom line (joined blocks))
+WholeScript = (rec : Record) (s : Stand) (line : List ℕ) (blocks : List (List ℕ)) → length (s .held) ≡ heldRoom → longestRow ≤ length (s .log) → Holds line (s .held) (s .run .used)
+    → writtenOf rec s blocks ≡ logFrom rec (s .run .chip) (s .cells) (s .run .number) (linesFrom line (joinedUp blocks))

@@ -2,7 +2,9 @@
 ghost use mathlib.Core.Path.{_≡_};
 ghost use Prim.Native.Nat.{_+_, _≤_, _<_};
 ghost use lib.ListN.{length};
-ghost use Rattle.feed.specs.Feed.{Start, Ready, goesOn, standing, feedTurn, feedOf, lastOf, Stands, Ends};
+ghost use Rattle.log.specs.Row.{longestRow};
+ghost use Rattle.lines.specs.Cutting.{heldRoom};
+ghost use Rattle.feed.specs.Feed.{Start, TurnStart, goesOn, standing, feedTurn, feedOf, lastOf, Stands, Ends};
 use lines::Cut;
 use states::Record;
 use states::State;
@@ -41,7 +43,7 @@ fn turn(
     array: &mut [u8],
     log: &mut [u8],
 ) -> Run
-    requires { ⌜ Ready run (now held) (now block) (now log) ⌝ }
+    requires { ⌜ TurnStart run (now held) (now block) (now log) ⌝ }
     ensures { λ r. ⌜ Stands (feedTurn rec (now (block .entry)) (standing run (now (held .entry)) (now (array .entry)) (now (log .entry)))) r (now (held .exit)) (now (array .exit)) (now (log .exit)) ⌝ }
 {
     let chip = run.chip;
@@ -85,7 +87,7 @@ pub fn feed(
     let mut at = first.at;
     while at < block.len() {
         let filled = run.filled;
-        if log.len() - filled < 665 {
+        if log.len() - filled < log::LONGEST_ROW {
             return run;
         }
         run = turn(run, rec, held, block, array, log);
@@ -96,7 +98,7 @@ pub fn feed(
 
 // The input has ended: a line that is held is the last one. How much of the log is filled comes back.
 pub fn finish(run: Run, rec: Record, held: &[u8], array: &mut [u8], log: &mut [u8]) -> usize
-    requires { ⌜ (length (now held) ≡ 641) × (run .used ≤ 641) × (run .filled + 665 ≤ length (now log)) ⌝ }
+    requires { ⌜ (length (now held) ≡ heldRoom) × (run .used ≤ heldRoom) × (run .filled + longestRow ≤ length (now log)) ⌝ }
     ensures { λ r. ⌜ Ends (lastOf rec (standing run (now (held .entry)) (now (array .entry)) (now (log .entry)))) r (now (array .exit)) (now (log .exit)) ⌝ }
 {
     let used = run.used;

@@ -53,10 +53,10 @@ pub fn program(array: &mut [u8], a: Address, sent: &[u8])
 
 // The bytes of out from index from up to end become the cells from the address on, and after the last address those from 0 on. The rest of out stays.
 pub fn read_part(array: &[u8], a: Address, out: &mut [u8], from: usize, end: usize)
-    requires { ⌜ (0 < length (now array)) × (from ≤ end) × (end ≤ length (now out)) ⌝ }
+    requires { ⌜ (a .0 < length (now array)) × (from ≤ end) × (end ≤ length (now out)) ⌝ }
     ensures { λ _. ⌜ now (out .exit) ≡ lay (now (out .entry)) from (ring (now (array .entry)) (a .0) (end - from)) ⌝ }
 {
-    let at = a.0 as usize % array.len();
+    let at = a.0 as usize;
     rings::read_ring(array, at, out, from, end);
 }
 

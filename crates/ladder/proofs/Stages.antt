@@ -1,6 +1,6 @@
--- The three stages, one after the other, are the one table. Assumes nothing.
+-- The stages, one after the other, are the one table. Assumes nothing.
 use mathlib.Core.Path.{_≡_, refl, sym, ap, _∙_}
-use mathlib.Core.Bool.{Bool, true, false, not, _&&_, cond, true≢false}
+use mathlib.Core.Bool.{Bool, true, false, not, _&&_, cond}
 use mathlib.Core.List.{List, [], _∷_, _++_}
 use Prim.Native.Nat.{ℕ}
 use lib.ListN.{take, drop}
@@ -12,12 +12,12 @@ use Rattle.states.specs.declared.Record.{Record}
 use Rattle.states.specs.declared.State.{State}
 use Rattle.commands.specs.declared.Traits.{Traits}
 use Rattle.commands.specs.declared.Command.{Command}
-use Rattle.commands.specs.declared.Command.the-variants.{WriteEnable, WriteDisable, ReadStatus, WriteStatus, Read, FastRead, EraseSector, EraseBlock, EraseChip, Program, ReadId, Wake, ReadMaker, Sleep, Unknown}
+use Rattle.commands.proofs.Rows.{no-latch}
 use Rattle.answers.specs.declared.Answer.{Answer}
 use Rattle.answers.specs.declared.Answer.the-variants.{Done}
 use Rattle.ladder.specs.declared.Head.{Head}
 use Rattle.ladder.specs.Ladder.{Rung, firstOf, ladder, refusalOf}
-use Rattle.ladder.specs.Stages.{givenOf, heardOf, allowedOf}
+use Rattle.ladder.specs.Stages.{givenOf, saidOf, heardOf, allowedOf}
 
 -- no row of a table answers 0
 abbrev pub honest : List Rung → Bool
@@ -37,18 +37,15 @@ joined (r ∷ rs) ys h = go (r .bad) (joined rs ys (k .1))
     go false e = e
 
 pub one-table : (rec : Record) (s : State) (h : Head)
+    → refusalOf rec s h ≡ cond (isDone (givenOf rec s h)) (saidOf rec s h) (givenOf rec s h)
+unfolding refusalOf givenOf saidOf
+one-table rec s h = let rows = ladder rec s h (traitsOf (h .command)) in joined (take 5 rows) (drop 5 rows) refl
+
+pub two-stages : (rec : Record) (s : State) (h : Head)
     → (let k : Traits = traitsOf (h .command) in
-    refusalOf rec s h
-    ≡ cond (isDone (givenOf rec s h))
-    (cond (isDone (heardOf rec s h k)) (allowedOf rec s h k) (heardOf rec s h k))
-    (givenOf rec s h))
-unfolding refusalOf givenOf heardOf allowedOf
-one-table rec s h =
-    let rows = ladder rec s h (traitsOf (h .command)) in
-    let a = take 5 rows in
-    let b = take 5 (drop 5 rows) in
-    let c = drop 10 rows in
-    joined a (b ++ c) refl ∙ ap (λ (x : Answer). cond (isDone (firstOf a)) x (firstOf a)) (joined b c refl)
+    saidOf rec s h ≡ cond (isDone (heardOf rec s h k)) (allowedOf rec s h k) (heardOf rec s h k))
+unfolding saidOf heardOf allowedOf
+two-stages rec s h = let rows = ladder rec s h (traitsOf (h .command)) in joined (take 5 (drop 5 rows)) (drop 10 rows) refl
 
 -- ---- where the code stops
 module _ (rec : Record) (s : State) (h : Head) where
@@ -58,27 +55,16 @@ module _ (rec : Record) (s : State) (h : Head) where
   pub stops-given : isDone (givenOf rec s h) ≡ false → refusalOf rec s h ≡ givenOf rec s h
   stops-given e = one-table rec s h ∙ rw e
 
-  pub stops-heard : isDone (givenOf rec s h) ≡ true → isDone (heardOf rec s h k) ≡ false → refusalOf rec s h ≡ heardOf rec s h k
-  stops-heard e f = one-table rec s h ∙ rw (e, f)
+  pub goes-on : isDone (givenOf rec s h) ≡ true → refusalOf rec s h ≡ saidOf rec s h
+  goes-on e = one-table rec s h ∙ rw e
 
-  pub goes-on : isDone (givenOf rec s h) ≡ true → isDone (heardOf rec s h k) ≡ true → refusalOf rec s h ≡ allowedOf rec s h k
-  goes-on e f = one-table rec s h ∙ rw (e, f)
+  pub stops-heard : isDone (heardOf rec s h k) ≡ false → saidOf rec s h ≡ heardOf rec s h k
+  stops-heard e = two-stages rec s h ∙ rw e
+
+  pub passes-heard : isDone (heardOf rec s h k) ≡ true → saidOf rec s h ≡ allowedOf rec s h k
+  passes-heard e = two-stages rec s h ∙ rw e
 
 -- a command that needs no WEL is stopped by none of the last three rows
 pub harmless : (rec : Record) (s : State) (h : Head) (c : Command) → traitsOf c .latch ≡ false → allowedOf rec s h (traitsOf c) ≡ Done
-unfolding traitsOf allowedOf
-harmless rec s h WriteEnable e = refl
-harmless rec s h WriteDisable e = refl
-harmless rec s h ReadStatus e = refl
-harmless rec s h WriteStatus e = absurd (true≢false e)
-harmless rec s h Read e = refl
-harmless rec s h FastRead e = refl
-harmless rec s h EraseSector e = absurd (true≢false e)
-harmless rec s h EraseBlock e = absurd (true≢false e)
-harmless rec s h EraseChip e = absurd (true≢false e)
-harmless rec s h Program e = absurd (true≢false e)
-harmless rec s h ReadId e = refl
-harmless rec s h Wake e = refl
-harmless rec s h ReadMaker e = refl
-harmless rec s h Sleep e = refl
-harmless rec s h Unknown e = refl
+unfolding allowedOf
+harmless rec s h c e = let k = no-latch c e in rw (k .latch, k .lock, k .unit, k .whole)

@@ -1,4 +1,5 @@
--- The table in three stages, for the code: rows 1 to 5, 10 to 14 and 15 to 17. proofs/Stages.antt shows that they are the one table.
+-- The table in stages, for the code: rows 1 to 5, and what the frame says: rows 10 to 14 and 15 to 17. proofs/Stages.antt shows that they are
+-- the one table.
 -- Assumes nothing.
 use lib.ListN.{take, drop}
 use Rattle.commands.specs.Commands.{traitsOf}
@@ -12,6 +13,9 @@ use Rattle.ladder.specs.Ladder.{firstOf, ladder}
 -- no row of the first five looks at the command
 unfoldable pub givenOf : Record → State → Head → Answer
 givenOf rec s h = firstOf (take 5 (ladder rec s h (traitsOf (h .command))))
+
+unfoldable pub saidOf : Record → State → Head → Answer
+saidOf rec s h = firstOf (drop 5 (ladder rec s h (traitsOf (h .command))))
 
 unfoldable pub heardOf : Record → State → Head → Traits → Answer
 heardOf rec s h k = firstOf (take 5 (drop 5 (ladder rec s h k)))

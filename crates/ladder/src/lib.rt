@@ -1,12 +1,11 @@
 // The refusals in their order. The stages are how; the one table of specs/Ladder.antt is what.
 ghost use mathlib.Core.Path.{_≡_};
-ghost use Rattle.ladder.specs.Ladder.{refusalOf};
-ghost use Rattle.ladder.specs.Stages.{givenOf, heardOf, allowedOf};
+ghost use Rattle.ladder.specs.Stages.{givenOf, saidOf, heardOf, allowedOf};
 use answers::Answer;
 use commands::Command;
+use commands::Traits;
 use states::Record;
 use states::State;
-use commands::Traits;
 use units::Address;
 
 // What the refusals look at of one frame: the cells of the array that it is given, its whole bytes, tail bits and WP# level, the room of its output,
@@ -21,8 +20,8 @@ pub struct Head {
     pub address: Address,
 }
 
-// 1 to 5: what the call is given at all.
-fn given(rec: Record, st: State, head: Head) -> Answer
+// 1 to 5: what the call is given at all. The command and the address are not looked at.
+pub fn given(rec: Record, st: State, head: Head) -> Answer
     ensures { λ r. ⌜ r ≡ givenOf rec st head ⌝ }
 {
     if !states::record_ok(rec) {
@@ -88,19 +87,15 @@ fn allowed(rec: Record, st: State, head: Head, t: Traits) -> Answer
     Answer::Done
 }
 
-// The first refusal that applies, and Done where none does.
-pub fn refusal(rec: Record, st: State, head: Head) -> Answer
-    ensures { λ r. ⌜ r ≡ refusalOf rec st head ⌝ }
+// 10 to 17: the first refusal that applies to a frame that 1 to 5 let pass, and Done where none does.
+pub fn said(rec: Record, st: State, head: Head) -> Answer
+    ensures { λ r. ⌜ r ≡ saidOf rec st head ⌝ }
 {
-    let first = given(rec, st, head);
-    if !answers::is_done(first) {
-        return first;
-    }
     let command = head.command;
     let t = commands::traits_of(command);
-    let second = heard(rec, st, head, t);
-    if !answers::is_done(second) {
-        return second;
+    let first = heard(rec, st, head, t);
+    if !answers::is_done(first) {
+        return first;
     }
     if t.latch {
         return allowed(rec, st, head, t);

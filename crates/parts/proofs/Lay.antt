@@ -1,11 +1,12 @@
 -- Laws of a part of a list and of a list with one part replaced. Assumes nothing.
 use mathlib.Core.Path.{_≡_, refl, sym, ap, _∙_}
-use mathlib.Core.List.{List, [], _++_, append-assoc}
+use mathlib.Core.List.{List, [], _∷_, _++_, append-assoc}
 use Prim.Native.Nat.{ℕ, _+_, _-_, _≤_, _<_}
 use native.Mathlib.Nat.{add-zero, add-assoc}
+use native.Mathlib.Numerals.{add-one}
 use native.Mathlib.Omega.{arith}
-use lib.ListN.{length, take, drop, getD, length-append, length-drop, take-append-drop, List·getD-append, replicate, length-replicate}
-use lib.Seq.{length-take-le, take-at, drop-at, take-append-le, drop-append-le, take-append-add, drop-append-add, getD-append-add, getD-take, getD-drop, drop-drop}
+use lib.ListN.{length, take, drop, getD, set, length-append, length-drop, take-append-drop, List·getD-append, replicate, length-replicate}
+use lib.Seq.{set-split, length-take-le, take-at, drop-at, take-append-le, drop-append-le, take-append-add, drop-append-add, getD-append-add, getD-take, getD-drop, drop-drop}
 use borrow.Rule.Slice.PartMut.{putMid, post-is, midOf, mid-len}
 use Rattle.parts.specs.Parts.{part, lay}
 
@@ -21,6 +22,11 @@ part-at xs at n k l = getD-take n (drop at xs) k 0 l ∙ getD-drop at xs k 0
 pub lay-none : (xs : List ℕ) (at : ℕ) → lay xs at [] ≡ xs
 unfolding lay
 lay-none xs at = rw add-zero (take-append-drop at xs)
+
+-- one element stored
+pub lay-one : (xs : List ℕ) (at v : ℕ) → at < length xs → set xs at v ≡ lay xs at (v ∷ [])
+unfolding lay
+lay-one xs at v l = set-split xs at v l ∙ ap (λ (n : ℕ). take at xs ++ (v ∷ drop n xs)) (sym (add-one at))
 
 -- the length stays
 pub length-lay : (xs : List ℕ) (at : ℕ) (ys : List ℕ) → at + length ys ≤ length xs → length (lay xs at ys) ≡ length xs
@@ -57,6 +63,13 @@ pub part-lay : (xs : List ℕ) (at : ℕ) (ys : List ℕ) → at ≤ length xs �
 unfolding lay
 part-lay xs at ys h =
     rw (drop-at (take at xs) (ys ++ drop (at + length ys) xs) at (length-take-le at xs h)) (take-at ys (drop (at + length ys) xs) (length ys) refl)
+
+-- what stands up to the end of the part
+pub take-lay : (xs : List ℕ) (at : ℕ) (ys : List ℕ) → at ≤ length xs → take (at + length ys) (lay xs at ys) ≡ take at xs ++ ys
+unfolding lay
+take-lay xs at ys h =
+    rw (← (append-assoc (take at xs) ys (drop (at + length ys) xs)))
+    (take-at (take at xs ++ ys) (drop (at + length ys) xs) (at + length ys) (simp (length-append, length-take-le at xs h)))
 
 -- a part laid where it stood changes nothing
 pub lay-part : (xs : List ℕ) (at n : ℕ) → at + n ≤ length xs → lay xs at (part xs at n) ≡ xs

@@ -1,25 +1,23 @@
 -- Laws of played lines. Assumes nothing.
 use mathlib.Core.Path.{_≡_, refl, sym, ap, subst, _∙_}
-use mathlib.Core.Bool.{Bool, true, false, cond}
+use mathlib.Core.Bool.{Bool}
 use mathlib.Core.List.{List, [], _∷_, _++_}
 use Prim.Native.Nat.{ℕ, zero, suc, _+_, _-_, _≤_}
 use native.Mathlib.Omega.{arith}
 use lib.ListN.{length, take, drop, length-take}
 use lib.Seq.{take-at}
-use Rattle.answers.specs.Answers.{isDone, numberOf}
+use Rattle.answers.specs.Answers.{numberOf}
 use Rattle.states.specs.declared.Record.{Record}
-use Rattle.ladder.specs.Ladder.{refusalOf}
-use Rattle.ladder.specs.declared.Head.{Head}
 use Rattle.effects.specs.declared.Reply.{Reply}
-use Rattle.effects.specs.Effects.{Effect, Gives}
-use Rattle.chip.specs.Frames.{Chip, Sent, sentOf, headOf, acceptedOf, refusedOf, frameOf}
-use Rattle.chip.proofs.Sorts.{kind, within}
+use Rattle.effects.specs.Effects.{Gives}
+use Rattle.chip.specs.Frames.{Chip, sentOf, frameOf}
+use Rattle.chip.proofs.Ways.{frame-within}
 use Rattle.script.specs.declared.Line.{Line}
 use Rattle.script.specs.declared.Line.the-variants.{Frame, Wait, Power, Bad}
-use Rattle.script.specs.Hex.{bytesOf, Unhexed}
+use Rattle.script.specs.Hex.{hexBytes, Unhexed}
 use Rattle.script.specs.Reading.{lineOf}
 use Rattle.play.specs.declared.Played.{Played}
-use Rattle.play.specs.Play.{Plays, frameTurn, turnOf, playOf}
+use Rattle.play.specs.Play.{Plays, OnePlays, frameTurn, turnOf, playOf}
 
 -- ---- what is sent of a frame's line
 take-long : (m : ℕ) (xs : List ℕ) → take (length (take m xs)) xs ≡ take m xs
@@ -27,9 +25,9 @@ take-long zero xs = refl
 take-long (suc m) [] = refl
 take-long (suc m) (x ∷ xs) = ap (λ (ys : List ℕ). x ∷ ys) (take-long m xs)
 
-pub unhexed-front : {digits d e : List ℕ} {r : ℕ} (m : ℕ) → length d ≡ m → Unhexed digits d e r → take (r - 0) (drop 0 e) ≡ take m (bytesOf digits)
+pub unhexed-front : {digits d e : List ℕ} {r : ℕ} (m : ℕ) → length d ≡ m → Unhexed digits d e r → take (r - 0) (drop 0 e) ≡ take m (hexBytes digits)
 unhexed-front {digits} {d} {e} {r} m l u =
-    let bs = bytesOf digits in
+    let bs = hexBytes digits in
     let n : r ≡ length (take m bs) = u .count ∙ ap (λ (k : ℕ). length (take k bs)) l in
     let front : take r bs ≡ take m bs = ap (λ (k : ℕ). take k bs) n ∙ take-long m bs in
     let is : e ≡ take m bs ++ drop r d = u .is ∙ ap (λ (z : List ℕ). z ++ drop r d) front in
@@ -37,7 +35,7 @@ unhexed-front {digits} {d} {e} {r} m l u =
     ap (λ (k : ℕ). take k e) z ∙ ap (take (length (take m bs))) is ∙ take-at (take m bs) (drop r d) (length (take m bs)) refl
 
 pub frame-plays : (rec : Record) (x : Chip) (shown line : List ℕ) (wp : Bool) (tail : ℕ) {frame : List ℕ} {r : Reply} {number : ℕ} {xs os : List ℕ}
-    → frame ≡ take 300 (bytesOf (drop 6 line)) → Gives (frameOf rec x (sentOf frame tail wp shown)) r xs os → number ≡ numberOf (r .answer)
+    → frame ≡ take 300 (hexBytes (drop 6 line)) → Gives (frameOf rec x (sentOf frame tail wp shown)) r xs os → number ≡ numberOf (r .answer)
     → Plays (frameTurn rec x shown line wp tail) (record { answer = number; from = r .from; count = r .count; state = r .state }) xs os
 unfolding frameTurn
 frame-plays rec x shown line wp tail {frame} {r} {number} {xs} {os} e g n =
@@ -56,29 +54,18 @@ pub at-line : (rec : Record) (x : Chip) (shown line : List ℕ) {l : Line} {r : 
 at-line rec x shown line {l} {r} {xs} {os} e k f p = subst (λ (z : Line). Plays (turnOf rec x shown line z) r xs os) (sym f ∙ e) p
 
 -- ---- what a line drives lies in its frame
-frame-within : (rec : Record) (x : Chip) (f : Sent) → frameOf rec x f .reply .from + frameOf rec x f .reply .count ≤ length (f .bytes)
-unfolding frameOf
-frame-within rec x f = go (isDone (refusalOf rec (x .state) h))
-  where
-    h : Head
-    h = headOf rec x f
-
-    e : Bool → Effect
-    e b = cond b (acceptedOf rec x (h .command) (h .address) (f .bytes) (f .out)) (refusedOf (refusalOf rec (x .state) h) x f)
-
-    go : (b : Bool) → e b .reply .from + e b .reply .count ≤ length (f .bytes)
-    go true = within (kind rec x (h .address) (f .bytes) (f .out) (h .command))
-    go false = omega arith
-
 turn-within : (rec : Record) (x : Chip) (shown line : List ℕ) (l : Line)
     → turnOf rec x shown line l .played .from + turnOf rec x shown line l .played .count ≤ 300
 unfolding turnOf frameTurn
 turn-within rec x shown line (Frame wp tail n) =
-    let sent = take 300 (bytesOf (drop 6 line)) in
-    omega (arith, frame-within rec x (sentOf sent tail wp shown), length-take 300 (bytesOf (drop 6 line)))
+    let sent = take 300 (hexBytes (drop 6 line)) in
+    omega (arith, frame-within rec x (sentOf sent tail wp shown), length-take 300 (hexBytes (drop 6 line)))
 turn-within rec x shown line (Wait us) = omega arith
 turn-within rec x shown line Power = omega arith
 turn-within rec x shown line Bad = omega arith
 
 pub played-within : (rec : Record) (x : Chip) (shown line : List ℕ) {r : Played} → r ≡ playOf rec x shown line .played → r .from + r .count ≤ 300
 played-within rec x shown line {r} e = subst (λ (q : Played). q .from + q .count ≤ 300) (sym e) (turn-within rec x shown line (lineOf line))
+
+pub one-plays : OnePlays
+one-plays t r r′ xs xs′ os os′ p q = (p .played ∙ sym (q .played), p .cells ∙ sym (q .cells), p .shown ∙ sym (q .shown))

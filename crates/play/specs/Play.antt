@@ -12,7 +12,7 @@ use Rattle.chip.specs.Frames.{Chip, sentOf, frameOf}
 use Rattle.time.specs.Time.{waitOf, powerOf}
 use Rattle.script.specs.declared.Line.{Line}
 use Rattle.script.specs.declared.Line.the-variants.{Frame, Wait, Power, Bad}
-use Rattle.script.specs.Hex.{bytesOf}
+use Rattle.script.specs.Hex.{hexBytes}
 use Rattle.script.specs.Reading.{lineOf}
 use Rattle.play.specs.declared.Played.{Played}
 
@@ -28,7 +28,7 @@ passedOf a = record { answer = numberOf (a .answer); from = 0; count = 0; state 
 -- the bytes of the line's hex digits, as many as 300, are the frame
 unfoldable pub frameTurn : Record → Chip → List ℕ → List ℕ → Bool → ℕ → Turn
 frameTurn rec x shown line wp tail =
-    let e : Effect = frameOf rec x (sentOf (take 300 (bytesOf (drop 6 line))) tail wp shown) in
+    let e : Effect = frameOf rec x (sentOf (take 300 (hexBytes (drop 6 line))) tail wp shown) in
     record {
       played = record { answer = numberOf (e .reply .answer); from = e .reply .from; count = e .reply .count; state = e .reply .state };
       cells = e .cells;
@@ -49,3 +49,7 @@ pub record Plays (t : Turn) (r : Played) (xs os : List ℕ) : Type 0 where
   pub played : r ≡ t .played
   pub cells : xs ≡ t .cells
   pub shown : os ≡ t .shown
+
+-- no second answer
+abbrev pub OnePlays : Type 0
+OnePlays = (t : Turn) (r r′ : Played) (xs xs′ os os′ : List ℕ) → Plays t r xs os → Plays t r′ xs′ os′ → (r ≡ r′) × (xs ≡ xs′) × (os ≡ os′)

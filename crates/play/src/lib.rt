@@ -2,10 +2,10 @@
 ghost use mathlib.Core.Path.{_≡_};
 ghost use Rattle.chip.specs.Frames.{chipOf};
 ghost use Rattle.play.specs.Play.{Plays, passedOf, frameTurn, playOf};
-use time::After;
+use script::Line;
 use states::Record;
 use states::State;
-use script::Line;
+use time::After;
 
 // What a line came to: the answer's number, the first driven position and how many bytes are driven, and the state after.
 pub struct Played {

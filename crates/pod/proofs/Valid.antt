@@ -4,28 +4,25 @@ use mathlib.Core.Bool.{Bool, true, false, true≢false, false≢true}
 use mathlib.Core.List.{List}
 use Prim.Native.Nat.{ℕ, _^_, _≤_, _<_}
 use native.Mathlib.Omega.{arith}
-use lib.Dec.{leb}
 use lib.ListN.{length}
-use borrow.Author.Tests.{leb-true}
-use Rattle.units.specs.Models.{isModel}
 use Rattle.units.specs.declared.Address.{Address}
-use Rattle.units.proofs.Bools.{both}
 use Rattle.answers.specs.Answers.{isDone}
-use Rattle.states.specs.States.{inRange, recordOk, longestOf, stateOk}
+use Rattle.states.specs.States.{recordOk, longestOf, stateOk}
 use Rattle.states.specs.declared.Record.{Record}
 use Rattle.states.specs.declared.State.{State}
 use Rattle.answers.specs.declared.Answer.the-variants.{Done}
 use Rattle.commands.specs.declared.Command.{Command}
 use Rattle.commands.specs.declared.Command.the-variants.{WriteEnable, WriteDisable, ReadStatus, WriteStatus, Read, FastRead, EraseSector, EraseBlock, EraseChip, Program, ReadId, Wake, ReadMaker, Sleep, Unknown}
-use Rattle.states.proofs.States.{sound, highest-bp, status-write-le, page-le, sector-le, block-le, chip-le}
+use Rattle.states.proofs.States.{sound, highest-bp, longest-in-range, status-write-le, page-le, sector-le, block-le, chip-le}
 use Rattle.ladder.specs.Ladder.{refusalOf}
 use Rattle.ladder.specs.declared.Head.{Head}
 use Rattle.ladder.proofs.Passed.{passed}
 use Rattle.effects.specs.declared.Reply.{Reply}
-use Rattle.effects.specs.Effects.{stateOnly, drives, latched, dozing, working, written, readStatus, readFrom, eraseSector, eraseBlock, eraseChip, programPage, readId, wake, readMaker}
-use Rattle.chip.specs.Frames.{headOf, acceptedOf, frameOf}
+use Rattle.effects.specs.Effects.{stateOnly, drives, latched, dozing, working, written, readStatus, readFrom, eraseSector, eraseBlock, eraseChip, programPage, readId, wake, readMaker, Effect}
+use Rattle.chip.specs.Frames.{Chip, Sent, headOf, refusedOf, frameOf}
+use Rattle.chip.proofs.Ways.{Way, accepts, refuses, way}
 use Rattle.time.specs.Time.{later, cycled, ifValid}
-use Rattle.chip.proofs.Sorts.{Move, stays, latches, dozes, works, writes, kind, is-done, moves}
+use Rattle.chip.proofs.Sorts.{Asked, Move, stays, latches, dozes, works, writes, kind, is-done, moves}
 use Rattle.pod.specs.Packing.{isPacking, noState, unpackOf}
 use Rattle.pod.proofs.Packing.{Small, unpack-none}
 
@@ -40,25 +37,11 @@ valid-packing rec xs v = go (isPacking xs) refl
     go true e = e
     go false e = absurd (nothing-valid rec (rw (unpack-none xs e) at v))
 
-at-most : (us : ℕ) → inRange us ≡ true → us ≤ 1000000000
-unfolding inRange
-at-most us e = leb-true us 1000000000 (both (leb 1 us) (leb us 1000000000) e .1)
-
-longest-bound : (r : Record) → recordOk r ≡ true → longestOf r ≤ 1000000000
-unfolding recordOk longestOf
-longest-bound r e =
-    let a = both (isModel (r .model)) _ e in
-    let b = both (inRange (r .«status_write»)) _ (a .1) in
-    let c = both (inRange (r .page)) _ (b .1) in
-    let d = both (inRange (r .sector)) _ (c .1) in
-    let f = both (inRange (r .block)) _ (d .1) in
-    omega (arith, at-most _ (b .0), at-most _ (c .0), at-most _ (d .0), at-most _ (f .0), at-most _ (f .1))
-
 pub valid-small : (rec : Record) (s : State) → recordOk rec ≡ true → stateOk rec s ≡ true → Small s
 valid-small rec s r v =
     record {
       level = omega (arith, sound rec s v .level, highest-bp (rec .model));
-      short = omega (arith, sound rec s v .time, longest-bound rec r);
+      short = omega (arith, sound rec s v .time, longest-in-range rec r .short);
     }
 
 -- ---- waits and power cycles
@@ -99,9 +82,9 @@ pub record Done-small (r : Reply) : Type 0 where
   pub done : isDone (r .answer) ≡ true
   pub small : Small (r .state)
 
-module _ (rec : Record) (s : State) (cells : List ℕ) (at : Address) (bytes out : List ℕ) (ok : recordOk rec ≡ true) (h : Small s) where
+module _ (rec : Record) (s : State) (ok : recordOk rec ≡ true) (h : Small s) where
   busy-for : (us : ℕ) → us ≤ longestOf rec → us < 2 ^ 32
-  busy-for us l = omega (arith, longest-bound rec ok)
+  busy-for us l = omega (arith, longest-in-range rec ok .short)
 
   works-small : (us : ℕ) → us ≤ longestOf rec → Small (working s us)
   unfolding working
@@ -116,36 +99,27 @@ module _ (rec : Record) (s : State) (cells : List ℕ) (at : Address) (bytes out
   moved (writes b us l w a) = record { level = omega arith; short = busy-for us l }
 
 -- ---- frames
-module _ (rec : Record) (s : State) (cells bytes : List ℕ) (tail : ℕ) (wp : Bool) (out : List ℕ) where
-  abbrev H : Head
-  H = headOf (rec .model) bytes tail wp
+-- what an accepted frame has shown, and its reply
+pub record Taken (rec : Record) (x : Chip) (f : Sent) : Type 0 where
+  pub valid : stateOk rec (x .state) ≡ true
+  pub replied : Done-small (frameOf rec x f .reply)
 
-  pub record Taken : Type 0 where
-    pub valid : stateOk rec s ≡ true
-    pub replied : Done-small (frameOf rec s cells bytes tail wp out .reply)
+module _ {rec : Record} {x : Chip} {f : Sent} where
+  way-small : {e : Effect} → Way rec x f e → isDone (e .reply .answer) ≡ true → (stateOk rec (x .state) ≡ true) × Done-small (e .reply)
+  way-small (accepts p) d =
+      let h = headOf rec x f in
+      let k = kind rec x (h .address) (f .bytes) (f .out) (h .command) in
+      let q : Asked (x .state) (h .command) = record { listens = p .listens; awake = p .awake; enabled = p .enabled } in
+      (p .valid, record { done = d; small = moved rec (x .state) (p .right) (valid-small rec (x .state) (p .right) (p .valid)) (moves k q) })
+  way-small (refuses a n) d = absurd (true≢false (sym d ∙ n))
 
-  goes : isDone (refusalOf rec s (length cells) H (length out)) ≡ true → Taken
-  unfolding frameOf
-  goes e =
-      let p = passed rec s (length cells) H (length out) e in
-      let k = kind rec s cells (H .address) bytes out (H .command) in
-      record { valid = p .valid; replied = rw e (record { done = is-done k; small = moved rec s cells (H .address) bytes out (p .right) (valid-small rec s (p .right) (p .valid)) (moves k (record { listens = p .listens; awake = p .awake; enabled = p .enabled })) }) }
+  way-refused : {e : Effect} → Way rec x f e → isDone (e .reply .answer) ≡ false → e ≡ refusedOf (e .reply .answer) x f
+  way-refused (accepts p) d = absurd (true≢false (sym (is-done (kind rec x (headOf rec x f .address) (f .bytes) (f .out) (headOf rec x f .command))) ∙ d))
+  way-refused (refuses a n) d = refl
 
-  pub taken : isDone (frameOf rec s cells bytes tail wp out .reply .answer) ≡ true → Taken
-  unfolding frameOf
-  taken d = go (isDone (refusalOf rec s (length cells) H (length out))) refl
-    where
-      go : (b : Bool) → isDone (refusalOf rec s (length cells) H (length out)) ≡ b → Taken
-      go true e = goes e
-      go false e = absurd (true≢false (sym (rw e at d) ∙ e))
+pub taken : (rec : Record) (x : Chip) (f : Sent) → isDone (frameOf rec x f .reply .answer) ≡ true → Taken rec x f
+taken rec x f d = let s = way-small (way rec x f) d in record { valid = s .0; replied = s .1 }
 
-  -- a refusal changes nothing
-  pub refused : isDone (frameOf rec s cells bytes tail wp out .reply .answer) ≡ false
-      → frameOf rec s cells bytes tail wp out ≡ stateOnly (frameOf rec s cells bytes tail wp out .reply .answer) s cells out
-  unfolding frameOf
-  refused d = go (isDone (refusalOf rec s (length cells) H (length out))) refl
-    where
-      go : (b : Bool) → isDone (refusalOf rec s (length cells) H (length out)) ≡ b
-          → frameOf rec s cells bytes tail wp out ≡ stateOnly (frameOf rec s cells bytes tail wp out .reply .answer) s cells out
-      go true e = absurd (true≢false (sym (goes e .replied .done) ∙ d))
-      go false e = rw e
+-- a refusal changes nothing
+pub refused : (rec : Record) (x : Chip) (f : Sent) → isDone (frameOf rec x f .reply .answer) ≡ false → frameOf rec x f ≡ refusedOf (frameOf rec x f .reply .answer) x f
+refused rec x f d = way-refused (way rec x f) d

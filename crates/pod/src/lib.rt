@@ -5,7 +5,7 @@ ghost use Prim.Native.Nat.{_≤_};
 ghost use lib.ListN.{length};
 ghost use Rattle.answers.specs.Answers.{numberOf};
 ghost use Rattle.pod.specs.Packing.{spelt, packOf, unpackOf, noState};
-ghost use Rattle.pod.specs.Calls.{recordOf, keptOf, Fits, Leaves, Answers, calledFrame, calledWait, calledCycle};
+ghost use Rattle.pod.specs.Calls.{recordOf, keptOf, Packs, Leaves, sentBy, Answers, calledFrame, calledWait, calledCycle};
 use answers::Answer;
 use states::Record;
 use states::State;
@@ -81,7 +81,7 @@ fn pack(st: State, state: &mut [u8])
 
 // The answer's number. The state after is packed where nothing was refused; otherwise the lent bytes stay.
 fn keep(answer: Answer, next: State, state: &mut [u8]) -> u32
-    requires { ⌜ Fits answer next (now state) ⌝ }
+    requires { ⌜ Packs answer next (now state) ⌝ }
     ensures { λ r. ⌜ (r ≡ numberOf answer) × (now (state .exit) ≡ keptOf answer next (now (state .entry))) ⌝ }
 {
     let number = answers::number_of(answer);
@@ -131,9 +131,14 @@ pub extern "C" fn gwo_frame(
     from: &mut u32,
     count: &mut u32,
 ) -> u32
-    ensures { λ r. ⌜ Leaves (calledFrame (recordOf model «status_us» «page_us» «sector_us» «block_us» «chip_us») (now (state .entry)) (now (array .entry)) (now (frame .entry)) tail wp (now (out .entry))) r (now (state .exit)) (now (array .exit)) (now (out .exit)) (now (from .exit)) (now (count .exit)) ⌝ }
+    ensures { λ r. ⌜ Leaves (calledFrame (recordOf model «status_us» «page_us» «sector_us» «block_us» «chip_us») (now (state .entry)) (now (array .entry)) (sentBy (now (frame .entry)) tail wp (now (out .entry)))) r (now (state .exit)) (now (array .exit)) (now (out .exit)) (now (from .exit)) (now (count .exit)) ⌝ }
 {
     let rec = record_of(model, status_us, page_us, sector_us, block_us, chip_us);
+    if !states::record_ok(rec) {
+        *from = 0;
+        *count = 0;
+        return 1;
+    }
     let st = unpack(state);
     let reply = chip::frame(rec, st, array, frame, tail, wp != 0, out);
     *from = reply.from;

@@ -31,10 +31,10 @@ use Rattle.chip.specs.Frames.{Chip, headFor, acceptedOf, refusedOf}
 use Rattle.chip.specs.Units.{drivenBytes}
 use Rattle.time.specs.Time.{later, cycled, ifValid, waitOf, powerOf}
 use Rattle.effects.proofs.Fits.{page-fits}
-use Rattle.chip.proofs.Sorts.{is-done, counts, changes-only}
+use Rattle.chip.proofs.Sorts.{is-done, counts}
 use Rattle.promises.specs.Laws.{WaitsAdd, RefusedFrame, RefusedWait, RefusedCycle, OnlyItsUnit, ProgramFalls, OneOutcome, OneEffect, OneWait, OneCycle}
 use Rattle.promises.specs.Pods.{NumberFixed}
-use Rattle.promises.proofs.Cases.{head, frame-cases, sort, shown-ready}
+use Rattle.promises.proofs.Cases.{head, frame-cases, sort, inside, whole, only}
 use Rattle.promises.proofs.Valid.{later-sound}
 use Rattle.promises.proofs.Steps.{wait-taken}
 
@@ -95,7 +95,7 @@ waits-add rec s a b = go (recordOk rec) refl (stateOk rec s) refl
 pub refused : RefusedFrame
 refused rec x f =
     frame-cases rec x f (λ (e : Effect). isDone (e .reply .answer) ≡ false → e ≡ refusedOf (e .reply .answer) x f)
-    (λ d q. absurd (true≢false (sym (is-done (sort rec x f)) ∙ q))) (λ d q. refl)
+    (λ p q. absurd (true≢false (sym (is-done (sort rec x f)) ∙ q))) (λ a n q. refl)
 
 if-valid-refused : (rec : Record) (s next : State) → isDone (ifValid rec s next .answer) ≡ false → ifValid rec s next .state ≡ s
 unfolding ifValid
@@ -119,7 +119,7 @@ refused-cycle rec s d = if-valid-refused rec s (cycled s) d
 pub only-its-unit : OnlyItsUnit
 only-its-unit rec x f k o =
     frame-cases rec x f (λ (e : Effect). getD (e .cells) k 0 ≡ getD (x .cells) k 0)
-    (λ d. let r = shown-ready rec x f d in changes-only (sort rec x f) (r .inside) (r .whole) .rest k o) (λ d. refl)
+    (λ p. only rec x f p .rest k o) (λ a n. refl)
 
 -- ---- programs
 falls-in : (cells : List ℕ) (at : Address) (sent : List ℕ) (b k : ℕ) → pageStart at + 256 ≤ length cells → bit b (getD (programmed cells at sent) k 0) ≤ bit b (getD cells k 0)
@@ -154,12 +154,10 @@ program-case rec x c at bytes out b k e h =
 
 pub program-falls : ProgramFalls
 program-falls rec x f b k e =
-    frame-cases rec x f (λ (g : Effect). bit b (getD (g .cells) k 0) ≤ bit b (getD (x .cells) k 0))
-    (λ d.
     let at = head rec x f .address in
-    let r = shown-ready rec x f d in
-    program-case rec x (head rec x f .command) at (f .bytes) (f .out) b k e (page-fits rec (x .cells) at (r .inside) (r .whole)))
-    (λ d. le-refl (bit b (getD (x .cells) k 0)))
+    frame-cases rec x f (λ (g : Effect). bit b (getD (g .cells) k 0) ≤ bit b (getD (x .cells) k 0))
+    (λ p. program-case rec x (head rec x f .command) at (f .bytes) (f .out) b k e (page-fits rec (x .cells) at (inside rec x f p) (whole rec x f p)))
+    (λ a n. le-refl (bit b (getD (x .cells) k 0)))
 
 -- ---- no second answer
 pub one-outcome : OneOutcome
@@ -180,5 +178,5 @@ unfolding headFor
 number-fixed rec x f r xs os g d =
     ap (λ (q : Reply). q .count) (g .reply)
     ∙ frame-cases rec x f (λ (e : Effect). isDone (e .reply .answer) ≡ true → e .reply .count ≡ drivenBytes (decodeOf (getD (f .bytes) 0 0)) (length (f .bytes)))
-    (λ e p. counts (sort rec x f)) (λ e p. absurd (true≢false (sym p ∙ e)))
+    (λ p q. counts (sort rec x f)) (λ a n q. absurd (true≢false (sym q ∙ n)))
     (sym (ap (λ (q : Reply). isDone (q .answer)) (g .reply)) ∙ d)

@@ -1,19 +1,15 @@
 -- The first wait cannot be shorter: calls from power-on lead to a chip that is then still busy. Assumes nothing.
 use mathlib.Core.Path.{_≡_, refl, sym, ap, subst, _∙_}
-use mathlib.Core.Bool.{Bool, true, false}
+use mathlib.Core.Bool.{true}
 use mathlib.Core.List.{List, [], _∷_}
-use mathlib.Core.Logic.{_⊎_, inl, inr, ⊎-elim}
-use Prim.Native.Nat.{ℕ, _≤_, _<_, max}
-use native.Mathlib.Nat.{max-eq-left, max-eq-right}
-use native.Mathlib.Omega.{arith}
-use lib.Dec.{leb, lit≤}
+use Prim.Native.Nat.{ℕ, _<_}
+use lib.Dec.{lit≤}
 use lib.ListN.{length, replicate}
-use borrow.Author.Tests.{leb-true, leb-false}
 use Rattle.units.specs.Models.{modelOf, addressOf}
 use Rattle.states.specs.States.{recordOk, longestOf, powerOn}
 use Rattle.states.specs.declared.Record.{Record}
 use Rattle.answers.specs.declared.Answer.the-variants.{Done}
-use Rattle.states.proofs.States.{times}
+use Rattle.states.proofs.States.{times, longest-in-range, by-longest}
 use Rattle.effects.specs.Effects.{Effect, stateOnly, changed, written, working, eraseSector, eraseBlock, eraseChip, programPage}
 use Rattle.chip.specs.Frames.{Chip, chipOf, frameOf}
 use Rattle.promises.specs.Calls.{Call, sends, ours, left, run}
@@ -77,24 +73,8 @@ module _ (rec : Record) (cells : List ℕ) (j : Job) (e : recordOk rec ≡ true)
       by (0xC7 ∷ []) (changed room (eraseChip rec enabled cells)) (rec .chip)
       (chip-taken rec armed (arms .bench) refl room refl refl refl (lit≤ tt)) refl refl (times rec e .chip) m
 
--- the longest of several is one of them
-larger : (a b : ℕ) → (max a b ≡ a) ⊎ (max a b ≡ b)
-larger a b = go (leb a b) refl
-  where
-    go : (t : Bool) → leb a b ≡ t → (max a b ≡ a) ⊎ (max a b ≡ b)
-    go true e = inr (max-eq-right (leb-true a b e))
-    go false e = inl (max-eq-left (omega (arith, leb-false a b e)))
-
+-- the longest of the times is one of them
 pub reached-first : ReachedFirst
-unfolding longestOf
 reached-first rec cells j e l f =
-    let d = max (rec .block) (rec .chip) in
-    let c = max (rec .sector) d in
-    let b = max (rec .page) c in
-    ⊎-elim (λ p. by-status rec cells j e l f p)
-    (λ p. ⊎-elim (λ q. by-page rec cells j e l f (p ∙ q))
-    (λ q. ⊎-elim (λ s. by-sector rec cells j e l f (p ∙ q ∙ s))
-    (λ s. ⊎-elim (λ t. by-block rec cells j e l f (p ∙ q ∙ s ∙ t)) (λ t. by-chip rec cells j e l f (p ∙ q ∙ s ∙ t)) (larger (rec .block) (rec .chip)))
-    (larger (rec .sector) d))
-    (larger (rec .page) c))
-    (larger (rec .«status_write») b)
+    by-longest rec (longest-in-range rec e .some)
+    (by-status rec cells j e l f, (by-page rec cells j e l f, (by-sector rec cells j e l f, (by-block rec cells j e l f, (by-chip rec cells j e l f, tt)))))

@@ -6,7 +6,7 @@ use Prim.Native.Nat.{ℕ, suc, _+_, _-_, _≤_, _<_}
 use native.Mathlib.Omega.{arith}
 use lib.Dec.{eqb, leb, ltb, lit≤, eqb·suc-zero}
 use lib.ListN.{length, getD, drop, replicate}
-use borrow.Author.Tests.{eq-eqb, ne-eqb, le-ltb, le-leb, leb-true}
+use borrow.Author.Tests.{eq-eqb, ne-eqb, le-ltb, leb-true}
 use Rattle.units.specs.declared.Address.{Address}
 use Rattle.units.specs.declared.Block.{Block}
 use Rattle.units.specs.Kinds.{blockOf}
@@ -15,6 +15,8 @@ use Rattle.units.proofs.Rules.{range-rules}
 use Rattle.parts.proofs.Lay.{lay-none}
 use Rattle.answers.specs.Answers.{isDone}
 use Rattle.commands.specs.Commands.{decodeOf, traitsOf, lengthOk}
+use Rattle.commands.specs.declared.Command.the-variants.{Read, Program}
+use Rattle.commands.proofs.Rows.{between, least-on}
 use Rattle.states.specs.States.{recordOk, stateOk}
 use Rattle.states.specs.declared.Record.{Record}
 use Rattle.states.specs.declared.State.{State}
@@ -135,7 +137,7 @@ module _ (rec : Record) (x : Chip) (b : Bench rec x) (z : x .state .busy ≡ 0) 
     unfolding acceptedOf decodeOf traitsOf headFor lengthOk
     program-taken sent a w p n l r =
         taken rec x b (frame (0x02 ∷ high ∷ middle ∷ low ∷ sent) out) (omega arith) (lit≤ tt) r
-        (tests (eqb·suc-zero (suc (suc (suc (length sent))))) (rw (eq-eqb (x .state .busy) 0 z)) (rw a) refl (rw (eqb·suc-zero (suc (suc (suc (length sent)))), le-leb 5 (suc (suc (suc (suc (length sent))))) (omega arith))) (rw w) refl
+        (tests (eqb·suc-zero (suc (suc (suc (length sent))))) (rw (eq-eqb (x .state .busy) 0 z)) (rw a) refl (ap not (between (traitsOf Program) (suc (suc (suc (suc (length sent))))) (omega arith) (omega arith))) (rw w) refl
         (rw (p, unprotected (rec .model) (blockOf to))))
 
     pub read-taken : (more : List ℕ) → x .state .asleep ≡ false → 4 + length more ≤ 65541 → Roomy (frame (0x03 ∷ high ∷ middle ∷ low ∷ more) out)
@@ -144,7 +146,7 @@ module _ (rec : Record) (x : Chip) (b : Bench rec x) (z : x .state .busy ≡ 0) 
     unfolding acceptedOf decodeOf traitsOf headFor lengthOk
     read-taken more a l r =
         taken rec x b (frame (0x03 ∷ high ∷ middle ∷ low ∷ more) out) (omega arith) (lit≤ tt) r
-        (tests (eqb·suc-zero (suc (suc (suc (length more))))) (rw (eq-eqb (x .state .busy) 0 z)) (rw a) refl (rw (eqb·suc-zero (suc (suc (suc (length more)))), le-leb 4 (suc (suc (suc (suc (length more))))) (omega arith))) refl refl refl)
+        (tests (eqb·suc-zero (suc (suc (suc (length more))))) (rw (eq-eqb (x .state .busy) 0 z)) (rw a) refl (ap not (least-on (traitsOf Read) (suc (suc (suc (suc (length more))))) 0 (omega arith))) refl refl refl)
 
     -- the other operations, for a chip that waits too short a time after them
     pub block-taken : x .state .asleep ≡ false → x .state .wel ≡ true → x .state .bp ≡ 0 → 4 ≤ length out

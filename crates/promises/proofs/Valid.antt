@@ -19,10 +19,10 @@ use Rattle.states.proofs.States.{Sound}
 use Rattle.time.specs.declared.After.{After}
 use Rattle.effects.specs.Effects.{Effect, latched, dozing, working, written}
 use Rattle.chip.specs.Frames.{Chip, Sent, frameOf}
-use Rattle.chip.proofs.Sorts.{Move, stays, latches, dozes, works, writes, moves, changes-only}
+use Rattle.chip.proofs.Sorts.{Move, stays, latches, dozes, works, writes, moves}
 use Rattle.time.specs.Time.{later, cycled, ifValid, waitOf, powerOf}
 use Rattle.promises.specs.Calls.{Call, sends, waits, cycles, ours, after}
-use Rattle.promises.proofs.Cases.{frame-cases, sort, shown-ready, shown-asked}
+use Rattle.promises.proofs.Cases.{frame-cases, sort, asked, only}
 
 -- a status write gives a BP that every model has
 bpOfTwoBits : Part → Bool
@@ -83,12 +83,12 @@ module _ (rec : Record) (x : Chip) (f : Sent) where
   frame-sound : Sound rec (x .state) → Sound rec (frameOf rec x f .reply .state)
   frame-sound p =
       frame-cases rec x f (λ (e : Effect). Sound rec (e .reply .state))
-      (λ d. moved-sound rec (x .state) p (moves (sort rec x f) (shown-asked rec x f d))) (λ d. p)
+      (λ q. moved-sound rec (x .state) p (moves (sort rec x f) (asked rec x f q))) (λ a n. p)
 
   frame-length : length (frameOf rec x f .cells) ≡ length (x .cells)
   frame-length =
       frame-cases rec x f (λ (e : Effect). length (e .cells) ≡ length (x .cells))
-      (λ d. let r = shown-ready rec x f d in changes-only (sort rec x f) (r .inside) (r .whole) .long) (λ d. refl)
+      (λ q. only rec x f q .long) (λ a n. refl)
 
 if-valid-sound : (rec : Record) (s next : State) → Sound rec s → Sound rec next → Sound rec (ifValid rec s next .state)
 unfolding ifValid

@@ -84,7 +84,3 @@ repeat-back from end xs ys p l m e =
 -- and read out of a block of 96 bytes
 pub block-read : (p block d out : List ℕ) (from n : ℕ) → 0 < length p → length p ≤ 3 → block ≡ ring p 0 96 → out ≡ lay d from (ring block 0 n) → out ≡ lay d from (ring p 0 n)
 block-read p block d out from n l m e f = f ∙ ap (lay d from) (ap (λ (z : List ℕ). ring z 0 n) e ∙ ring-ring p 96 n (omega arith) (divides (length p) l m))
-
--- a read from an address modulo the length is the read from the address
-pub mod-read : (xs d out : List ℕ) (a from n : ℕ) → out ≡ lay d from (ring xs (a % length xs) n) → out ≡ lay d from (ring xs a n)
-mod-read xs d out a from n e = e ∙ ap (lay d from) (ring-mod xs a n)

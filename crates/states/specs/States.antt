@@ -1,23 +1,33 @@
 -- Records, states and the status byte: 01, "Record, state, frame". Assumes nothing.
 use mathlib.Core.Bool.{Bool, true, false, not, _&&_, _||_}
+use mathlib.Core.List.{List, [], _∷_}
 use Prim.Native.Nat.{ℕ, _+_, _*_, max}
 use lib.Dec.{eqb, leb}
 use Rattle.units.specs.Models.{isModel, modelOf}
 use Rattle.states.specs.declared.Record.{Record}
 use Rattle.states.specs.declared.State.{State}
 
--- a busy time is 1 to 1,000,000,000 microseconds
+-- the busy times
+abbrev pub timesOf : Record → List ℕ
+timesOf r = r .«status_write» ∷ r .page ∷ r .sector ∷ r .block ∷ r .chip ∷ []
+
+-- each is 1 to 1,000,000,000 microseconds
 unfoldable pub inRange : ℕ → Bool
 inRange us = leb 1 us && leb us 1000000000
 
+abbrev pub all : (ℕ → Bool) → List ℕ → Bool
+all test [] = true
+all test (us ∷ more) = test us && all test more
+
 unfoldable pub recordOk : Record → Bool
-recordOk r =
-    isModel (r .model)
-    && (inRange (r .«status_write»)
-    && (inRange (r .page) && (inRange (r .sector) && (inRange (r .block) && inRange (r .chip)))))
+recordOk r = isModel (r .model) && all inRange (timesOf r)
+
+abbrev pub largest : List ℕ → ℕ
+largest [] = 0
+largest (us ∷ more) = max us (largest more)
 
 unfoldable pub longestOf : Record → ℕ
-longestOf r = max (r .«status_write») (max (r .page) (max (r .sector) (max (r .block) (r .chip))))
+longestOf r = largest (timesOf r)
 
 -- BP is in its range, the busy time is at most the longest, and a busy chip has WEL set and is not in deep power-down
 unfoldable pub stateOk : Record → State → Bool
@@ -26,12 +36,12 @@ stateOk r s =
     && (eqb (s .busy) 0 || (s .wel && not (s .asleep)))
 
 -- 128·SRWD + 4·BP + 2·WEL + WIP, and WIP is 1 exactly when busy time is left (000 L250-253, 004 M289)
-abbrev pub bit : Bool → ℕ → ℕ
-bit true value = value
-bit false value = 0
+abbrev pub flag : Bool → ℕ → ℕ
+flag true value = value
+flag false value = 0
 
 unfoldable pub statusOf : State → ℕ
-statusOf s = bit (s .srwd) 128 + (4 * s .bp + (bit (s .wel) 2 + bit (not (eqb (s .busy) 0)) 1))
+statusOf s = flag (s .srwd) 128 + (4 * s .bp + (flag (s .wel) 2 + flag (not (eqb (s .busy) 0)) 1))
 
 -- power-on from the factory (000 L548)
 abbrev pub powerOn : State

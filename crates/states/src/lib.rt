@@ -1,7 +1,7 @@
 // Records, states and the status byte.
 ghost use mathlib.Core.Path.{_≡_};
 ghost use Prim.Native.Nat.{max, _<_, _≤_};
-ghost use Rattle.states.specs.States.{inRange, recordOk, longestOf, stateOk, bit as States·bit, statusOf, powerOn, benchKH25L512, benchKH25L2006E};
+ghost use Rattle.states.specs.States.{inRange, recordOk, longestOf, stateOk, flag as States·flag, statusOf, powerOn, benchKH25L512, benchKH25L2006E};
 
 // The model's number, and the five busy times in microseconds.
 pub struct Record {
@@ -66,8 +66,8 @@ pub fn state_ok(rec: Record, st: State) -> bool
     (level & (st.busy <= longest(rec))) & (st.wel & !st.asleep)
 }
 
-fn bit(on: bool, value: u8) -> u8
-    ensures { λ r. ⌜ (r ≡ States·bit on value) × (r ≤ value) ⌝ }
+fn flag(on: bool, value: u8) -> u8
+    ensures { λ r. ⌜ (r ≡ States·flag on value) × (r ≤ value) ⌝ }
 {
     if on { value } else { 0 }
 }
@@ -77,7 +77,7 @@ pub fn status(st: State) -> u8
     requires { ⌜ st .bp < 32 ⌝ }
     ensures { λ r. ⌜ r ≡ statusOf st ⌝ }
 {
-    bit(st.srwd, 128) + (4 * st.bp + (bit(st.wel, 2) + bit(st.busy != 0, 1)))
+    flag(st.srwd, 128) + (4 * st.bp + (flag(st.wel, 2) + flag(st.busy != 0, 1)))
 }
 
 // The state of a chip from the factory.

@@ -7,7 +7,7 @@ use Rattle.parts.specs.Parts.{part}
 use Rattle.states.specs.declared.Record.{Record}
 use Rattle.states.specs.declared.State.{State}
 use Rattle.text.specs.Put.{Put}
-use Rattle.log.specs.Row.{logText}
+use Rattle.log.specs.Row.{logText, longestRow}
 use Rattle.chip.specs.Frames.{chipOf}
 use Rattle.play.specs.Play.{Turn, playOf}
 use Rattle.stepper.specs.declared.Logged.{Logged}
@@ -24,9 +24,14 @@ rowText rec s cells number line =
 -- the row was put into d from `at` on, which makes it e; and the state and the array are the line's
 pub record Logs (rec : Record) (s : State) (cells : List ℕ) (number : ℕ) (line d : List ℕ) (at : ℕ) (r : Logged) (xs e : List ℕ) : Type 0 where
   pub row : Put (rowText rec s cells number line) d at e (r .next)
-  pub most : r .next ≤ at + 665
+  pub most : r .next ≤ at + longestRow
   pub state : r .state ≡ lineTurn rec s cells line .played .state
   pub cells′ : xs ≡ lineTurn rec s cells line .cells
+
+-- no second answer
+abbrev pub OneLogs : Type 0
+OneLogs = (rec : Record) (s : State) (cells : List ℕ) (number : ℕ) (line d : List ℕ) (at : ℕ) (r r′ : Logged) (xs xs′ e e′ : List ℕ)
+    → Logs rec s cells number line d at r xs e → Logs rec s cells number line d at r′ xs′ e′ → (r ≡ r′) × (xs ≡ xs′) × (e ≡ e′)
 
 -- the log of lines, of which the first has the number n; numbers wrap after 18,446,744,073,709,551,615
 abbrev pub next : ℕ → ℕ

@@ -12,3 +12,8 @@ pub record Steps (t : Turn) (r : Played) (s : State) (xs os : List ℕ) : Type 0
   pub state : s ≡ t .played .state
   pub cells : xs ≡ t .cells
   pub shown : os ≡ t .shown
+
+-- no second answer
+abbrev pub OneSteps : Type 0
+OneSteps = (t : Turn) (r r′ : Played) (s s′ : State) (xs xs′ os os′ : List ℕ) → Steps t r s xs os → Steps t r′ s′ xs′ os′
+    → (r ≡ r′) × (s ≡ s′) × (xs ≡ xs′) × (os ≡ os′)

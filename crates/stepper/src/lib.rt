@@ -5,6 +5,7 @@ ghost use Prim.Native.Nat.{_+_, _≤_};
 ghost use lib.ListN.{length};
 ghost use Rattle.chip.specs.Frames.{chipOf};
 ghost use Rattle.play.specs.Play.{Plays, playOf};
+ghost use Rattle.log.specs.Row.{longestRow};
 ghost use Rattle.stepper.specs.Steps.{Steps};
 ghost use Rattle.stepper.specs.Rows.{Logs};
 use play::Played;
@@ -50,7 +51,7 @@ pub fn log_line(
     log: &mut [u8],
     at: usize,
 ) -> Logged
-    requires { ⌜ at + 665 ≤ length (now log) ⌝ }
+    requires { ⌜ at + longestRow ≤ length (now log) ⌝ }
     ensures { λ r. ⌜ Logs rec st (now (array .entry)) number (now (line .entry)) (now (log .entry)) at r (now (array .exit)) (now (log .exit)) ⌝ }
 {
     let mut shown = [0u8; 300];

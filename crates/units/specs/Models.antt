@@ -1,9 +1,10 @@
 -- The models as rows of one table, and what is read off a row. Assumes nothing.
 use mathlib.Core.Bool.{Bool, true, false, _&&_, _||_, cond}
 use mathlib.Core.List.{List, [], _∷_}
-use Prim.Native.Nat.{ℕ, _+_, _*_, _%_}
+use mathlib.Core.Path.{_≡_}
+use Prim.Native.Nat.{ℕ, _+_, _*_, _%_, _<_}
 use lib.Dec.{eqb, ltb, leb}
-use lib.ListN.{getD}
+use lib.ListN.{length, getD}
 use Rattle.units.specs.declared.Address.{Address}
 use Rattle.units.specs.declared.Block.{Block}
 use Rattle.units.specs.declared.Model.{Model}
@@ -65,6 +66,11 @@ isLength bytes = some (λ (p : Part). eqb bytes (p .row .length)) models
 -- A record with another number is refused before its row is looked at: there any row would do, and it is the first.
 unfoldable pub partOf : ℕ → Part
 partOf n = find n kh25l512 models
+
+-- k is the place of the number's part in the table
+pub record Placed (n k : ℕ) : Type 0 where
+  pub below : k < length models
+  pub there : getD models k kh25l512 ≡ partOf n
 
 abbrev pub modelOf : ℕ → Model
 modelOf n = partOf n .row

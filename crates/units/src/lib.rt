@@ -2,7 +2,7 @@
 ghost use mathlib.Core.Path.{_≡_};
 ghost use Prim.Native.Nat.{_<_};
 ghost use Rattle.units.specs.Kinds.{sectorOf, blockOf, pageStart, pageOffset, blockOfSector, sectorStart, blockStart};
-ghost use Rattle.units.specs.Models.{isModel, isLength, modelOf, addressOf, rangeOf, isProtected};
+ghost use Rattle.units.specs.Models.{isModel, isLength, Placed, modelOf, addressOf, rangeOf, isProtected};
 
 // A byte address, a sector number and a block number: three kinds, so that none passes for another.
 pub struct Address(pub u32);
@@ -83,6 +83,30 @@ pub struct Model {
 // Protected blocks: the first, and how many.
 pub struct Range(pub u32, pub u32);
 
+// The models' rows, in the order of their numbers: 1, 2, ..
+const MODELS: [Model; 2] = [
+    Model {
+        length: 65536,
+        sectors: 16,
+        blocks: 1,
+        highest_bp: 3,
+        maker: 0xC2,
+        family: 0x20,
+        density: 0x10,
+        signature: 0x05,
+    },
+    Model {
+        length: 262144,
+        sectors: 64,
+        blocks: 4,
+        highest_bp: 3,
+        maker: 0xC2,
+        family: 0x20,
+        density: 0x12,
+        signature: 0x11,
+    },
+];
+
 // Whether a model has that number.
 pub fn is_model(number: u32) -> bool
     ensures { λ r. ⌜ r ≡ isModel number ⌝ }
@@ -97,33 +121,23 @@ pub fn is_length(bytes: usize) -> bool
     (bytes == 65536) | (bytes == 262144)
 }
 
+// The place of a model's row in the table; of a number that no model has, the first.
+fn place(number: u32) -> usize
+    ensures { λ r. ⌜ Placed number r ⌝ }
+{
+    if is_model(number) {
+        number as usize - 1
+    } else {
+        0
+    }
+}
+
 // The row of the model of that number; of a number that no model has, the first row.
 pub fn model_of(number: u32) -> Model
     ensures { λ r. ⌜ r ≡ modelOf number ⌝ }
 {
-    if number == 2 {
-        Model {
-            length: 262144,
-            sectors: 64,
-            blocks: 4,
-            highest_bp: 3,
-            maker: 0xC2,
-            family: 0x20,
-            density: 0x12,
-            signature: 0x11,
-        }
-    } else {
-        Model {
-            length: 65536,
-            sectors: 16,
-            blocks: 1,
-            highest_bp: 3,
-            maker: 0xC2,
-            family: 0x20,
-            density: 0x10,
-            signature: 0x05,
-        }
-    }
+    let at = place(number);
+    MODELS[at]
 }
 
 // The address of three bytes, high byte first, modulo the array's length.
@@ -140,17 +154,10 @@ fn wide(byte: u8) -> u32
     byte as u32
 }
 
-// The protected ranges, (first block, blocks) by BP 0 to 3, model after model.
-const RANGES: [Range; 8] = [
-    Range(1, 0),
-    Range(0, 1),
-    Range(0, 1),
-    Range(0, 1),
-    Range(4, 0),
-    Range(3, 1),
-    Range(2, 2),
-    Range(0, 4),
-];
+// The protected ranges by BP 0 to 3, model after model: the first block, and how many blocks.
+const FIRST_BLOCK: [u32; 8] = [1, 0, 0, 0, 4, 3, 2, 0];
+
+const BLOCKS: [u32; 8] = [0, 1, 1, 1, 0, 1, 2, 4];
 
 // The protected range of a model at a BP; of a BP that it does not have, none.
 pub fn range_of(number: u32, bp: u8) -> Range
@@ -159,12 +166,8 @@ pub fn range_of(number: u32, bp: u8) -> Range
     if bp > 3 {
         return Range(0, 0);
     }
-    if number == 2 {
-        let row = 4 + bp as usize;
-        return RANGES[row];
-    }
-    let row = bp as usize;
-    RANGES[row]
+    let at = place(number) * 4 + bp as usize;
+    Range(FIRST_BLOCK[at], BLOCKS[at])
 }
 
 // Whether the block is in the protected range.

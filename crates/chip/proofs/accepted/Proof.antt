@@ -14,11 +14,11 @@ read-status-requires c κs = (omega (arith, c .before .before .before .before .b
 
 read-from-requires : tie.Need-read-from-requires
 unfolding traitsOf
-read-from-requires c κs = (omega (arith, c .before .before .before .before .before .before .before .pre .inside), room-at (c .before .before .enum-told5 .given .1) (c .before .before .before .before .before .before .before .pre .fits))
+read-from-requires c κs = (c .before .before .before .before .before .before .before .pre .inside, room-at (c .before .before .enum-told5 .given .1) (c .before .before .before .before .before .before .before .pre .fits))
 
 read-from-requires-2 : tie.Need-read-from-requires-2
 unfolding traitsOf
-read-from-requires-2 c κs = (omega (arith, c .before .before .before .before .before .before .before .pre .inside), room-at (c .before .before .enum-told6 .given .1) (c .before .before .before .before .before .before .before .pre .fits))
+read-from-requires-2 c κs = (c .before .before .before .before .before .before .before .pre .inside, room-at (c .before .before .enum-told6 .given .1) (c .before .before .before .before .before .before .before .pre .fits))
 
 program-page-requires : tie.Need-program-page-requires
 unfolding traitsOf

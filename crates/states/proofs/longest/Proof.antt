@@ -1,4 +1,5 @@
 -- `states::longest` meets its contract. Assumes nothing.
+use native.Mathlib.Nat.{max-zero}
 use Rattle.states.specs.States.{longestOf}
 use borrow.Author.Needs.{needs}
 use Rattle.states.proofs.longest.Statement.{statement}
@@ -6,7 +7,9 @@ use Rattle.states.proofs.longest.Tie as tie
 
 returns : tie.Need-returns
 unfolding longestOf
-returns c = cc
+returns c =
+    let a = c .before .before .before in
+    rw (c .larger4 .ensures, c .before .larger3 .ensures, c .before .before .larger2 .ensures, a .larger .ensures, max-zero (a .before .args .rec .chip))
 
 pub longest-spec : {M : Type 1} → statement M
 longest-spec =

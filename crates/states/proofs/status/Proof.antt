@@ -6,7 +6,7 @@ use Rattle.states.proofs.status.Tie as tie
 
 returns : tie.Need-returns
 unfolding statusOf
-returns c = rw (c .before .before .before .before .bit .ensures .0, c .before .before .bit2 .ensures .0, c .bit3 .ensures .0)
+returns c = rw (c .before .before .before .before .flag .ensures .0, c .before .before .flag2 .ensures .0, c .flag3 .ensures .0)
 
 pub status-spec : {M : Type 1} → statement M
 status-spec =
