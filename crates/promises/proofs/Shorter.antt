@@ -13,7 +13,7 @@ use Rattle.states.specs.States.{recordOk, stateOk, longestOf}
 use Rattle.states.specs.declared.Record.{Record}
 use Rattle.states.specs.declared.State.{State}
 use Rattle.answers.specs.declared.Answer.the-variants.{Busy}
-use Rattle.states.proofs.States.{valid, times, status-write-le}
+use Rattle.states.proofs.States.{valid, times, longest-in-range}
 use Rattle.chip.specs.Frames.{Chip, Sent, chipOf}
 use Rattle.time.specs.Time.{later}
 use Rattle.promises.specs.Calls.{Call, sends, waits, ours, answer}
@@ -75,6 +75,5 @@ still rec cells j time p e b f =
 pub shorter-first : ShorterFirst
 shorter-first rec cells j e l f =
     let s : State = running (longestOf rec) in
-    let some : 0 < longestOf rec = omega (arith, times rec e .status, status-write-le rec) in
     let v : stateOk rec s ≡ true = valid rec s (record { level = omega arith; time = le-refl (longestOf rec); mood = inr (refl, refl) }) in
-    (s, v, still rec cells j (longestOf rec) some refl (record { right = e; whole = l; valid = v }) f)
+    (s, v, still rec cells j (longestOf rec) (longest-in-range rec e .some) refl (record { right = e; whole = l; valid = v }) f)
