@@ -3,19 +3,19 @@ use mathlib.Core.Path.{_≡_, refl, sym, ap, subst, _∙_}
 use mathlib.Core.Bool.{Bool, true, false, _&&_, cond, true≢false, false≢true}
 use mathlib.Core.List.{List, [], _∷_, _++_, map}
 use mathlib.Core.Logic.{⊎-elim}
-use Prim.Native.Nat.{ℕ, zero, suc, _+_, _*_, _-_, _/_, _%_, _≤_, _<_}
+use Prim.Native.Nat.{ℕ, zero, suc, _+_, _*_, _-_, _/_, _%_, _^_, _≤_, _<_}
 use native.Mathlib.Nat.{not-suc-le-zero, le-of-suc-le-suc, zero-add, add-suc, suc-add}
 use native.Mathlib.Omega.{arith}
 use lib.Dec.{eqb, leb, ltb}
 use lib.ListN.{length, getD, List·getD-eq-default, List·getD-map}
-use borrow.Author.Tests.{eqb-true, leb-true, ltb-true, ltb-false, eq-eqb, ne-eqb}
+use borrow.Author.Tests.{eqb-true, leb-true, ltb-true, ltb-false, eq-eqb, ne-eqb, lt-ltb, le-ltb}
 use Rattle.units.specs.declared.Address.{Address}
 use Rattle.units.specs.declared.Sector.{Sector}
 use Rattle.units.specs.declared.Block.{Block}
 use Rattle.units.specs.declared.Model.{Model}
 use Rattle.units.specs.declared.Range.{Range}
 use Rattle.units.specs.Kinds.{sectorOf, blockOf, pageStart, blockOfSector}
-use Rattle.units.specs.Models.{Part, models, kh25l512, some, find, isModel, partOf, Placed, modelOf, rangeOf, range, firstBlock, blocksOf}
+use Rattle.units.specs.Models.{Part, models, kh25l512, kh25l2006e, partOf, modelOf, rangeOf, range, firstBlock, blocksOf}
 use Rattle.units.specs.Rules.{Whole, RowRules, Guards, RangeRules, PageInBlock, SectorInBlock, BlockOfSector, Inside, UnitsInside}
 use Rattle.units.proofs.Bools.{both, either, neither}
 use Rattle.units.proofs.Table.{every, at, found}
@@ -115,89 +115,76 @@ units-inside n a h =
     let b = w .blocks in
     record { page = omega arith; sector = omega arith; block = omega arith }
 
--- ---- the code's tables: the parts' columns, one after the other
--- the parts are numbered 1, 2, ..
-numbered : ℕ → Part → Bool
-numbered i p = eqb (p .number) (suc i)
+-- ---- how the code finds a row
+pub second-part : (n : ℕ) → n ≡ 2 → partOf n ≡ kh25l2006e
+unfolding partOf
+second-part n e = rw e
 
-module _ (i : ℕ) (p : Part) (ps : List Part) (t : every numbered i (p ∷ ps) ≡ true) where
-  its-number : p .number ≡ suc i
-  unfolding numbered
-  its-number = eqb-true _ _ (both (eqb (p .number) (suc i)) (every numbered (suc i) ps) t .0)
+pub first-part : (n : ℕ) → (n ≡ 2 → ⊥) → partOf n ≡ kh25l512
+unfolding partOf
+first-part n e = rw (ne-eqb n 2 e) (go (eqb n 1))
+  where
+    go : (b : Bool) → cond b kh25l512 kh25l512 ≡ kh25l512
+    go true = refl
+    go false = refl
 
-  the-rest : every numbered (suc i) ps ≡ true
-  the-rest = both (numbered i p) (every numbered (suc i) ps) t .1
+-- ---- how it finds a range: BP 1 protects one block, and each BP more twice as many, as far as the chip has them
+abbrev doubled : ℕ → ℕ
+doubled bp = 1 * 2 ^ bp % 4294967296 / 2
 
--- so the number finds what stands at its place
-finds : (ps : List Part) (other : Part) (i k : ℕ) → every numbered i ps ≡ true → find (suc (i + k)) other ps ≡ getD ps k other
-finds [] other i k t = refl
-finds (p ∷ ps) other i zero t = rw (eq-eqb (suc (i + 0)) (p .number) (omega (arith, its-number i p ps t)))
-finds (p ∷ ps) other i (suc k) t =
-    rw (ne-eqb (suc (i + suc k)) (p .number) (λ e. omega (arith, its-number i p ps t)), add-suc i k, ← (suc-add i k))
-    (finds ps other (suc i) k (the-rest i p ps t))
+doublesTest : Part → ℕ → Range → Bool
+doublesTest p bp r =
+    cond (ltb (doubled bp) (p .row .blocks)) (eqb (p .row .blocks - doubled bp) (r .0) && eqb (doubled bp) (r .1)) (eqb 0 (r .0) && eqb (p .row .blocks) (r .1))
 
-part-at : (k : ℕ) → partOf (suc k) ≡ getD models k kh25l512
-unfolding partOf numbered
-part-at k = ap (λ (m : ℕ). find (suc m) kh25l512 models) (sym (zero-add k)) ∙ finds models kh25l512 0 k refl
+allDouble : Part → Bool
+allDouble p = eqb (length (p .ranges)) (p .row .«highest_bp» + 1) && every (doublesTest p) 0 (p .ranges)
 
--- a number that some part has is one of them, and of another the first part is found
-its-place : (ps : List Part) (i n : ℕ) → every numbered i ps ≡ true → some (λ (p : Part). eqb n (p .number)) ps ≡ true → (i < n) × (n ≤ i + length ps)
-its-place [] i n t e = absurd (false≢true e)
-its-place (p ∷ ps) i n t e =
-    ⊎-elim (λ h. let m = eqb-true n (p .number) h in (omega (arith, its-number i p ps t), omega (arith, its-number i p ps t)))
-    (λ h. let m = its-place ps (suc i) n (the-rest i p ps t) h in (omega arith, omega arith))
-    (either (eqb n (p .number)) (some (λ (p : Part). eqb n (p .number)) ps) e)
+taken : (b x y : Bool) → b ≡ true → cond b x y ≡ true → x ≡ true
+taken true x y e t = t
+taken false x y e t = absurd (false≢true e)
 
-no-place : (ps : List Part) (other : Part) (n : ℕ) → some (λ (p : Part). eqb n (p .number)) ps ≡ false → find n other ps ≡ other
-no-place [] other n e = refl
-no-place (p ∷ ps) other n e =
-    let m = neither (eqb n (p .number)) (some (λ (p : Part). eqb n (p .number)) ps) e in
-    rw (m .0) (no-place ps other n (m .1))
+left : (b x y : Bool) → b ≡ false → cond b x y ≡ true → y ≡ true
+left true x y e t = absurd (true≢false e)
+left false x y e t = t
 
-pub model-number : (n : ℕ) → isModel n ≡ true → (0 < n) × (n ≤ length models)
-unfolding isModel numbered
-model-number n e = its-place models 0 n refl e
+module _ (n : ℕ) where
+  all-double : (length (partOf n .ranges) ≡ modelOf n .«highest_bp» + 1) × (every (doublesTest (partOf n)) 0 (partOf n .ranges) ≡ true)
+  unfolding partOf allDouble doublesTest
+  all-double =
+      let p : Part = partOf n in
+      let a = both (eqb (length (p .ranges)) (p .row .«highest_bp» + 1)) _ (found allDouble n kh25l512 models refl refl) in
+      (eqb-true _ _ (a .0), a .1)
 
-pub at-place : (n : ℕ) → isModel n ≡ true → Placed n (n - 1)
-at-place zero e = let m = model-number 0 e .0 in absurd (omega arith)
-at-place (suc k) e =
-    let m = model-number (suc k) e .1 in
-    let j : suc k - 1 ≡ k = omega arith in
-    record { below = omega arith; there = rw j (sym (part-at k)) }
+  doubles : (bp : ℕ) → bp ≤ modelOf n .«highest_bp» → doublesTest (partOf n) bp (rangeOf n bp) ≡ true
+  unfolding rangeOf
+  doubles bp h = at (doublesTest (partOf n)) (partOf n .ranges) (range 0 0) (all-double .1) bp (omega (arith, all-double .0))
 
-pub at-first : (n : ℕ) → isModel n ≡ false → Placed n 0
-unfolding isModel partOf
-at-first n e = record { below = omega arith; there = sym (no-place models kh25l512 n e) }
+  pub range-below : (bp blocks : ℕ) → blocks ≡ modelOf n .blocks → bp ≤ modelOf n .«highest_bp» → doubled bp < blocks → range (blocks - doubled bp) (doubled bp) ≡ rangeOf n bp
+  unfolding doublesTest
+  range-below bp blocks e h l =
+      let t = taken (ltb (doubled bp) (modelOf n .blocks)) _ _ (lt-ltb (doubled bp) (modelOf n .blocks) (omega arith)) (doubles bp h) in
+      let b = both (eqb (modelOf n .blocks - doubled bp) (rangeOf n bp .0)) _ t in
+      let f : blocks - doubled bp ≡ rangeOf n bp .0 = ap (λ (k : ℕ). k - doubled bp) e ∙ eqb-true _ _ (b .0) in
+      let s : doubled bp ≡ rangeOf n bp .1 = eqb-true _ _ (b .1) in
+      ap (λ (k : ℕ). range k (doubled bp)) f ∙ ap (range (rangeOf n bp .0)) s
 
-pub row-at : (n k : ℕ) (d : Model) → Placed n k → getD (map (λ (p : Part). p .row) models) k d ≡ modelOf n
-row-at n k d p =
-    other-default (map (λ (p : Part). p .row) models) k d (kh25l512 .row) (p .below)
-    ∙ List·getD-map (λ (p : Part). p .row) models k kh25l512
-    ∙ ap (λ (p : Part). p .row) (p .there)
+  pub range-all : (bp blocks : ℕ) → blocks ≡ modelOf n .blocks → bp ≤ modelOf n .«highest_bp» → blocks ≤ doubled bp → range 0 blocks ≡ rangeOf n bp
+  unfolding doublesTest
+  range-all bp blocks e h l =
+      let t = left (ltb (doubled bp) (modelOf n .blocks)) _ _ (le-ltb (doubled bp) (modelOf n .blocks) (omega arith)) (doubles bp h) in
+      let b = both (eqb 0 (rangeOf n bp .0)) _ t in
+      let f : 0 ≡ rangeOf n bp .0 = eqb-true _ _ (b .0) in
+      let s : blocks ≡ rangeOf n bp .1 = e ∙ eqb-true _ _ (b .1) in
+      ap (λ (k : ℕ). range k blocks) f ∙ ap (range (rangeOf n bp .0)) s
 
--- four ranges a part, one part after the other
-abbrev joined : (Range → ℕ) → List Part → List ℕ
-joined f [] = []
-joined f (p ∷ ps) = map f (p .ranges) ++ joined f ps
+  pub no-range : (bp : ℕ) → modelOf n .«highest_bp» < bp → range 0 0 ≡ rangeOf n bp
+  unfolding rangeOf
+  no-range bp h = sym (List·getD-eq-default (partOf n .ranges) (range 0 0) (omega (arith, all-double .0)))
 
-entryTest : (Range → ℕ) → ℕ → ℕ → Bool
-entryTest f j x = eqb x (f (getD (getD models (j / 4) kh25l512 .ranges) (j % 4) (range 0 0)))
+  -- no model has a BP above 15
+  lowTest : Part → Bool
+  lowTest p = leb (p .row .«highest_bp») 15
 
-entry : (f : Range → ℕ) → every (entryTest f) 0 (joined f models) ≡ true → (n k bp : ℕ) → Placed n k → bp ≤ 3 → getD (joined f models) (k * 4 + bp) 0 ≡ f (rangeOf n bp)
-unfolding entryTest rangeOf
-entry f t n k bp p h =
-    let b : k < 2 = p .below in
-    let d : (k * 4 + bp) / 4 ≡ k = omega arith in
-    let m : (k * 4 + bp) % 4 ≡ bp = omega arith in
-    eqb-true _ _ (at (entryTest f) (joined f models) 0 t (k * 4 + bp) (omega arith)) ∙ rw (d, m, p .there)
-
-pub range-at : (n k bp : ℕ) → Placed n k → bp ≤ 3 → range (getD (joined firstBlock models) (k * 4 + bp) 0) (getD (joined blocksOf models) (k * 4 + bp) 0) ≡ rangeOf n bp
-unfolding entryTest
-range-at n k bp p h = rw (entry firstBlock refl n k bp p h, entry blocksOf refl n k bp p h)
-
-fourRanges : Part → Bool
-fourRanges p = eqb (length (p .ranges)) 4
-
-pub no-range : (n bp : ℕ) → 3 < bp → range 0 0 ≡ rangeOf n bp
-unfolding partOf rangeOf fourRanges
-no-range n bp h = sym (List·getD-eq-default (partOf n .ranges) (range 0 0) (omega (arith, eqb-true (length (partOf n .ranges)) 4 (found fourRanges n kh25l512 models refl refl))))
+  pub low : modelOf n .«highest_bp» ≤ 15
+  unfolding partOf lowTest
+  low = leb-true _ _ (found lowTest n kh25l512 models refl refl)

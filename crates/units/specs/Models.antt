@@ -67,11 +67,6 @@ isLength bytes = some (λ (p : Part). eqb bytes (p .row .length)) models
 unfoldable pub partOf : ℕ → Part
 partOf n = find n kh25l512 models
 
--- k is the place of the number's part in the table
-pub record Placed (n k : ℕ) : Type 0 where
-  pub below : k < length models
-  pub there : getD models k kh25l512 ≡ partOf n
-
 abbrev pub modelOf : ℕ → Model
 modelOf n = partOf n .row
 

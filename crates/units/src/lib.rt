@@ -2,7 +2,7 @@
 ghost use mathlib.Core.Path.{_≡_};
 ghost use Prim.Native.Nat.{_<_};
 ghost use Rattle.units.specs.Kinds.{sectorOf, blockOf, pageStart, pageOffset, blockOfSector, sectorStart, blockStart};
-ghost use Rattle.units.specs.Models.{isModel, isLength, Placed, modelOf, addressOf, rangeOf, isProtected};
+ghost use Rattle.units.specs.Models.{isModel, isLength, modelOf, addressOf, rangeOf, isProtected};
 
 // A byte address, a sector number and a block number: three kinds, so that none passes for another.
 pub struct Address(pub u32);
@@ -83,29 +83,28 @@ pub struct Model {
 // Protected blocks: the first, and how many.
 pub struct Range(pub u32, pub u32);
 
-// The models' rows, in the order of their numbers: 1, 2, ..
-const MODELS: [Model; 2] = [
-    Model {
-        length: 65536,
-        sectors: 16,
-        blocks: 1,
-        highest_bp: 3,
-        maker: 0xC2,
-        family: 0x20,
-        density: 0x10,
-        signature: 0x05,
-    },
-    Model {
-        length: 262144,
-        sectors: 64,
-        blocks: 4,
-        highest_bp: 3,
-        maker: 0xC2,
-        family: 0x20,
-        density: 0x12,
-        signature: 0x11,
-    },
-];
+// The models' rows.
+const KH25L512: Model = Model {
+    length: 65536,
+    sectors: 16,
+    blocks: 1,
+    highest_bp: 3,
+    maker: 0xC2,
+    family: 0x20,
+    density: 0x10,
+    signature: 0x05,
+};
+
+const KH25L2006E: Model = Model {
+    length: 262144,
+    sectors: 64,
+    blocks: 4,
+    highest_bp: 3,
+    maker: 0xC2,
+    family: 0x20,
+    density: 0x12,
+    signature: 0x11,
+};
 
 // Whether a model has that number.
 pub fn is_model(number: u32) -> bool
@@ -121,23 +120,11 @@ pub fn is_length(bytes: usize) -> bool
     (bytes == 65536) | (bytes == 262144)
 }
 
-// The place of a model's row in the table; of a number that no model has, the first.
-fn place(number: u32) -> usize
-    ensures { λ r. ⌜ Placed number r ⌝ }
-{
-    if is_model(number) {
-        number as usize - 1
-    } else {
-        0
-    }
-}
-
 // The row of the model of that number; of a number that no model has, the first row.
 pub fn model_of(number: u32) -> Model
     ensures { λ r. ⌜ r ≡ modelOf number ⌝ }
 {
-    let at = place(number);
-    MODELS[at]
+    if number == 2 { KH25L2006E } else { KH25L512 }
 }
 
 // The address of three bytes, high byte first, modulo the array's length.
@@ -154,20 +141,20 @@ fn wide(byte: u8) -> u32
     byte as u32
 }
 
-// The protected ranges by BP 0 to 3, model after model: the first block, and how many blocks.
-const FIRST_BLOCK: [u32; 8] = [1, 0, 0, 0, 4, 3, 2, 0];
-
-const BLOCKS: [u32; 8] = [0, 1, 1, 1, 0, 1, 2, 4];
-
-// The protected range of a model at a BP; of a BP that it does not have, none.
+// The protected range of a model at a BP; of a BP that it does not have, none. BP 1 protects one block, and each BP more twice as many, as far as
+// the chip has them; they end at the top.
 pub fn range_of(number: u32, bp: u8) -> Range
     ensures { λ r. ⌜ r ≡ rangeOf number bp ⌝ }
 {
-    if bp > 3 {
+    let row = model_of(number);
+    if row.highest_bp < bp {
         return Range(0, 0);
     }
-    let at = place(number) * 4 + bp as usize;
-    Range(FIRST_BLOCK[at], BLOCKS[at])
+    let most = (1 << bp as u32) / 2;
+    if most < row.blocks {
+        return Range(row.blocks - most, most);
+    }
+    Range(0, row.blocks)
 }
 
 // Whether the block is in the protected range.

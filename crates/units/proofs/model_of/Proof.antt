@@ -1,11 +1,15 @@
 -- `units::model_of` meets its contract. Assumes nothing.
-use borrow.Author.Needs.{needs}
-use Rattle.units.proofs.Rules.{row-at}
+use mathlib.Core.Path.{sym, ap}
+use Rattle.units.specs.Models.{Part}
+use Rattle.units.proofs.Rules.{first-part, second-part}
 use Rattle.units.proofs.model_of.Statement.{statement}
 use Rattle.units.proofs.model_of.Tie as tie
 
 returns : tie.Need-returns
-returns c = row-at _ _ _ (c .before .place .ensures)
+returns c = sym (ap (λ (p : Part). p .row) (second-part _ (c .if1 .taken)))
+
+returns-2 : tie.Need-returns-2
+returns-2 c = sym (ap (λ (p : Part). p .row) (first-part _ (c .if1 .left)))
 
 pub model-of-spec : {M : Type 1} → statement M
-model-of-spec = tie.close (tie.spec (λ c κs. search needs) (λ c. search needs) (λ c. search needs) returns)
+model-of-spec = tie.close (tie.spec returns returns-2)
