@@ -1,5 +1,5 @@
 -- The answers and their numbers: 01, "Numbers returned, in order of checking". Assumes nothing.
-use mathlib.Core.Bool.{Bool, true, false}
+use mathlib.Core.Bool.{Bool}
 use Prim.Native.Nat.{ℕ}
 use lib.Dec.{eqb}
 use Rattle.answers.specs.declared.Answer.{Answer}

@@ -14,6 +14,7 @@ ghost use Prim.Native.Nat.{_<_, _≤_};
 ghost use lib.ListN.{length};
 use libc::STDIN_FILENO;
 use libc::STDOUT_FILENO;
+use parts::wide;
 use play::Played;
 use states::Record;
 use states::State;
@@ -105,12 +106,6 @@ fn say_row(line: &[u8], setup: Setup, array: &[u8], out: &[u8]) {
 }
 
 // ---- steps
-
-fn wide(byte: u8) -> u32
-    ensures { λ r. ⌜ r < 256 ⌝ }
-{
-    byte as u32
-}
 
 // The number of three bytes.
 fn number(high: u8, middle: u8, low: u8) -> u32

@@ -7,14 +7,12 @@ use native.Mathlib.Nat.{mod-lt}
 use native.Mathlib.Omega.{arith}
 use lib.ListN.{length, getD}
 use Rattle.units.specs.declared.Address.{Address}
-use Rattle.units.specs.Kinds.{sectorOf, blockOf, pageStart, sectorStart, blockStart}
-use Rattle.units.specs.Models.{modelOf, addressOf}
-use Rattle.units.proofs.Rules.{row-rules, units-inside}
+use Rattle.units.specs.Models.{addressOf}
+use Rattle.units.proofs.Rules.{row-rules}
 use Rattle.answers.specs.Answers.{isDone}
 use Rattle.commands.specs.Commands.{traitsOf, fewest}
 use Rattle.commands.proofs.Rows.{long-enough}
 use Rattle.states.specs.declared.Record.{Record}
-use Rattle.states.specs.declared.State.{State}
 use Rattle.commands.specs.declared.Command.{Command}
 use Rattle.commands.specs.declared.Command.the-variants.{Unknown}
 use Rattle.answers.specs.declared.Answer.{Answer}

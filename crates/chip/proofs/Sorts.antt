@@ -1,5 +1,5 @@
 -- Each command is of one of three kinds, in one clause of `kind`; what holds of every accepted frame is shown of the kinds. Assumes nothing.
-use mathlib.Core.Path.{_≡_, refl, sym, ap, _∙_}
+use mathlib.Core.Path.{_≡_, refl}
 use mathlib.Core.Bool.{Bool, true, false, not, _&&_, cond}
 use mathlib.Core.List.{List}
 use mathlib.Core.Logic.{_⊎_, ⊎-elim}
@@ -9,7 +9,7 @@ use lib.Dec.{eqb, ltb}
 use lib.ListN.{length, getD, drop, replicate}
 use borrow.Author.Tests.{eqb-true, not-false, ltb-true, ltb-false}
 use Rattle.units.specs.declared.Address.{Address}
-use Rattle.units.specs.Kinds.{sectorOf, blockOf, pageStart, pageOffset, sectorStart, blockStart}
+use Rattle.units.specs.Kinds.{sectorOf, blockOf, pageStart}
 use Rattle.units.specs.Models.{modelOf}
 use Rattle.units.proofs.Bools.{unless, only-if}
 use Rattle.parts.specs.Parts.{lay}
@@ -26,8 +26,7 @@ use Rattle.answers.specs.declared.Answer.the-variants.{Done}
 use Rattle.commands.specs.declared.Command.{Command}
 use Rattle.commands.specs.declared.Command.the-variants.{WriteEnable, WriteDisable, ReadStatus, WriteStatus, Read, FastRead, EraseSector, EraseBlock, EraseChip, Program, ReadId, Wake, ReadMaker, Sleep, Unknown}
 use Rattle.states.proofs.States.{status-write-le, page-le, sector-le, block-le, chip-le}
-use Rattle.effects.specs.declared.Reply.{Reply}
-use Rattle.effects.specs.Effects.{Effect, Shown, Changed, shown, changed, stateOnly, quiet, drives, latched, dozing, working, written, writeEnable, writeDisable, writeStatus, sleep, idBytes, makerBytes, readStatus, readFrom, eraseSector, eraseBlock, eraseChip, programPage, readId, wake, readMaker}
+use Rattle.effects.specs.Effects.{Effect, stateOnly, quiet, drives, latched, dozing, working, written, writeEnable, writeDisable, writeStatus, sleep, idBytes, makerBytes, readStatus, readFrom, eraseSector, eraseBlock, eraseChip, programPage, readId, wake, readMaker}
 use Rattle.chip.specs.Frames.{Chip, acceptedOf}
 use Rattle.chip.specs.Units.{Extent, extent, unitOf, drivenBytes}
 use Rattle.effects.proofs.Fits.{page-fits, sector-fits, block-fits}

@@ -18,6 +18,9 @@ pub struct Reply {
     pub state: State,
 }
 
+// ---- replies and states
+
+// An answer that drives nothing.
 pub fn quiet(answer: Answer, state: State) -> Reply
     ensures { λ r. ⌜ r ≡ Effects·quiet answer state ⌝ }
 {
@@ -44,6 +47,7 @@ fn driven(state: State, from: u32, n: u32) -> Reply
     quiet(Answer::Done, state)
 }
 
+// WEL is set or cleared.
 fn latch(st: State, on: bool) -> State
     ensures { λ r. ⌜ r ≡ latched st on ⌝ }
 {
@@ -52,6 +56,7 @@ fn latch(st: State, on: bool) -> State
     next
 }
 
+// The chip falls asleep or wakes.
 fn doze(st: State, on: bool) -> State
     ensures { λ r. ⌜ r ≡ dozing st on ⌝ }
 {
@@ -60,6 +65,7 @@ fn doze(st: State, on: bool) -> State
     next
 }
 
+// An operation runs for a time; WEL stays set.
 fn work(st: State, time: u32) -> State
     ensures { λ r. ⌜ r ≡ working st time ⌝ }
 {
@@ -68,6 +74,7 @@ fn work(st: State, time: u32) -> State
     next
 }
 
+// A status byte is written, and the write runs for a time.
 fn write(st: State, byte: u8, time: u32) -> State
     ensures { λ r. ⌜ r ≡ written st byte time ⌝ }
 {

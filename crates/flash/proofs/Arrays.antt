@@ -5,10 +5,10 @@ use mathlib.Core.List.{List}
 use Prim.Native.Nat.{ℕ, _+_, _-_, _≤_}
 use native.Mathlib.Omega.{arith}
 use lib.Dec.{ltb}
-use lib.ListN.{length, getD, replicate, length-replicate, getD-replicate, List·getD-eq-default}
+use lib.ListN.{length, getD, length-replicate, getD-replicate, List·getD-eq-default}
 use lib.Seq.{ext-getD}
 use borrow.Author.Tests.{ltb-true, ltb-false}
-use borrow.Rule.Slice.PartMut.{putMid, midOf, mid-len}
+use borrow.Rule.Slice.PartMut.{putMid, midOf}
 use Rattle.units.specs.declared.Address.{Address}
 use Rattle.units.specs.declared.Sector.{Sector}
 use Rattle.units.specs.declared.Block.{Block}

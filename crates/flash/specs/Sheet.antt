@@ -1,15 +1,14 @@
 -- The sheet's sentences on cells, as statements about the definitions. Each is proved in `proofs/`, under the same name in small letters. Assumes nothing.
 use mathlib.Core.Path.{_≡_}
-use mathlib.Core.List.{List, [], _∷_}
-use Prim.Native.Nat.{ℕ, _+_, _-_, _/_, _%_, _≤_, _<_}
+use mathlib.Core.List.{List}
+use Prim.Native.Nat.{ℕ, _+_, _/_, _≤_, _<_}
 use lib.ListN.{length, getD}
 use Rattle.units.specs.declared.Address.{Address}
 use Rattle.units.specs.declared.Sector.{Sector}
 use Rattle.units.specs.declared.Block.{Block}
 use Rattle.units.specs.Kinds.{sectorStart, blockStart, pageStart, pageOffset}
-use Rattle.cells.specs.Cell.{FF, bit}
-use Rattle.fold.specs.Fold.{counts, cellAfter}
-use Rattle.rings.specs.Ring.{ring}
+use Rattle.cells.specs.Cell.{FF}
+use Rattle.fold.specs.Fold.{cellAfter}
 use Rattle.flash.specs.Arrays.{sectorErased, blockErased, allErased, programmed}
 
 -- "all transmitted data which goes beyond the end of the current page are programmed from the start address" of the same page (000 L343):

@@ -3,16 +3,15 @@ use mathlib.Core.Path.{_≡_, refl, sym, ap, _∙_}
 use mathlib.Core.Bool.{Bool, true, false}
 use mathlib.Core.List.{List}
 use Prim.Native.Nat.{ℕ, _+_, _-_, _%_, _≤_, _<_}
-use native.Mathlib.Numerals.{add-one}
 use native.Mathlib.Omega.{arith}
 use lib.Bits.{bitAnd}
-use lib.Dec.{eqb, ltb}
-use lib.ListN.{length, drop, getD, set, length-set, length-drop, getD-replicate}
-use lib.Seq.{take-all, ext-getD, getD-set-same, getD-set-other}
+use lib.Dec.{ltb}
+use lib.ListN.{length, drop, getD, length-drop, getD-replicate}
+use lib.Seq.{take-all, ext-getD}
 use borrow.Author.Tests.{ltb-true, ltb-false}
 use borrow.Rule.Slice.PartMut.{putMid, midOf}
 use Rattle.cells.specs.Cell.{FF, erased, anded}
-use Rattle.parts.specs.Parts.{Bytes, part, lay, byIndex}
+use Rattle.parts.specs.Parts.{Bytes, part, lay}
 use Rattle.fold.specs.Fold.{counts, cellAfter, pageAfter}
 use Rattle.cells.proofs.Cell.{ff-and, and-byte}
 use Rattle.parts.proofs.Bytes.{bytes, bytes-replicate}

@@ -1,14 +1,13 @@
 -- What a frame that nothing refuses has shown, by name: a new row moves only this place. Assumes nothing.
 use mathlib.Core.Path.{_≡_, refl, sym, _∙_}
-use mathlib.Core.Bool.{Bool, true, false, not, _&&_, _||_, cond, true≢false}
+use mathlib.Core.Bool.{Bool, true, false, not, _&&_, cond, true≢false}
 use mathlib.Core.List.{List, [], _∷_}
-use Prim.Native.Nat.{ℕ, _≤_, _<_}
+use Prim.Native.Nat.{_≤_, _<_}
 use native.Mathlib.Nat.{pos-of-ne-zero}
-use lib.Dec.{eqb, ltb}
+use lib.Dec.{eqb}
 use borrow.Author.Tests.{eqb-true, eqb-false, ltb-false, not-true, not-false}
 use Rattle.units.proofs.Bools.{both, neither}
-use Rattle.units.specs.Kinds.{blockOf}
-use Rattle.units.specs.Models.{modelOf, isProtected}
+use Rattle.units.specs.Models.{modelOf}
 use Rattle.answers.specs.Answers.{isDone}
 use Rattle.commands.specs.Commands.{traitsOf, lengthOk}
 use Rattle.states.specs.States.{recordOk, stateOk}

@@ -1,5 +1,5 @@
 -- The refusals as one ordered table: 01, "Numbers returned, in order of checking". Assumes nothing.
-use mathlib.Core.Bool.{Bool, true, false, not, _&&_, _||_, cond}
+use mathlib.Core.Bool.{Bool, not, _&&_, _||_, cond}
 use mathlib.Core.List.{List, [], _∷_}
 use lib.Dec.{eqb, ltb}
 use Rattle.units.specs.Kinds.{blockOf}

@@ -7,7 +7,7 @@ use native.Mathlib.Nat.{sub-zero, suc-sub-suc, not-suc-le-zero}
 use native.Mathlib.Omega.{arith}
 use lib.Dec.{eqb, ltb}
 use lib.ListN.{length, drop, take, length-append, length-drop, length-take}
-use lib.Seq.{length-take-le, take-at, take-nil, drop-drop, take-all, append-snoc}
+use lib.Seq.{length-take-le, take-nil, drop-drop, take-all, append-snoc}
 use borrow.Author.Tests.{ltb-true, ltb-false, eqb-true}
 use Rattle.parts.proofs.Lay.{length-lay, take-lay}
 use Rattle.lines.specs.declared.Cut.{Cut}

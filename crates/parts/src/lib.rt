@@ -11,6 +11,13 @@ pub fn byte_at(bytes: &[u8], i: usize) -> u8
     if i < bytes.len() { bytes[i] } else { 0 }
 }
 
+// A byte as a wider number.
+pub fn wide(byte: u8) -> u32
+    ensures { λ r. ⌜ (r ≡ byte) × (r ≤ 255) ⌝ }
+{
+    byte as u32
+}
+
 // The smaller of two numbers.
 pub fn least(a: usize, b: usize) -> usize
     ensures { λ r. ⌜ r ≡ min a b ⌝ }

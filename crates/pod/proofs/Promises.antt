@@ -1,6 +1,6 @@
 -- The promises of specs/Promises.antt. Assumes nothing.
 use mathlib.Core.Path.{_≡_, refl, sym, ap}
-use mathlib.Core.Bool.{Bool, true, false, not, cond}
+use mathlib.Core.Bool.{Bool, true, false, cond}
 use mathlib.Core.List.{List}
 use Prim.Native.Nat.{ℕ}
 use lib.Dec.{eqb}
@@ -14,7 +14,7 @@ use Rattle.states.specs.declared.State.{State}
 use Rattle.answers.specs.declared.Answer.{Answer}
 use Rattle.ladder.specs.Ladder.{refusalOf}
 use Rattle.effects.specs.Effects.{Effect}
-use Rattle.chip.specs.Frames.{Sent, chipOf, headFor, frameOf}
+use Rattle.chip.specs.Frames.{chipOf, headFor, frameOf}
 use Rattle.time.specs.Time.{later, cycled, ifValid, waitOf, powerOf}
 use Rattle.pod.specs.Packing.{packOf, unpackOf}
 use Rattle.pod.specs.Calls.{keptOf, called, answered, answeredOf, calledFrame, calledWait, calledCycle}

@@ -1,24 +1,17 @@
 -- What a call that is taken shows of its state, what a refused one leaves, and that the state after fits its eight bytes. Assumes nothing.
-use mathlib.Core.Path.{_≡_, refl, sym, ap, _∙_}
+use mathlib.Core.Path.{_≡_, refl, sym, _∙_}
 use mathlib.Core.Bool.{Bool, true, false, true≢false, false≢true}
 use mathlib.Core.List.{List}
 use Prim.Native.Nat.{ℕ, _^_, _≤_, _<_}
 use native.Mathlib.Omega.{arith}
-use lib.ListN.{length}
-use Rattle.units.specs.declared.Address.{Address}
 use Rattle.answers.specs.Answers.{isDone}
 use Rattle.states.specs.States.{recordOk, longestOf, stateOk}
 use Rattle.states.specs.declared.Record.{Record}
 use Rattle.states.specs.declared.State.{State}
-use Rattle.answers.specs.declared.Answer.the-variants.{Done}
-use Rattle.commands.specs.declared.Command.{Command}
-use Rattle.commands.specs.declared.Command.the-variants.{WriteEnable, WriteDisable, ReadStatus, WriteStatus, Read, FastRead, EraseSector, EraseBlock, EraseChip, Program, ReadId, Wake, ReadMaker, Sleep, Unknown}
-use Rattle.states.proofs.States.{sound, highest-bp, longest-in-range, status-write-le, page-le, sector-le, block-le, chip-le}
-use Rattle.ladder.specs.Ladder.{refusalOf}
-use Rattle.ladder.specs.declared.Head.{Head}
+use Rattle.states.proofs.States.{sound, highest-bp, longest-in-range}
 use Rattle.ladder.proofs.Passed.{passed}
 use Rattle.effects.specs.declared.Reply.{Reply}
-use Rattle.effects.specs.Effects.{stateOnly, drives, latched, dozing, working, written, readStatus, readFrom, eraseSector, eraseBlock, eraseChip, programPage, readId, wake, readMaker, Effect}
+use Rattle.effects.specs.Effects.{latched, dozing, working, written, Effect}
 use Rattle.chip.specs.Frames.{Chip, Sent, headOf, refusedOf, frameOf}
 use Rattle.chip.proofs.Cases.{refusal, accepted, frame-cases, sort, shown-asked}
 use Rattle.time.specs.Time.{later, cycled, ifValid}

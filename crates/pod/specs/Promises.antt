@@ -1,5 +1,5 @@
 -- What is shown of the packing and of the calls; proofs/Promises.antt proves each under its name in small letters. Assumes nothing.
-use mathlib.Core.Bool.{true, not, cond}
+use mathlib.Core.Bool.{true, cond}
 use mathlib.Core.List.{List}
 use mathlib.Core.Path.{_≡_}
 use Prim.Native.Nat.{ℕ}

@@ -7,6 +7,7 @@ ghost use Rattle.answers.specs.Answers.{numberOf};
 ghost use Rattle.pod.specs.Packing.{spelt, packOf, unpackOf, noState};
 ghost use Rattle.pod.specs.Calls.{recordOf, keptOf, Packs, Leaves, sentBy, Answers, calledFrame, calledWait, calledCycle};
 use answers::Answer;
+use parts::wide;
 use states::Record;
 use states::State;
 
@@ -23,12 +24,6 @@ fn no_state() -> State
         asleep: false,
         busy: 0,
     }
-}
-
-fn wide(byte: u8) -> u32
-    ensures { λ r. ⌜ (r ≡ byte) × (r ≤ 255) ⌝ }
-{
-    byte as u32
 }
 
 // The number of four bytes, the low byte first.

@@ -26,7 +26,7 @@ use Rattle.commands.specs.declared.Command.the-variants.{Program}
 use Rattle.states.proofs.States.{sound, valid}
 use Rattle.effects.specs.declared.Reply.{Reply}
 use Rattle.time.specs.declared.After.{After}
-use Rattle.effects.specs.Effects.{Effect, Gives, programPage}
+use Rattle.effects.specs.Effects.{Effect, programPage}
 use Rattle.chip.specs.Frames.{Chip, headFor, acceptedOf, refusedOf}
 use Rattle.chip.specs.Units.{drivenBytes}
 use Rattle.time.specs.Time.{later, cycled, ifValid, waitOf, powerOf}

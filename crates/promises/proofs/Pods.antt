@@ -6,11 +6,10 @@ use mathlib.Core.Logic.{_⊎_, inl, inr, ⊎-elim}
 use Prim.Native.Nat.{ℕ, _+_, _≤_, _<_}
 use native.Mathlib.Omega.{arith}
 use lib.Dec.{eqb, lit≤, lit<}
-use lib.ListN.{length, getD, replicate, length-replicate, getD-replicate}
+use lib.ListN.{getD, replicate, length-replicate, getD-replicate}
 use borrow.Author.Tests.{eqb-true, eqb-false}
 use Rattle.units.specs.Models.{isModel, partOf, addressOf}
 use Rattle.cells.specs.Cell.{FF}
-use Rattle.parts.specs.Parts.{part}
 use Rattle.parts.proofs.Bytes.{bytes-replicate}
 use Rattle.parts.proofs.Lay.{part-at}
 use Rattle.states.specs.States.{inRange, recordOk, powerOn, benchKH25L512}
@@ -18,7 +17,7 @@ use Rattle.states.specs.declared.Record.{Record}
 use Rattle.answers.specs.declared.Answer.{Answer}
 use Rattle.answers.specs.declared.Answer.the-variants.{Done}
 use Rattle.effects.specs.Effects.{Effect}
-use Rattle.chip.specs.Frames.{Chip, Sent, chipOf}
+use Rattle.chip.specs.Frames.{Chip, chipOf}
 use Rattle.promises.specs.Calls.{Call, sends, waits, cycles, Pod, after, answer, run, effectAfter}
 use Rattle.promises.specs.Recovery.{Job, Bench, JobFits, wakeUp, readBack, waitLongest, toRead, recovery, Recovers, WinsBack}
 use Rattle.promises.specs.Pods.{RefusesAll, SameByte, KeepsCells, OnlyOnce, OnlyReplays, Worthless}

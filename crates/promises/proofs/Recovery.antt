@@ -1,15 +1,14 @@
 -- The listed calls win the chip back. Assumes nothing.
 use mathlib.Core.Path.{_≡_, refl, sym, ap, subst, _∙_}
-use mathlib.Core.Bool.{Bool, true, false, _&&_, _||_}
+use mathlib.Core.Bool.{true, false}
 use mathlib.Core.List.{List, [], _∷_}
-use Prim.Native.Nat.{ℕ, _+_, _-_, _*_, _/_, _%_, _≤_, _<_}
+use Prim.Native.Nat.{ℕ, _+_, _-_, _*_, _%_, _≤_, _<_}
 use native.Mathlib.Nat.{mod-lt, mod-mod-of-dvd, dvd-mul-right}
 use native.Mathlib.Omega.{arith}
-use lib.Dec.{eqb, ltb}
 use lib.ListN.{length, getD}
 use borrow.Author.Tests.{ne-eqb, le-ltb, lt-ltb}
 use Rattle.units.specs.declared.Address.{Address}
-use Rattle.units.specs.Kinds.{sectorOf, sectorStart, pageStart, pageOffset}
+use Rattle.units.specs.Kinds.{sectorOf, pageStart, pageOffset}
 use Rattle.units.specs.Models.{modelOf, addressOf}
 use Rattle.units.proofs.Rules.{row-rules, units-inside}
 use Rattle.units.specs.Rules.{Inside}
@@ -24,12 +23,12 @@ use Rattle.states.specs.States.{longestOf, powerOn}
 use Rattle.states.specs.declared.Record.{Record}
 use Rattle.states.specs.declared.State.{State}
 use Rattle.answers.specs.declared.Answer.the-variants.{Done}
-use Rattle.states.proofs.States.{Sound, sound, times}
+use Rattle.states.proofs.States.{sound, times}
 use Rattle.effects.specs.Effects.{Effect, stateOnly, changed, shown, drives, latched, dozing, working, written, eraseSector, programPage, readFrom}
-use Rattle.chip.specs.Frames.{Chip, Sent, chipOf, frameOf}
+use Rattle.chip.specs.Frames.{Chip, chipOf, frameOf}
 use Rattle.time.specs.Time.{later}
-use Rattle.promises.specs.Calls.{Call, sends, ours, effectAfter, run}
-use Rattle.promises.specs.Recovery.{Job, Bench, JobFits, frame, wakeUp, enableUnlock, unlock, enableErase, erase, enableProgram, program, readBack, waitLongest, waitUnlock, waitErase, waitProgram, toUnlock, toErase, toProgram, toRead, recovery, target, place, base, Won, Recovers, WinsBack}
+use Rattle.promises.specs.Calls.{sends, ours, effectAfter}
+use Rattle.promises.specs.Recovery.{Job, Bench, JobFits, frame, wakeUp, enableUnlock, unlock, enableErase, erase, enableProgram, program, readBack, waitLongest, waitUnlock, waitErase, waitProgram, toUnlock, toErase, toProgram, toRead, recovery, target, base, Won, Recovers, WinsBack}
 use Rattle.promises.proofs.Steps.{Goes, ends, goes, goes-on, goes-run, goes-answers, Step, sends-to, waits-to, wake-taken, enable-taken, write-taken, erase-taken, program-taken, read-taken}
 
 -- a chip that is awake with protection off, and runs an operation for so long

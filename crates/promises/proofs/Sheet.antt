@@ -1,6 +1,4 @@
 -- The bench sheet comes out as it should: each case is computed, and only the array's length is used. Assumes nothing.
-use mathlib.Core.Path.{_≡_, refl}
-use lib.ListN.{length}
 use Rattle.units.specs.Models.{isModel, partOf, addressOf, rangeOf, isProtected}
 use Rattle.parts.specs.Parts.{lay}
 use Rattle.rings.specs.Ring.{ring}

@@ -2,14 +2,14 @@
 use mathlib.Core.Path.{_≡_, refl, _∙_}
 use mathlib.Core.Bool.{true, false}
 use mathlib.Core.List.{List, [], _∷_}
-use Prim.Native.Nat.{ℕ, _+_, _-_, _≤_, _<_}
+use Prim.Native.Nat.{ℕ, _-_, _≤_, _<_}
 use native.Mathlib.Omega.{arith}
 use native.Mathlib.Nat.{le-refl}
 use lib.Dec.{lit≤}
 use lib.ListN.{length, getD}
 use mathlib.Core.Logic.{inr}
 use Rattle.commands.specs.Commands.{decodeOf, traitsOf}
-use Rattle.states.specs.States.{recordOk, stateOk, longestOf}
+use Rattle.states.specs.States.{stateOk, longestOf}
 use Rattle.states.specs.declared.Record.{Record}
 use Rattle.states.specs.declared.State.{State}
 use Rattle.answers.specs.declared.Answer.the-variants.{Busy}

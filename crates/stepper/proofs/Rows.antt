@@ -17,7 +17,6 @@ use Rattle.play.specs.declared.Played.{Played}
 use Rattle.play.specs.Play.{Turn, Plays}
 use Rattle.chip.specs.Frames.{chipOf}
 use Rattle.play.proofs.Laws.{played-within}
-use Rattle.stepper.specs.declared.Logged.{Logged}
 use Rattle.stepper.specs.Steps.{OneSteps}
 use Rattle.stepper.specs.Rows.{lineTurn, rowText, Logs, OneLogs}
 

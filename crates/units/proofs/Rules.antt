@@ -1,23 +1,18 @@
 -- The statements of `specs/Rules.antt`. The two on the table rest on one computed test each. Assumes nothing.
 use mathlib.Core.Path.{_≡_, refl, sym, ap, subst, _∙_}
 use mathlib.Core.Bool.{Bool, true, false, _&&_, cond, true≢false, false≢true}
-use mathlib.Core.List.{List, [], _∷_, _++_, map}
-use mathlib.Core.Logic.{⊎-elim}
+use mathlib.Core.List.{List, [], _∷_}
 use Prim.Native.Nat.{ℕ, zero, suc, _+_, _*_, _-_, _/_, _%_, _^_, _≤_, _<_}
-use native.Mathlib.Nat.{not-suc-le-zero, le-of-suc-le-suc, zero-add, add-suc, suc-add}
+use native.Mathlib.Nat.{not-suc-le-zero, le-of-suc-le-suc}
 use native.Mathlib.Omega.{arith}
 use lib.Dec.{eqb, leb, ltb}
-use lib.ListN.{length, getD, List·getD-eq-default, List·getD-map}
+use lib.ListN.{length, getD, List·getD-eq-default}
 use borrow.Author.Tests.{eqb-true, leb-true, ltb-true, ltb-false, eq-eqb, ne-eqb, lt-ltb, le-ltb}
-use Rattle.units.specs.declared.Address.{Address}
 use Rattle.units.specs.declared.Sector.{Sector}
-use Rattle.units.specs.declared.Block.{Block}
-use Rattle.units.specs.declared.Model.{Model}
 use Rattle.units.specs.declared.Range.{Range}
-use Rattle.units.specs.Kinds.{sectorOf, blockOf, pageStart, blockOfSector}
-use Rattle.units.specs.Models.{Part, models, kh25l512, kh25l2006e, partOf, modelOf, rangeOf, range, firstBlock, blocksOf}
-use Rattle.units.specs.Rules.{Whole, RowRules, Guards, RangeRules, PageInBlock, SectorInBlock, BlockOfSector, Inside, UnitsInside}
-use Rattle.units.proofs.Bools.{both, either, neither}
+use Rattle.units.specs.Models.{Part, models, kh25l512, kh25l2006e, partOf, modelOf, rangeOf, range}
+use Rattle.units.specs.Rules.{RowRules, RangeRules, PageInBlock, SectorInBlock, BlockOfSector, UnitsInside}
+use Rattle.units.proofs.Bools.{both}
 use Rattle.units.proofs.Table.{every, at, found}
 
 -- the row's test

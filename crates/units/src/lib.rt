@@ -3,6 +3,7 @@ ghost use mathlib.Core.Path.{_≡_};
 ghost use Prim.Native.Nat.{_<_};
 ghost use Rattle.units.specs.Kinds.{sectorOf, blockOf, pageStart, pageOffset, blockOfSector, sectorStart, blockStart};
 ghost use Rattle.units.specs.Models.{isModel, isLength, modelOf, addressOf, rangeOf, isProtected};
+use parts::wide;
 
 // A byte address, a sector number and a block number: three kinds, so that none passes for another.
 pub struct Address(pub u32);
@@ -133,12 +134,6 @@ pub fn address_of(number: u32, high: u8, middle: u8, low: u8) -> Address
 {
     let row = model_of(number);
     Address((wide(high) * 65536 + (wide(middle) * 256 + wide(low))) % row.length)
-}
-
-fn wide(byte: u8) -> u32
-    ensures { λ r. ⌜ r ≡ byte ⌝ }
-{
-    byte as u32
 }
 
 // The protected range of a model at a BP; of a BP that it does not have, none. BP 1 protects one block, and each BP more twice as many, as far as

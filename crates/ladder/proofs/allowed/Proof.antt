@@ -1,6 +1,4 @@
 -- `ladder::allowed` meets its contract. Assumes nothing.
-use mathlib.Core.Path.{_≡_, sym, ap, _∙_}
-use mathlib.Core.Bool.{true, false}
 use borrow.Author.Needs.{needs}
 use Rattle.ladder.specs.Stages.{allowedOf}
 use Rattle.ladder.proofs.allowed.Statement.{statement}

@@ -1,7 +1,5 @@
 -- `runner::play_input` is safe and ends: the blocks that are left get fewer. Assumes nothing.
 use Prim.Native.Nat.{_≤_}
-use native.Mathlib.Omega.{arith}
-use lib.ListN.{length}
 use borrow.Author.Needs.{needs}
 use Rattle.runner.proofs.play_input.Statement.{statement}
 use Rattle.runner.proofs.play_input.Tie as tie

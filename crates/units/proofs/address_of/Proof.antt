@@ -1,5 +1,4 @@
 -- `units::address_of` meets its contract. Assumes nothing.
-use mathlib.Core.Path.{_≡_}
 use native.Mathlib.Omega.{arith}
 use borrow.Author.Needs.{needs}
 use Rattle.units.specs.Models.{addressOf}
@@ -16,7 +15,7 @@ returns : tie.Need-returns
 unfolding addressOf
 returns c =
     let s = c .before .before .before .before in
-    rw (s .model-of .ensures, c .before .before .before .wide .ensures, c .before .before .wide2 .ensures, c .before .wide3 .ensures)
+    rw (s .model-of .ensures, c .before .before .before .wide .ensures .0, c .before .before .wide2 .ensures .0, c .before .wide3 .ensures .0)
 
 pub address-of-spec : {M : Type 1} → statement M
 address-of-spec =
