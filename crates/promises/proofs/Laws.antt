@@ -32,11 +32,10 @@ use Rattle.chip.specs.Units.{drivenBytes}
 use Rattle.time.specs.Time.{later, cycled, ifValid, waitOf, powerOf}
 use Rattle.effects.proofs.Fits.{page-fits}
 use Rattle.chip.proofs.Sorts.{is-done, counts, changes-only}
-use Rattle.promises.specs.Laws.{WaitsAdd, RefusedFrame, RefusedWait, RefusedCycle, OnlyItsUnit, ProgramFalls, OneOutcome, OneEffect, OneWait, OneCycle}
-use Rattle.promises.specs.Pods.{NumberFixed}
+use Rattle.promises.specs.Laws.{WaitsAdd, RefusedFrame, RefusedWait, RefusedCycle, OnlyItsUnit, ProgramFalls, OneOutcome, OneEffect, OneWait, OneCycle, NumberFixed}
 use Rattle.chip.proofs.Cases.{head, frame-cases, sort, shown-ready}
-use Rattle.promises.proofs.Valid.{later-sound}
-use Rattle.promises.proofs.Steps.{wait-taken}
+use Rattle.calls.proofs.Valid.{later-sound}
+use Rattle.calls.proofs.Steps.{wait-taken}
 
 -- ---- waits
 -- WEL stays exactly while neither wait has run the busy time out

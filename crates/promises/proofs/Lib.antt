@@ -1,9 +1,2 @@
-pub mod Valid
-pub mod Steps
-pub mod Recovery
-pub mod Histories
-pub mod Shorter
-pub mod Reached
-pub mod Pods
-pub mod Sheet
 pub mod Laws
+pub mod Sheet

@@ -63,3 +63,9 @@ OneWait = (rec : Record) (s : State) (us : ℕ) (r t : After) → r ≡ waitOf r
 
 abbrev pub OneCycle : Type 0
 OneCycle = (rec : Record) (s : State) (r t : After) → r ≡ powerOf rec s → t ≡ powerOf rec s → r ≡ t
+
+-- a made-up number of driven bytes falls: what satisfies the contract of a frame drives as many as the command and the length say
+abbrev pub NumberFixed : Type 0
+NumberFixed =
+    (rec : Record) (x : Chip) (f : Sent) (r : Reply) (xs os : List ℕ) → Gives (frameOf rec x f) r xs os → isDone (r .answer) ≡ true
+    → r .count ≡ drivenBytes (decodeOf (getD (f .bytes) 0 0)) (length (f .bytes))

@@ -5,6 +5,7 @@ use mathlib.Core.List.{List, [], _∷_, _++_}
 use Prim.Native.Nat.{ℕ, _-_}
 use lib.Dec.{eqb}
 use lib.ListN.{length, getD, take, replicate}
+use Rattle.calls.specs.Calls.{frame}
 use Rattle.units.specs.Models.{modelOf}
 use Rattle.cells.specs.Cell.{erased}
 use Rattle.parts.specs.Parts.{part}
@@ -15,7 +16,6 @@ use Rattle.states.specs.declared.State.{State}
 use Rattle.effects.specs.Effects.{Effect}
 use Rattle.chip.specs.Frames.{Sent, chipOf, sentOf, frameOf}
 use Rattle.time.specs.Time.{later}
-use Rattle.promises.specs.Recovery.{frame}
 
 -- what comes out: the answer, the first driven position, the driven bytes, the status byte after, the status byte after a wait, and
 -- the first cells of the array

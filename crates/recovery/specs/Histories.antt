@@ -9,8 +9,8 @@ use Rattle.states.specs.States.{recordOk, stateOk, powerOn}
 use Rattle.states.specs.declared.Record.{Record}
 use Rattle.states.specs.declared.State.{State}
 use Rattle.chip.specs.Frames.{Chip, chipOf}
-use Rattle.promises.specs.Calls.{Call, ours, after, run}
-use Rattle.promises.specs.Recovery.{Job, JobFits, Recovers}
+use Rattle.calls.specs.Calls.{Call, ours, after, run}
+use Rattle.recovery.specs.Recovery.{Job, JobFits, Recovers}
 
 -- a call, and the array lent to it: of any length, with any contents
 pub record Lent : Type 0 where

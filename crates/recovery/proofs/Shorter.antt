@@ -16,11 +16,11 @@ use Rattle.answers.specs.declared.Answer.the-variants.{Busy}
 use Rattle.states.proofs.States.{valid, times, longest-in-range}
 use Rattle.chip.specs.Frames.{Chip, Sent, chipOf}
 use Rattle.time.specs.Time.{later}
-use Rattle.promises.specs.Calls.{Call, sends, waits, ours, answer}
-use Rattle.promises.specs.Recovery.{Job, Bench, JobFits, Roomy, frame, wakeUp, enableErase, enableProgram, readBack}
-use Rattle.promises.specs.Shorter.{ThenBusy, TooShort, ShorterUnlock, ShorterErase, ShorterProgram, ShorterFirst}
-use Rattle.promises.proofs.Steps.{Goes, ends, goes, goes-on, goes-then, Step, waits-to, while-busy}
-use Rattle.promises.proofs.Recovery.{running, not-yet, to-unlock, to-erase, to-program, unlocks, erases, programs}
+use Rattle.calls.specs.Calls.{Call, sends, waits, ours, answer, Bench, Roomy, frame}
+use Rattle.recovery.specs.Recovery.{Job, JobFits, wakeUp, enableErase, enableProgram, readBack}
+use Rattle.recovery.specs.Shorter.{ThenBusy, TooShort, ShorterUnlock, ShorterErase, ShorterProgram, ShorterFirst}
+use Rattle.calls.proofs.Steps.{Goes, ends, goes, goes-on, goes-then, Step, waits-to, while-busy}
+use Rattle.recovery.proofs.Recovery.{running, not-yet, to-unlock, to-erase, to-program, unlocks, erases, programs}
 
 -- calls answered 0, and a frame more that is answered 11
 then-busy : {rec : Record} {cs : List Call} {x w : Chip} (f : Sent) → Goes rec cs x w → answer ours rec [] (sends f) w ≡ Busy → ThenBusy rec cs f x

@@ -18,10 +18,10 @@ use Rattle.answers.specs.declared.Answer.{Answer}
 use Rattle.answers.specs.declared.Answer.the-variants.{Done}
 use Rattle.effects.specs.Effects.{Effect}
 use Rattle.chip.specs.Frames.{Chip, chipOf}
-use Rattle.promises.specs.Calls.{Call, sends, waits, cycles, Pod, after, answer, run, effectAfter}
-use Rattle.promises.specs.Recovery.{Job, Bench, JobFits, wakeUp, readBack, waitLongest, toRead, recovery, Recovers, WinsBack}
-use Rattle.promises.specs.Pods.{RefusesAll, SameByte, KeepsCells, OnlyOnce, OnlyReplays, Worthless}
-use Rattle.promises.proofs.Histories.{valid-histories}
+use Rattle.calls.specs.Calls.{Call, sends, waits, cycles, Pod, after, answer, run, effectAfter, Bench}
+use Rattle.recovery.specs.Recovery.{Job, JobFits, wakeUp, readBack, waitLongest, toRead, recovery, Recovers, WinsBack}
+use Rattle.recovery.specs.Pods.{RefusesAll, SameByte, KeepsCells, OnlyOnce, OnlyReplays, Worthless}
+use Rattle.recovery.proofs.Histories.{valid-histories}
 
 -- ---- one set-up: model 1 with bench values, all cells 0, one byte d to address 0
 abbrev room : List ℕ

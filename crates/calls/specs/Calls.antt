@@ -58,3 +58,18 @@ module _ (p : Pod) (rec : Record) where
   -- what a frame does that is sent after a list of calls
   abbrev pub effectAfter : List Call → Chip → Sent → Effect
   effectAfter cs x f = p .frame (saw [] cs) rec (run [] cs x) f
+
+-- ---- the calls of a bench
+-- a frame with WP# high and no tail bits
+abbrev pub frame : List ℕ → List ℕ → Sent
+frame bytes out = sentOf bytes 0 true out
+
+-- an output at least as long as its frame
+abbrev pub Roomy : Sent → Type 0
+Roomy f = length (f .bytes) ≤ length (f .out)
+
+-- valid record, right array length, valid state
+pub record Bench (rec : Record) (x : Chip) : Type 0 where
+  pub right : recordOk rec ≡ true
+  pub whole : length (x .cells) ≡ modelOf (rec .model) .length
+  pub valid : stateOk rec (x .state) ≡ true

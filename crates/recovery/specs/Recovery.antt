@@ -14,7 +14,7 @@ use Rattle.states.specs.declared.Record.{Record}
 use Rattle.answers.specs.declared.Answer.the-variants.{Done}
 use Rattle.effects.specs.Effects.{Effect}
 use Rattle.chip.specs.Frames.{Chip, Sent, sentOf}
-use Rattle.promises.specs.Calls.{Call, sends, waits, Pod, run, answers, effectAfter}
+use Rattle.calls.specs.Calls.{Call, sends, waits, Pod, run, answers, effectAfter, frame, Roomy, Bench}
 
 -- the output lent to each frame of the list
 pub record Outs : Type 0 where
@@ -35,10 +35,6 @@ pub record Job : Type 0 where
   pub bytes : List ℕ
   pub more : List ℕ
   pub outs : Outs
-
--- a frame with WP# high and no tail bits
-abbrev pub frame : List ℕ → List ℕ → Sent
-frame bytes out = sentOf bytes 0 true out
 
 -- ---- the frames of the list
 module _ (j : Job) where
@@ -107,10 +103,6 @@ module _ (rec : Record) (j : Job) where
   base = sectorStart (sectorOf target)
 
 -- ---- what the list asks for
--- an output at least as long as its frame
-abbrev pub Roomy : Sent → Type 0
-Roomy f = length (f .bytes) ≤ length (f .out)
-
 pub record Rooms (j : Job) : Type 0 where
   pub wakeUp : Roomy (wakeUp j)
   pub enableUnlock : Roomy (enableUnlock j)
@@ -128,12 +120,6 @@ pub record JobFits (j : Job) : Type 0 where
   pub bytes : Bytes (j .bytes)
   pub more : length (j .more) ≡ length (j .bytes)
   pub rooms : Rooms j
-
--- valid record, right array length, valid state
-pub record Bench (rec : Record) (x : Chip) : Type 0 where
-  pub right : recordOk rec ≡ true
-  pub whole : length (x .cells) ≡ modelOf (rec .model) .length
-  pub valid : stateOk rec (x .state) ≡ true
 
 -- ---- what it gives
 -- what has come of the chip x, which is now y, and what the last frame did

@@ -12,13 +12,13 @@ use Rattle.answers.specs.declared.Answer.the-variants.{Done}
 use Rattle.states.proofs.States.{times, longest-in-range, by-longest}
 use Rattle.effects.specs.Effects.{Effect, stateOnly, changed, written, working, eraseSector, eraseBlock, eraseChip, programPage}
 use Rattle.chip.specs.Frames.{Chip, chipOf, frameOf}
-use Rattle.promises.specs.Calls.{Call, sends, ours, left, run}
-use Rattle.promises.specs.Recovery.{Job, JobFits, Bench, frame}
-use Rattle.promises.specs.Shorter.{TooShort, ReachedFirst}
-use Rattle.promises.proofs.Histories.{valid-histories}
-use Rattle.promises.proofs.Steps.{Step, ends, goes, goes-run, sends-to, write-taken, erase-taken, block-taken, chip-taken, program-taken}
-use Rattle.promises.proofs.Recovery.{running, enabled, enable}
-use Rattle.promises.proofs.Shorter.{still}
+use Rattle.calls.specs.Calls.{Call, sends, ours, left, run, Bench, frame}
+use Rattle.recovery.specs.Recovery.{Job, JobFits}
+use Rattle.recovery.specs.Shorter.{TooShort, ReachedFirst}
+use Rattle.recovery.proofs.Histories.{valid-histories}
+use Rattle.calls.proofs.Steps.{Step, ends, goes, goes-run, sends-to, write-taken, erase-taken, block-taken, chip-taken, program-taken}
+use Rattle.recovery.proofs.Recovery.{running, enabled, enable}
+use Rattle.recovery.proofs.Shorter.{still}
 
 -- ---- from power-on: 06 and an operation
 module _ (rec : Record) (cells : List ℕ) (j : Job) (e : recordOk rec ≡ true) (l : length cells ≡ modelOf (rec .model) .length) (f : JobFits j) where

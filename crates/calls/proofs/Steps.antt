@@ -30,9 +30,8 @@ use Rattle.time.specs.declared.After.{After}
 use Rattle.effects.specs.Effects.{Effect, stateOnly, changed, shown, drives, latched, dozing, written, writeEnable, writeStatus, eraseSector, eraseBlock, eraseChip, programPage, readFrom, wake}
 use Rattle.chip.specs.Frames.{Chip, Sent, chipOf, headFor, headOf, acceptedOf, refusedOf, frameOf}
 use Rattle.time.specs.Time.{later, ifValid, waitOf}
-use Rattle.promises.specs.Calls.{Call, sends, waits, cycles, ours, left, after, answer, run, answers}
-use Rattle.promises.specs.Recovery.{Bench, Roomy, frame}
-use Rattle.promises.proofs.Valid.{call-sound, call-length}
+use Rattle.calls.specs.Calls.{Call, sends, waits, cycles, ours, left, after, answer, run, answers, Bench, Roomy, frame}
+use Rattle.calls.proofs.Valid.{call-sound, call-length}
 
 -- ---- a frame on a bench
 module _ (rec : Record) (x : Chip) (b : Bench rec x) (f : Sent) where

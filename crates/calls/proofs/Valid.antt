@@ -21,7 +21,7 @@ use Rattle.effects.specs.Effects.{Effect, latched, dozing, working, written}
 use Rattle.chip.specs.Frames.{Chip, Sent, frameOf}
 use Rattle.chip.proofs.Sorts.{Move, stays, latches, dozes, works, writes, moves, changes-only}
 use Rattle.time.specs.Time.{later, cycled, ifValid, waitOf, powerOf}
-use Rattle.promises.specs.Calls.{Call, sends, waits, cycles, ours, after}
+use Rattle.calls.specs.Calls.{Call, sends, waits, cycles, ours, after}
 use Rattle.chip.proofs.Cases.{frame-cases, sort, shown-ready, shown-asked}
 
 -- a status write gives a BP that every model has

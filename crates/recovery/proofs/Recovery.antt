@@ -27,9 +27,9 @@ use Rattle.states.proofs.States.{sound, times}
 use Rattle.effects.specs.Effects.{Effect, stateOnly, changed, shown, drives, latched, dozing, working, written, eraseSector, programPage, readFrom}
 use Rattle.chip.specs.Frames.{Chip, chipOf, frameOf}
 use Rattle.time.specs.Time.{later}
-use Rattle.promises.specs.Calls.{sends, ours, effectAfter}
-use Rattle.promises.specs.Recovery.{Job, Bench, JobFits, frame, wakeUp, enableUnlock, unlock, enableErase, erase, enableProgram, program, readBack, waitLongest, waitUnlock, waitErase, waitProgram, toUnlock, toErase, toProgram, toRead, recovery, target, base, Won, Recovers, WinsBack}
-use Rattle.promises.proofs.Steps.{Goes, ends, goes, goes-on, goes-run, goes-answers, Step, sends-to, waits-to, wake-taken, enable-taken, write-taken, erase-taken, program-taken, read-taken}
+use Rattle.calls.specs.Calls.{sends, ours, effectAfter, Bench, frame}
+use Rattle.recovery.specs.Recovery.{Job, JobFits, wakeUp, enableUnlock, unlock, enableErase, erase, enableProgram, program, readBack, waitLongest, waitUnlock, waitErase, waitProgram, toUnlock, toErase, toProgram, toRead, recovery, target, base, Won, Recovers, WinsBack}
+use Rattle.calls.proofs.Steps.{Goes, ends, goes, goes-on, goes-run, goes-answers, Step, sends-to, waits-to, wake-taken, enable-taken, write-taken, erase-taken, program-taken, read-taken}
 
 -- a chip that is awake with protection off, and runs an operation for so long
 abbrev pub running : ℕ → State

@@ -14,8 +14,8 @@ use Rattle.effects.specs.declared.Reply.{Reply}
 use Rattle.effects.specs.Effects.{Effect, Gives, stateOnly}
 use Rattle.chip.specs.Frames.{Chip, Sent, frameOf}
 use Rattle.chip.specs.Units.{drivenBytes}
-use Rattle.promises.specs.Calls.{Call, sends, waits, cycles, Pod}
-use Rattle.promises.specs.Recovery.{WinsBack}
+use Rattle.calls.specs.Calls.{Call, sends, waits, cycles, Pod}
+use Rattle.recovery.specs.Recovery.{WinsBack}
 
 -- a frame was sent before
 abbrev pub sentBefore : List Call → Bool
@@ -56,9 +56,3 @@ pub record Worthless : Type 0 where
   pub keeps-cells : (p : Pod) → KeepsCells p → WinsBack p → ⊥
   pub only-once : (p : Pod) → OnlyOnce p → WinsBack p → ⊥
   pub only-replays : (p : Pod) → OnlyReplays p → WinsBack p → ⊥
-
--- a made-up number of driven bytes falls: what satisfies the contract of a frame drives as many as the command and the length say
-abbrev pub NumberFixed : Type 0
-NumberFixed =
-    (rec : Record) (x : Chip) (f : Sent) (r : Reply) (xs os : List ℕ) → Gives (frameOf rec x f) r xs os → isDone (r .answer) ≡ true
-    → r .count ≡ drivenBytes (decodeOf (getD (f .bytes) 0 0)) (length (f .bytes))

@@ -10,8 +10,8 @@ use Rattle.states.specs.declared.Record.{Record}
 use Rattle.states.specs.declared.State.{State}
 use Rattle.answers.specs.declared.Answer.the-variants.{Done, Busy}
 use Rattle.chip.specs.Frames.{Chip, Sent, chipOf}
-use Rattle.promises.specs.Calls.{Call, sends, waits, ours, run, answers}
-use Rattle.promises.specs.Recovery.{Job, Bench, JobFits, toUnlock, toErase, toProgram, wakeUp, enableErase, enableProgram, readBack}
+use Rattle.calls.specs.Calls.{Call, sends, waits, ours, run, answers, Bench}
+use Rattle.recovery.specs.Recovery.{Job, JobFits, toUnlock, toErase, toProgram, wakeUp, enableErase, enableProgram, readBack}
 
 -- the calls are answered 0, and the frame after them 11
 abbrev pub ThenBusy : Record → List Call → Sent → Chip → Type 0

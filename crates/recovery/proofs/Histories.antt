@@ -6,11 +6,11 @@ use Rattle.states.specs.declared.Record.{Record}
 use Rattle.states.specs.declared.State.{State}
 use Rattle.states.proofs.States.{Sound, valid}
 use Rattle.chip.specs.Frames.{Chip, chipOf}
-use Rattle.promises.specs.Calls.{Call, ours, after, run}
-use Rattle.promises.specs.Histories.{Lent, history, onOne, ValidHistories, SameLength, AnyHistory, RunsAreHistories}
-use Rattle.promises.proofs.Valid.{power-on-sound, call-sound, call-length}
-use Rattle.promises.proofs.Steps.{after-any}
-use Rattle.promises.proofs.Recovery.{wins-back}
+use Rattle.calls.specs.Calls.{Call, ours, after, run}
+use Rattle.recovery.specs.Histories.{Lent, history, onOne, ValidHistories, SameLength, AnyHistory, RunsAreHistories}
+use Rattle.calls.proofs.Valid.{power-on-sound, call-sound, call-length}
+use Rattle.calls.proofs.Steps.{after-any}
+use Rattle.recovery.proofs.Recovery.{wins-back}
 
 history-sound : (rec : Record) (past : List Lent) (s : State) → Sound rec s → Sound rec (history rec past s)
 history-sound rec [] s p = p
