@@ -1,12 +1,17 @@
 -- Calls, pods, and what a list of calls does. Assumes nothing.
+use mathlib.Core.Path.{_≡_}
+use mathlib.Core.Bool.{true}
 use mathlib.Core.List.{List, [], _∷_}
-use Prim.Native.Nat.{ℕ}
+use Prim.Native.Nat.{ℕ, _≤_}
+use lib.ListN.{length}
+use Rattle.units.specs.Models.{modelOf}
+use Rattle.states.specs.States.{recordOk, stateOk}
 use Rattle.states.specs.declared.Record.{Record}
 use Rattle.states.specs.declared.State.{State}
 use Rattle.answers.specs.declared.Answer.{Answer}
 use Rattle.time.specs.declared.After.{After}
 use Rattle.effects.specs.Effects.{Effect}
-use Rattle.chip.specs.Frames.{Chip, Sent, chipOf, frameOf}
+use Rattle.chip.specs.Frames.{Chip, Sent, chipOf, sentOf, frameOf}
 use Rattle.time.specs.Time.{waitOf, powerOf}
 
 -- a frame; a wait of so many microseconds; a power cycle

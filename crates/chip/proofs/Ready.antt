@@ -8,7 +8,7 @@ use native.Mathlib.Omega.{arith}
 use lib.ListN.{length, getD}
 use Rattle.units.specs.declared.Address.{Address}
 use Rattle.units.specs.Models.{addressOf}
-use Rattle.units.proofs.Rules.{row-rules}
+use Rattle.units.proofs.Rules.{row-rules, highest-bp}
 use Rattle.answers.specs.Answers.{isDone}
 use Rattle.commands.specs.Commands.{traitsOf, fewest}
 use Rattle.commands.proofs.Rows.{long-enough}
@@ -16,7 +16,7 @@ use Rattle.states.specs.declared.Record.{Record}
 use Rattle.commands.specs.declared.Command.{Command}
 use Rattle.commands.specs.declared.Command.the-variants.{Unknown}
 use Rattle.answers.specs.declared.Answer.{Answer}
-use Rattle.states.proofs.States.{sound, highest-bp}
+use Rattle.states.proofs.States.{sound}
 use Rattle.ladder.specs.Ladder.{refusalOf}
 use Rattle.ladder.specs.Stages.{givenOf, saidOf}
 use Rattle.ladder.proofs.Stages.{stops-given, goes-on}

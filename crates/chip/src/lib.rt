@@ -112,10 +112,10 @@ pub fn frame(
         command: Command::Unknown,
         address: Address(0),
     };
-    let answer = ladder::given(rec, st, unread);
-    if answers::is_done(answer) {
+    let first = ladder::given(rec, st, unread);
+    if answers::is_done(first) {
         spoken(rec, st, array, bytes, tail, wp, out)
     } else {
-        effects::quiet(answer, st)
+        effects::quiet(first, st)
     }
 }

@@ -10,15 +10,22 @@ use Rattle.lines.specs.Lines.{linesFrom, joinedUp}
 use Rattle.lines.specs.Cutting.{Holds, heldRoom}
 use Rattle.stepper.specs.Rows.{logFrom}
 use Rattle.log.specs.Row.{longestRow}
+use Rattle.feed.specs.declared.Run.{Run}
 use Rattle.feed.specs.Feed.{Stand, standing, feedOf, lastOf}
 
 -- the log was written out, and is empty again
+abbrev pub emptiedRun : Run → Run
+emptiedRun run = record { chip = run .chip; number = run .number; used = run .used; at = run .at; filled = 0 }
+
 abbrev pub emptied : Stand → Stand
-emptied s = standing (record { chip = s .run .chip; number = s .run .number; used = s .run .used; at = s .run .at; filled = 0 }) (s .held) (s .cells) (s .log)
+emptied s = standing (emptiedRun (s .run)) (s .held) (s .cells) (s .log)
 
 -- the start of a block, with an empty log
+abbrev pub begunRun : Run → Run
+begunRun run = record { chip = run .chip; number = run .number; used = run .used; at = 0; filled = 0 }
+
 abbrev pub begun : Stand → Stand
-begun s = standing (record { chip = s .run .chip; number = s .run .number; used = s .run .used; at = 0; filled = 0 }) (s .held) (s .cells) (s .log)
+begun s = standing (begunRun (s .run)) (s .held) (s .cells) (s .log)
 
 -- what is written out of the log
 abbrev pub filledPart : Stand → List ℕ

@@ -4,11 +4,12 @@ use mathlib.Core.Bool.{Bool, true, false, true≢false, false≢true}
 use mathlib.Core.List.{List}
 use Prim.Native.Nat.{ℕ, _^_, _≤_, _<_}
 use native.Mathlib.Omega.{arith}
+use Rattle.units.proofs.Rules.{highest-bp}
 use Rattle.answers.specs.Answers.{isDone}
 use Rattle.states.specs.States.{recordOk, longestOf, stateOk}
 use Rattle.states.specs.declared.Record.{Record}
 use Rattle.states.specs.declared.State.{State}
-use Rattle.states.proofs.States.{sound, highest-bp, longest-in-range}
+use Rattle.states.proofs.States.{sound, longest-in-range}
 use Rattle.ladder.proofs.Passed.{passed}
 use Rattle.effects.specs.declared.Reply.{Reply}
 use Rattle.effects.specs.Effects.{latched, dozing, working, written, Effect}

@@ -1,6 +1,6 @@
 -- Laws of the model that are worth having in their own right. Assumes nothing.
 use mathlib.Core.Path.{_≡_}
-use mathlib.Core.Bool.{false}
+use mathlib.Core.Bool.{false, true}
 use mathlib.Core.List.{List}
 use mathlib.Core.Logic.{_⊎_}
 use Prim.Native.Nat.{ℕ, _+_, _≤_, _<_}
@@ -14,7 +14,7 @@ use Rattle.effects.specs.declared.Reply.{Reply}
 use Rattle.time.specs.declared.After.{After}
 use Rattle.effects.specs.Effects.{Gives}
 use Rattle.chip.specs.Frames.{Chip, Sent, headOf, refusedOf, frameOf}
-use Rattle.chip.specs.Units.{Extent, unitOf}
+use Rattle.chip.specs.Units.{Extent, unitOf, drivenBytes}
 use Rattle.time.specs.Time.{waitOf, powerOf}
 
 -- waiting a and then b is waiting a + b, for any record and state

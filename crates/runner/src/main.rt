@@ -2,7 +2,7 @@
 ghost use mathlib.Core.Path.{_≡_};
 ghost use Prim.Native.Nat.{_≤_};
 ghost use lib.ListN.{length};
-ghost use Rattle.runner.specs.Runs.{began, emptiedOf};
+ghost use Rattle.feed.specs.Script.{begunRun, emptiedRun};
 use feed::Run;
 use libc::STDERR_FILENO;
 use libc::STDIN_FILENO;
@@ -66,7 +66,7 @@ fn flush(log: &[u8], filled: usize) -> bool {
 
 // The run at the start of a block, with an empty log.
 fn at_block(run: Run) -> Run
-    ensures { λ r. ⌜ r ≡ began run ⌝ }
+    ensures { λ r. ⌜ r ≡ begunRun run ⌝ }
 {
     let chip = run.chip;
     Run {
@@ -80,7 +80,7 @@ fn at_block(run: Run) -> Run
 
 // The run with an empty log.
 fn emptied(run: Run) -> Run
-    ensures { λ r. ⌜ r ≡ emptiedOf run ⌝ }
+    ensures { λ r. ⌜ r ≡ emptiedRun run ⌝ }
 {
     let chip = run.chip;
     Run {

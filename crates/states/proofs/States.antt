@@ -16,14 +16,6 @@ use Rattle.states.specs.States.{timesOf, inRange, all, recordOk, largest
 use Rattle.states.specs.declared.Record.{Record}
 use Rattle.states.specs.declared.State.{State}
 
--- BP fits its places in the status byte, whatever the model
-bpFits : Part → Bool
-bpFits p = leb (p .row .«highest_bp») 15
-
-pub highest-bp : (n : ℕ) → modelOf n .«highest_bp» ≤ 15
-unfolding partOf bpFits
-highest-bp n = leb-true _ 15 (found bpFits n kh25l512 models refl refl)
-
 -- a valid state, in parts
 pub record Sound (rec : Record) (s : State) : Type 0 where
   pub level : s .bp ≤ modelOf (rec .model) .«highest_bp»

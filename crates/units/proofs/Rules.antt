@@ -176,10 +176,10 @@ module _ (n : ℕ) where
   unfolding rangeOf
   no-range bp h = sym (List·getD-eq-default (partOf n .ranges) (range 0 0) (omega (arith, all-double .0)))
 
-  -- no model has a BP above 15
-  lowTest : Part → Bool
-  lowTest p = leb (p .row .«highest_bp») 15
+-- no model has a BP above 15
+lowTest : Part → Bool
+lowTest p = leb (p .row .«highest_bp») 15
 
-  pub low : modelOf n .«highest_bp» ≤ 15
-  unfolding partOf lowTest
-  low = leb-true _ _ (found lowTest n kh25l512 models refl refl)
+pub highest-bp : (n : ℕ) → modelOf n .«highest_bp» ≤ 15
+unfolding partOf lowTest
+highest-bp n = leb-true _ _ (found lowTest n kh25l512 models refl refl)

@@ -1,4 +1,4 @@
-// The numbers of the sheets as kinds of their own: addresses, sectors and blocks; the models as rows; the protected ranges as a table.
+// The numbers of the sheets as kinds of their own: addresses, sectors and blocks; the models as rows; the protected ranges.
 ghost use mathlib.Core.Path.{_≡_};
 ghost use Prim.Native.Nat.{_<_};
 ghost use Rattle.units.specs.Kinds.{sectorOf, blockOf, pageStart, pageOffset, blockOfSector, sectorStart, blockStart};

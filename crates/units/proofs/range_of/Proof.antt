@@ -5,7 +5,7 @@ use native.Mathlib.Omega.{arith}
 use borrow.Author.Needs.{needs}
 use Rattle.units.specs.declared.Model.{Model}
 use Rattle.units.specs.Models.{modelOf}
-use Rattle.units.proofs.Rules.{range-below, range-all, no-range, low}
+use Rattle.units.proofs.Rules.{range-below, range-all, no-range, highest-bp}
 use Rattle.units.proofs.range_of.Statement.{statement}
 use Rattle.units.proofs.range_of.Tie as tie
 
@@ -27,7 +27,7 @@ shl-most : tie.Need-shl-most
 shl-most c =
     let a = c .before .before .before .args in
     let e = highest-is (a .number) _ (c .before .before .model-of .ensures) in
-    omega (arith, c .if1 .left, low (a .number))
+    omega (arith, c .if1 .left, highest-bp (a .number))
 
 returns-2 : tie.Need-returns-2
 returns-2 c =
