@@ -5,6 +5,7 @@ use mathlib.Core.List.{List}
 use mathlib.Core.Logic.{_⊎_}
 use Prim.Native.Nat.{ℕ, _+_, _≤_, _<_}
 use lib.ListN.{length, getD}
+use Rattle.commands.specs.Commands.{decodeOf}
 use Rattle.cells.specs.Cell.{bit}
 use Rattle.answers.specs.Answers.{isDone}
 use Rattle.states.specs.declared.Record.{Record}

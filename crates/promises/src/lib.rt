@@ -1,1 +1,1 @@
-// Laws of the model and the bench sheet: theorems over the definitions; no code.
+// Laws of the model: theorems over the definitions; no code.

@@ -10,7 +10,7 @@ use Rattle.ladder.specs.Ladder.{refusalOf}
 use Rattle.effects.specs.Effects.{drives, latched, dozing, working, written, writeEnable, writeStatus, readStatus, readFrom, eraseSector, programPage, wake}
 use Rattle.chip.specs.Frames.{headFor, acceptedOf, frameOf}
 use Rattle.time.specs.Time.{later}
-use Rattle.promises.specs.Sheet.{BenchSheet}
+use Rattle.sheet.specs.Sheet.{BenchSheet}
 
 pub bench-sheet : BenchSheet
 unfolding isModel partOf addressOf rangeOf isProtected lay ring counts cellAfter pageAfter sectorErased programmed decodeOf traitsOf lengthOk inRange recordOk longestOf stateOk statusOf refusalOf drives latched dozing working written writeEnable writeStatus readStatus readFrom eraseSector programPage wake headFor acceptedOf frameOf later
