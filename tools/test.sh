@@ -37,6 +37,7 @@ if rt staticlib pod; then
     count scripts/test.sh
     count tools/commands.sh
     count makers/test.sh
+    count tools/host.sh python -B tools/names.py
 else
     failed=$((failed + 1))
 fi
