@@ -10,8 +10,8 @@ use borrow.Author.Tests.{eq-eqb, ne-eqb, le-ltb, leb-true}
 use Rattle.units.specs.declared.Address.{Address}
 use Rattle.units.specs.declared.Block.{Block}
 use Rattle.units.specs.Kinds.{blockOf}
-use Rattle.units.specs.Models.{modelOf, addressOf, rangeOf, isProtected}
-use Rattle.units.proofs.Rules.{range-rules}
+use Rattle.models.specs.Models.{modelOf, addressOf, rangeOf, isProtected}
+use Rattle.models.proofs.Rules.{range-rules}
 use Rattle.parts.proofs.Lay.{lay-none}
 use Rattle.answers.specs.Answers.{isDone}
 use Rattle.commands.specs.Commands.{decodeOf, traitsOf, lengthOk}

@@ -9,8 +9,8 @@ use native.Mathlib.Omega.{arith}
 use lib.Dec.{eqb, leb, ltb, lit<}
 use lib.ListN.{length}
 use borrow.Author.Tests.{leb-true, ltb-false}
-use Rattle.units.proofs.Table.{found}
-use Rattle.units.specs.Models.{Part, partOf, modelOf, models, kh25l512}
+use Rattle.models.proofs.Table.{found}
+use Rattle.models.specs.Models.{Part, partOf, modelOf, models, kh25l512}
 use Rattle.states.specs.States.{recordOk, stateOk, longestOf, powerOn}
 use Rattle.states.specs.declared.Record.{Record}
 use Rattle.states.specs.declared.State.{State}

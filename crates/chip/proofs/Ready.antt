@@ -7,8 +7,8 @@ use native.Mathlib.Nat.{mod-lt}
 use native.Mathlib.Omega.{arith}
 use lib.ListN.{length, getD}
 use Rattle.units.specs.declared.Address.{Address}
-use Rattle.units.specs.Models.{addressOf}
-use Rattle.units.proofs.Rules.{row-rules, highest-bp}
+use Rattle.models.specs.Models.{addressOf}
+use Rattle.models.proofs.Rules.{row-rules, highest-bp}
 use Rattle.answers.specs.Answers.{isDone}
 use Rattle.commands.specs.Commands.{traitsOf, fewest}
 use Rattle.commands.proofs.Rows.{long-enough}

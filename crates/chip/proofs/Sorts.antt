@@ -10,7 +10,7 @@ use lib.ListN.{length, getD, drop, replicate}
 use borrow.Author.Tests.{eqb-true, not-false, ltb-true, ltb-false}
 use Rattle.units.specs.declared.Address.{Address}
 use Rattle.units.specs.Kinds.{sectorOf, blockOf, pageStart}
-use Rattle.units.specs.Models.{modelOf}
+use Rattle.models.specs.Models.{modelOf}
 use Rattle.units.proofs.Bools.{unless, only-if}
 use Rattle.parts.specs.Parts.{lay}
 use Rattle.rings.specs.Ring.{ring}
@@ -29,7 +29,7 @@ use Rattle.states.proofs.States.{status-write-le, page-le, sector-le, block-le,
 use Rattle.effects.specs.Effects.{Effect, stateOnly, quiet, drives, latched, dozing, working, written, writeEnable, writeDisable, writeStatus, sleep, idBytes, makerBytes, readStatus, readFrom, eraseSector, eraseBlock, eraseChip, programPage, readId, wake, readMaker}
 use Rattle.chip.specs.Frames.{Chip, acceptedOf}
 use Rattle.chip.specs.Units.{Extent, extent, unitOf, drivenBytes}
-use Rattle.effects.proofs.Fits.{page-fits, sector-fits, block-fits}
+use Rattle.changes.proofs.Fits.{page-fits, sector-fits, block-fits}
 
 -- ---- how the state moves, and what a command that moves it so has been asked
 pub data Move (rec : Record) (s : State) : State → Type 0 where

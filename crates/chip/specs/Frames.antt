@@ -5,7 +5,7 @@ use mathlib.Core.Path.{_≡_}
 use Prim.Native.Nat.{ℕ, _≤_, _<_}
 use lib.ListN.{length, getD}
 use Rattle.units.specs.declared.Address.{Address}
-use Rattle.units.specs.Models.{modelOf, addressOf}
+use Rattle.models.specs.Models.{modelOf, addressOf}
 use Rattle.answers.specs.Answers.{isDone}
 use Rattle.commands.specs.Commands.{decodeOf, traitsOf, fewest}
 use Rattle.states.specs.declared.Record.{Record}

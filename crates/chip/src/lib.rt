@@ -17,7 +17,7 @@ use units::Address;
 fn head(model: u32, cells: usize, bytes: &[u8], tail: u32, wp: bool, room: usize) -> Head
     ensures { λ r. ⌜ r ≡ headFor model cells (now (bytes .entry)) tail wp room ⌝ }
 {
-    let address = units::address_of(
+    let address = models::address_of(
         model,
         parts::byte_at(bytes, 1),
         parts::byte_at(bytes, 2),
@@ -51,17 +51,17 @@ fn accepted(
     match c {
         Command::WriteEnable => effects::write_enable(st),
         Command::WriteDisable => effects::write_disable(st),
-        Command::ReadStatus => effects::read_status(st, bytes, out),
+        Command::ReadStatus => shows::read_status(st, bytes, out),
         Command::WriteStatus => effects::write_status(rec, st, bytes),
-        Command::Read => effects::read_from(4, st, array, at, bytes, out),
-        Command::FastRead => effects::read_from(5, st, array, at, bytes, out),
-        Command::EraseSector => effects::erase_sector(rec, st, array, at),
-        Command::EraseBlock => effects::erase_block(rec, st, array, at),
-        Command::EraseChip => effects::erase_chip(rec, st, array),
-        Command::Program => effects::program_page(rec, st, array, at, bytes),
-        Command::ReadId => effects::read_id(rec, st, bytes, out),
-        Command::Wake => effects::wake(rec, st, bytes, out),
-        Command::ReadMaker => effects::read_maker(rec, st, bytes, out),
+        Command::Read => shows::read_from(4, st, array, at, bytes, out),
+        Command::FastRead => shows::read_from(5, st, array, at, bytes, out),
+        Command::EraseSector => changes::erase_sector(rec, st, array, at),
+        Command::EraseBlock => changes::erase_block(rec, st, array, at),
+        Command::EraseChip => changes::erase_chip(rec, st, array),
+        Command::Program => changes::program_page(rec, st, array, at, bytes),
+        Command::ReadId => shows::read_id(rec, st, bytes, out),
+        Command::Wake => shows::wake(rec, st, bytes, out),
+        Command::ReadMaker => shows::read_maker(rec, st, bytes, out),
         Command::Sleep => effects::sleep(st),
         Command::Unknown => effects::quiet(Answer::Done, st),
     }

@@ -1,3 +1,2 @@
--- `Replies`: laws of replies and of what is driven. `Fits`: the units of an address of the array lie in it.
+-- `Replies`: laws of replies and of what is driven.
 pub mod Replies
-pub mod Fits

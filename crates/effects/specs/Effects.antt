@@ -6,9 +6,9 @@ use Prim.Native.Nat.{ℕ, _-_, _/_, _%_, _≤_}
 use lib.Dec.{eqb, ltb, leb}
 use lib.ListN.{length, getD, drop, replicate}
 use Rattle.units.specs.declared.Address.{Address}
-use Rattle.units.specs.declared.Model.{Model}
+use Rattle.models.specs.declared.Model.{Model}
 use Rattle.units.specs.Kinds.{sectorOf, blockOf}
-use Rattle.units.specs.Models.{modelOf}
+use Rattle.models.specs.Models.{modelOf}
 use Rattle.parts.specs.Parts.{lay}
 use Rattle.rings.specs.Ring.{ring}
 use Rattle.flash.specs.Arrays.{sectorErased, blockErased, allErased, programmed}

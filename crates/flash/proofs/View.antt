@@ -9,9 +9,9 @@ use lib.Dec.{eqb, ltb}
 use lib.ListN.{length, take, drop}
 use borrow.Author.Tests.{eqb-true, ltb-true}
 use Rattle.units.specs.declared.Address.{Address}
-use Rattle.units.specs.Models.{Part, models, some, isLength}
+use Rattle.models.specs.Models.{Part, models, some, isLength}
 use Rattle.units.proofs.Bools.{both}
-use Rattle.units.proofs.Table.{every}
+use Rattle.models.proofs.Table.{every}
 use Rattle.flash.specs.Arrays.{pageOf}
 use Rattle.parts.proofs.Lay.{length-part}
 

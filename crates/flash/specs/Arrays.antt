@@ -7,7 +7,7 @@ use Rattle.units.specs.declared.Address.{Address}
 use Rattle.units.specs.declared.Sector.{Sector}
 use Rattle.units.specs.declared.Block.{Block}
 use Rattle.units.specs.Kinds.{sectorStart, blockStart, pageStart, pageOffset}
-use Rattle.units.specs.Models.{isLength}
+use Rattle.models.specs.Models.{isLength}
 use Rattle.cells.specs.Cell.{erased}
 use Rattle.fold.specs.Fold.{pageAfter}
 use Rattle.parts.specs.Parts.{part, lay}

@@ -65,7 +65,7 @@ pub fn page_view(array: &[u8], a: Address) -> &[u8]
     ensures { λ r. ⌜ now r ≡ pageOf (now (array .entry)) a ⌝ }
 {
     let size = array.len();
-    if units::is_length(size) {
+    if models::is_length(size) {
         let here = Address(a.0 % size as u32);
         let first = here.page_start();
         let start = first.0 as usize;

@@ -7,7 +7,7 @@ use native.Mathlib.Nat.{pos-of-ne-zero}
 use lib.Dec.{eqb}
 use borrow.Author.Tests.{eqb-true, eqb-false, ltb-false, not-true, not-false}
 use Rattle.units.proofs.Bools.{both, neither}
-use Rattle.units.specs.Models.{modelOf}
+use Rattle.models.specs.Models.{modelOf}
 use Rattle.answers.specs.Answers.{isDone}
 use Rattle.commands.specs.Commands.{traitsOf, lengthOk}
 use Rattle.states.specs.States.{recordOk, stateOk}

@@ -3,7 +3,7 @@ use mathlib.Core.Bool.{Bool, not, _&&_, _||_, cond}
 use mathlib.Core.List.{List, [], _∷_}
 use lib.Dec.{eqb, ltb}
 use Rattle.units.specs.Kinds.{blockOf}
-use Rattle.units.specs.Models.{modelOf, isProtected}
+use Rattle.models.specs.Models.{modelOf, isProtected}
 use Rattle.commands.specs.Commands.{traitsOf, lengthOk}
 use Rattle.states.specs.States.{recordOk, stateOk}
 use Rattle.states.specs.declared.Record.{Record}

@@ -27,7 +27,7 @@ pub fn given(rec: Record, st: State, head: Head) -> Answer
     if !states::record_ok(rec) {
         return Answer::BadRecord;
     }
-    let row = units::model_of(rec.model);
+    let row = models::model_of(rec.model);
     if head.cells != row.length as usize {
         return Answer::BadArray;
     }
@@ -81,7 +81,7 @@ fn allowed(rec: Record, st: State, head: Head, t: Traits) -> Answer
     let model = rec.model;
     let bp = st.bp;
     let at = head.address;
-    if (t.unit & units::is_protected(model, bp, at.in_block())) | (t.whole & (bp != 0)) {
+    if (t.unit & models::is_protected(model, bp, at.in_block())) | (t.whole & (bp != 0)) {
         return Answer::Protected;
     }
     Answer::Done

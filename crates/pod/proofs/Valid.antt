@@ -4,7 +4,7 @@ use mathlib.Core.Bool.{Bool, true, false, true≢false, false≢true}
 use mathlib.Core.List.{List}
 use Prim.Native.Nat.{ℕ, _^_, _≤_, _<_}
 use native.Mathlib.Omega.{arith}
-use Rattle.units.proofs.Rules.{highest-bp}
+use Rattle.models.proofs.Rules.{highest-bp}
 use Rattle.answers.specs.Answers.{isDone}
 use Rattle.states.specs.States.{recordOk, longestOf, stateOk}
 use Rattle.states.specs.declared.Record.{Record}

@@ -5,7 +5,7 @@ use mathlib.Core.Path.{_≡_}
 use Prim.Native.Nat.{ℕ}
 use lib.Dec.{eqb}
 use lib.ListN.{length}
-use Rattle.units.specs.Models.{modelOf}
+use Rattle.models.specs.Models.{modelOf}
 use Rattle.states.specs.States.{recordOk, stateOk}
 use Rattle.states.specs.declared.Record.{Record}
 use Rattle.states.specs.declared.State.{State}

@@ -30,7 +30,7 @@ use Rattle.effects.specs.Effects.{Effect, programPage}
 use Rattle.chip.specs.Frames.{Chip, headFor, acceptedOf, refusedOf}
 use Rattle.chip.specs.Units.{drivenBytes}
 use Rattle.time.specs.Time.{later, cycled, ifValid, waitOf, powerOf}
-use Rattle.effects.proofs.Fits.{page-fits}
+use Rattle.changes.proofs.Fits.{page-fits}
 use Rattle.chip.proofs.Sorts.{is-done, counts, changes-only}
 use Rattle.promises.specs.Laws.{WaitsAdd, RefusedFrame, RefusedWait, RefusedCycle, OnlyItsUnit, ProgramFalls, OneOutcome, OneEffect, OneWait, OneCycle, NumberFixed}
 use Rattle.chip.proofs.Cases.{head, frame-cases, sort, shown-ready}

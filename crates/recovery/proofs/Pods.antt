@@ -8,7 +8,7 @@ use native.Mathlib.Omega.{arith}
 use lib.Dec.{eqb, lit≤, lit<}
 use lib.ListN.{getD, replicate, length-replicate, getD-replicate}
 use borrow.Author.Tests.{eqb-true, eqb-false}
-use Rattle.units.specs.Models.{isModel, partOf, addressOf}
+use Rattle.models.specs.Models.{isModel, partOf, addressOf}
 use Rattle.cells.specs.Cell.{FF}
 use Rattle.parts.proofs.Bytes.{bytes-replicate}
 use Rattle.parts.proofs.Lay.{part-at}

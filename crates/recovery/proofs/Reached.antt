@@ -5,7 +5,7 @@ use mathlib.Core.List.{List, [], _∷_}
 use Prim.Native.Nat.{ℕ, _≤_, _<_}
 use lib.Dec.{lit≤}
 use lib.ListN.{length, replicate}
-use Rattle.units.specs.Models.{modelOf, addressOf}
+use Rattle.models.specs.Models.{modelOf, addressOf}
 use Rattle.states.specs.States.{recordOk, longestOf, powerOn}
 use Rattle.states.specs.declared.Record.{Record}
 use Rattle.answers.specs.declared.Answer.the-variants.{Done}

@@ -9,9 +9,9 @@ use lib.ListN.{length, getD}
 use borrow.Author.Tests.{ne-eqb, le-ltb, lt-ltb}
 use Rattle.units.specs.declared.Address.{Address}
 use Rattle.units.specs.Kinds.{sectorOf, pageStart, pageOffset}
-use Rattle.units.specs.Models.{modelOf, addressOf}
-use Rattle.units.proofs.Rules.{row-rules, units-inside}
-use Rattle.units.specs.Rules.{Inside}
+use Rattle.models.specs.Models.{modelOf, addressOf}
+use Rattle.models.proofs.Rules.{row-rules, units-inside}
+use Rattle.models.specs.Rules.{Inside}
 use Rattle.parts.specs.Parts.{part, lay}
 use Rattle.flash.specs.Arrays.{sectorErased, programmed}
 use Rattle.rings.specs.Ring.{ring}

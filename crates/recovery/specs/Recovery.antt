@@ -6,7 +6,7 @@ use Prim.Native.Nat.{ℕ, _+_, _≤_, _<_}
 use lib.ListN.{length, getD, replicate}
 use Rattle.units.specs.declared.Address.{Address}
 use Rattle.units.specs.Kinds.{sectorOf, sectorStart}
-use Rattle.units.specs.Models.{modelOf, addressOf}
+use Rattle.models.specs.Models.{modelOf, addressOf}
 use Rattle.cells.specs.Cell.{FF}
 use Rattle.parts.specs.Parts.{Bytes, part}
 use Rattle.states.specs.States.{recordOk, stateOk, longestOf}

@@ -1,5 +1,5 @@
 -- The bench sheet comes out as it should: each case is computed, and only the array's length is used. Assumes nothing.
-use Rattle.units.specs.Models.{isModel, partOf, addressOf, rangeOf, isProtected}
+use Rattle.models.specs.Models.{isModel, partOf, addressOf, rangeOf, isProtected}
 use Rattle.parts.specs.Parts.{lay}
 use Rattle.rings.specs.Ring.{ring}
 use Rattle.fold.specs.Fold.{counts, cellAfter, pageAfter}

@@ -6,7 +6,7 @@ use Prim.Native.Nat.{ℕ, _-_}
 use lib.Dec.{eqb}
 use lib.ListN.{length, getD, take, replicate}
 use Rattle.calls.specs.Calls.{frame}
-use Rattle.units.specs.Models.{modelOf}
+use Rattle.models.specs.Models.{modelOf}
 use Rattle.cells.specs.Cell.{erased}
 use Rattle.parts.specs.Parts.{part}
 use Rattle.answers.specs.Answers.{numberOf}

@@ -32,7 +32,7 @@ fn in_range(us: u32) -> bool
 pub fn record_ok(rec: Record) -> bool
     ensures { λ r. ⌜ r ≡ recordOk rec ⌝ }
 {
-    units::is_model(rec.model)
+    models::is_model(rec.model)
         & (in_range(rec.status_write)
             & (in_range(rec.page)
                 & (in_range(rec.sector) & (in_range(rec.block) & in_range(rec.chip)))))
@@ -58,7 +58,7 @@ pub fn longest(rec: Record) -> u32
 pub fn state_ok(rec: Record, st: State) -> bool
     ensures { λ r. ⌜ r ≡ stateOk rec st ⌝ }
 {
-    let row = units::model_of(rec.model);
+    let row = models::model_of(rec.model);
     let level = st.bp <= row.highest_bp;
     if st.busy == 0 {
         return level;

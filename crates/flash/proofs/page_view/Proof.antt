@@ -6,7 +6,7 @@ use native.Mathlib.Omega.{arith}
 use lib.ListN.{length}
 use denote.Ref.{now}
 use borrow.Author.Needs.{needs}
-use Rattle.units.specs.Models.{isLength}
+use Rattle.models.specs.Models.{isLength}
 use Rattle.flash.proofs.View.{Pages, length-pages, page-inside, page-is, no-page}
 use Rattle.flash.proofs.page_view.Statement.{statement}
 use Rattle.flash.proofs.page_view.Tie as tie

@@ -4,8 +4,8 @@ use mathlib.Core.Bool.{true, false}
 use lib.Dec.{eqb}
 use borrow.Author.Needs.{needs}
 use borrow.Author.Tests.{not-true, not-false, eq-eqb, ne-eqb, lt-ltb, le-ltb}
-use Rattle.units.specs.Models.{modelOf}
-use Rattle.units.specs.declared.Model.{Model}
+use Rattle.models.specs.Models.{modelOf}
+use Rattle.models.specs.declared.Model.{Model}
 use Rattle.states.specs.States.{recordOk, stateOk}
 use Rattle.ladder.specs.Stages.{givenOf}
 use Rattle.ladder.proofs.given.Statement.{statement}
