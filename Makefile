@@ -1,15 +1,31 @@
-# make test                 prove everything, try the must-fail edits, run the programs and the host tests
-# make run SCRIPT=FILE      run a script through the runner; the log goes to standard output
-# make bench                count instructions against the independent C model; a table on standard output
+# What each target does is said by `make`.
+.DEFAULT_GOAL := help
+.PHONY: help test run compare explain example bench benchmark
 
-.PHONY: test run bench
+help:
+	@echo 'make test                          prove everything, try the must-fail edits, run the programs and the host tests'
+	@echo 'make run SCRIPT=FILE               run a script through the runner; the log goes to standard output'
+	@echo 'make compare SCRIPT=FILE LOG=FILE  run a script and compare its log with a stored one'
+	@echo 'make explain SCRIPT=FILE           run a script and show each line beside its answer in words'
+	@echo 'make example                       run the firmware of host/example on the model, with its mistake and mended'
+	@echo 'make bench, make benchmark         count instructions against the independent C model'
 
 test:
 	@tools/test.sh
 
 run:
-	@tools/run.sh "$(SCRIPT)"
+	@tools/run.sh "$$SCRIPT"
 
-bench:
-	@rt staticlib pod >&2
-	@host/bench/run.sh
+compare:
+	@tools/compare.sh "$$SCRIPT" "$$LOG"
+
+explain:
+	@host/explain/explain.sh "$$SCRIPT"
+
+example:
+	@tools/rattle.sh 'make example' archive
+	@host/example/run.sh
+
+bench benchmark:
+	@tools/rattle.sh 'make bench' archive
+	@host/benchmark/run.sh

@@ -67,6 +67,7 @@ link() {
     done
     "$host" cc "$obj/firmware.o" "$archive" "$obj/model.o" -o "$bin/example"
     "$host" cc "$obj"/scripts*.o "$obj/rig.o" "$obj/model.o" -o "$bin/scripts"
+    "$host" cc -std=c99 $flags "$here"/explain/*.c -o "$bin/explain"
 }
 
 # header LANGUAGE STANDARD: without a warning, and it links with the archive and runs.
@@ -82,6 +83,15 @@ example() {
     "$host" run "$bin/example" >"$GWO_BUILD/example.got" &&
         diff "$here/example/output.txt" "$GWO_BUILD/example.got" &&
         echo "example: the first record of last spring's table is overwritten, the mended one is whole"
+}
+
+# The C of README.md, as it stands there, prints what is said there.
+readme() {
+    awk '/^```c$/ { inside = 1; next } /^```$/ { inside = 0 } inside' "$root/README.md" >"$GWO_BUILD/readme.c" &&
+        "$host" cc -std=c99 $flags -Werror "$GWO_BUILD/readme.c" "$archive" "$obj/model.o" -o "$bin/readme" &&
+        "$host" run "$bin/readme" >"$GWO_BUILD/readme.got" && cat "$GWO_BUILD/readme.got" &&
+        [ -s "$GWO_BUILD/readme.got" ] && grep -qxF -f "$GWO_BUILD/readme.got" "$root/README.md" &&
+        echo "readme: its C compiles without a warning and prints what is said there"
 }
 
 # 01's script gives 01's log: this tries the program that the runner is compared with.
@@ -112,14 +122,17 @@ link
 for standard in c99 c11; do check "header-$standard" header c $standard; done
 for standard in c++98 c++17; do check "header-$standard" header c++ $standard; done
 check example example
+check readme readme
 check rules "$host" run "$bin/rules"
 check compare "$host" run "$bin/compare" "$calls" ${GWO_SEED:-}
 check twelve "$host" run "$bin/twelve"
 check sample sample
+check explain "$here/test/explain.sh" "$bin/scripts" "$bin/explain"
 if [ -n "${GWO_RUNNER:-}" ]; then
     check runner "$here/test/runner.sh" "$bin/scripts" "$lines" 1 2
+    check words "$here/test/words.sh"
 else
-    echo "NOT RUN runner: GWO_RUNNER does not say where the script runner is"
+    echo "NOT RUN runner, words: GWO_RUNNER does not say where the script runner is"
 fi
 faults
 finished=yes

@@ -105,6 +105,14 @@ ended() {
     esac
 }
 
+# named END: standard error says that it failed.
+named() {
+    grep -q "^standard $1: ." "$work/error" && return 0
+    echo "standard error does not name the $1:"
+    cat "$work/error"
+    return 1
+}
+
 # An endless input, and a reader that takes one line and goes.
 closed_output() {
     yes P 2>/dev/null | timeout "$patience" $runner | head -n 1 >"$work/log"
@@ -118,15 +126,14 @@ closed_output_unsignalled() (
 )
 
 full_output() {
-    yes P 2>/dev/null | timeout "$patience" $runner >/dev/full
-    ended "${PIPESTATUS[1]}"
+    yes P 2>/dev/null | timeout "$patience" $runner >/dev/full 2>"$work/error"
+    ended "${PIPESTATUS[1]}" && named output
 }
 
 # A folder cannot be read: the header comes, and standard error names the input.
 failing_input() {
     timeout "$patience" $runner <. >"$work/log" 2>"$work/error"
-    ended $? && echo "$header" | diff -a - "$work/log" || return 1
-    grep -q 'standard input' "$work/error" || { echo "standard error does not name it:"; cat "$work/error"; return 1; }
+    ended $? && echo "$header" | diff -a - "$work/log" && named input
 }
 
 no_script() {

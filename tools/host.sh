@@ -8,6 +8,7 @@
 #   tools/host.sh cxx ARG..            the same for C++
 #   tools/host.sh run PROGRAM ARG..    run an x86-64 program that `cc` or `cxx` linked
 #   tools/host.sh program PROGRAM      run an x86-64 program that `rt` linked
+#   tools/host.sh python ARG..         run Python
 #   tools/host.sh count-flags          what the benchmark is compiled with, so that its rows can be counted
 #   tools/host.sh count DIR PROGRAM    run it, and print a line `ROW INSTRUCTIONS` for each stretch it
 #                                      marked; DIR takes what is left over
@@ -92,7 +93,7 @@ count_emulated() {
     need qemu-x86_64 qemu-user
     native_cc
     for version in 1 2 3 4 5 6; do
-        gcc -O2 -shared -fPIC -DVERSION=$version -o "$dir/counter.so" "$root/host/bench/qemu_counter.c"
+        gcc -O2 -shared -fPIC -DVERSION=$version -o "$dir/counter.so" "$root/host/benchmark/qemu_counter.c"
         if qemu-x86_64 -cpu qemu64 -plugin "$dir/counter.so,counts=$dir/counts" "$@" >"$dir/qemu.log" 2>&1; then
             cat "$dir/counts"
             return 0
@@ -110,6 +111,9 @@ cc) cc "$@" ;;
 cxx) cxx "$@" ;;
 run) run "$@" ;;
 program) program "$@" ;;
+python)
+    need python3 python3-minimal
+    exec python3 "$@" ;;
 count-flags)
     if [ $way = native ]; then
         need valgrind valgrind # its header too

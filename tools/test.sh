@@ -22,6 +22,11 @@ count() {
     fi
 }
 
+if ! command -v rt >/dev/null 2>&1; then
+    echo "make test: the Rattle toolchain is missing: there is no rt on the path" >&2
+    echo "0 passed, 1 failed"
+    exit 1
+fi
 started=$SECONDS
 count rt ci
 proved=$SECONDS
@@ -30,6 +35,9 @@ if rt staticlib pod; then
     export GWO_RUNNER
     count host/test.sh
     count scripts/test.sh
+    count tools/commands.sh
+    count makers/test.sh
+    count tools/host.sh python -B tools/names.py
 else
     failed=$((failed + 1))
 fi

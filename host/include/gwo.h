@@ -7,8 +7,8 @@
  * Every call is answered by a number (enum gwo_number), for any argument at all.
  *
  * The caller's duties are those of C, and no others:
- *  - each pointer points to at least as many bytes as its length says, and is
- *    not null, even where that length is 0;
+ *  - each pointer points to as many bytes as its length says, and may be null
+ *    where the length is 0;
  *  - from and count each point to a number of their own;
  *  - no two of the lent buffers overlap: the output is not the frame.
  *
@@ -111,7 +111,12 @@ struct gwo_record {
     uint32_t chip_us;   /* busy after a chip erase */
 };
 
-/* The maximum times of the data sheets: KH25L512 (model 1) and KH25L2006E (model 2). */
+/*
+ * The maximum times of the data sheets: KH25L512 (model 1) and KH25L2006E (model 2). For
+ * model 2 the customer's page prints house and typical values (15,000, 3,000, 40,000,
+ * 400,000, 2,000,000), but its own rule is the maximum where the sheet gives one, and the
+ * KH25L2006E's sheet gives all five. Firmware that wants other times fills a record of its own.
+ */
 static const struct gwo_record gwo_bench_model_1 = {1u, 15000u, 5000u, 120000u, 2000000u, 2000000u};
 static const struct gwo_record gwo_bench_model_2 = {2u, 40000u, 3000u, 200000u, 2000000u, 3800000u};
 

@@ -60,6 +60,24 @@ static void calls(const struct gwo_record *r, uint8_t busy_low, uint8_t busy_hig
     check(gwo_record_power_cycle(r, state, sizeof state) == GWO_DONE, "power cycle");
 }
 
+/* A pointer with the length 0 may be null: the call is answered, and the other buffers stay. */
+static void nulls(const struct gwo_record *r)
+{
+    static uint8_t array[GWO_MODEL_2_LENGTH];
+    static const uint8_t status[] = {0x05, 0x00};
+    const size_t n = gwo_array_length(r->model);
+    uint8_t state[GWO_STATE_LENGTH] = {0, 0, 0, 0, 0, 0, 0, 0}, out[2];
+    uint32_t from, count;
+
+    check(gwo_record_frame(r, NULL, 0, array, n, status, 2, 0, 1, out, 2, &from, &count) == GWO_BAD_STATE, "no state");
+    check(gwo_record_frame(r, state, 8, NULL, 0, status, 2, 0, 1, out, 2, &from, &count) == GWO_BAD_ARRAY, "no array");
+    check(gwo_record_frame(r, state, 8, array, n, NULL, 0, 0, 1, out, 2, &from, &count) == GWO_NO_COMMAND, "no frame");
+    check(gwo_record_frame(r, state, 8, array, n, status, 2, 0, 1, NULL, 0, &from, &count) == GWO_SHORT_OUTPUT, "no output");
+    check(gwo_record_frame(r, state, 8, array, n, NULL, 0, 0, 1, NULL, 0, &from, &count) == GWO_NO_COMMAND, "neither");
+    check(gwo_record_wait(r, NULL, 0, 1) == GWO_BAD_STATE, "a wait without a state");
+    check(gwo_record_power_cycle(r, NULL, 0) == GWO_BAD_STATE, "a power cycle without a state");
+}
+
 int main(int argc, char **argv)
 {
     if (argc > 1)
@@ -68,6 +86,8 @@ int main(int argc, char **argv)
     lengths();
     calls(&gwo_bench_model_1, 15000 & 255, 15000 >> 8);
     calls(&gwo_bench_model_2, 40000 & 255, 40000 >> 8);
+    nulls(&gwo_bench_model_1);
+    nulls(&gwo_bench_model_2);
     printf("%s: %s\n", program, failed ? "failed" : "compiles without a warning, links and runs");
     return failed;
 }

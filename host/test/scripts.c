@@ -1,6 +1,7 @@
 /*
  * Scripts for the runner, and the log that it has to write.
  *   scripts gen SEED N    a script of N lines, good and bad of every kind
+ *   scripts bad SEED N    N lines that are bad, or nearly
  *   scripts expect        the log of the script on standard input, by the independent model
  * The reading of a line is written from 01, Script and log. An F line has always four fields:
  * an empty frame ends in a tab.
@@ -161,10 +162,12 @@ int main(int argc, char **argv)
 {
     if (argc == 4 && strcmp(argv[1], "gen") == 0) {
         generate(strtoull(argv[2], NULL, 10), strtoul(argv[3], NULL, 10));
+    } else if (argc == 4 && strcmp(argv[1], "bad") == 0) {
+        generate_bad(strtoull(argv[2], NULL, 10), strtoul(argv[3], NULL, 10));
     } else if (argc == 2 && strcmp(argv[1], "expect") == 0) {
         expect();
     } else {
-        fprintf(stderr, "usage: scripts gen SEED LINES, or scripts expect\n");
+        fprintf(stderr, "usage: scripts gen SEED LINES, scripts bad SEED LINES, or scripts expect\n");
         return 2;
     }
     return fflush(stdout) == 0 && !ferror(stdout) ? 0 : 1;

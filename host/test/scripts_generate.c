@@ -264,3 +264,12 @@ void generate(uint64_t seed, unsigned long lines)
             bad_scene();
     }
 }
+
+void generate_bad(uint64_t seed, unsigned long lines)
+{
+    dice.at = seed;
+    last_newline = 1;
+    lines_left = lines;
+    while (lines_left > 0)
+        bad_scene();
+}

@@ -1,10 +1,10 @@
 -- One cell of a flash array. It holds a byte; erased it is FF, all bits 1 (000 L315, L548); a program can only make bits 0 (000 L343).
 -- Nothing here knows how a chip is spoken to. Assumes nothing.
 use mathlib.Core.List.{List}
-use Prim.Native.Nat.{ℕ, _/_, _%_, _^_, _<_}
+use Prim.Native.Nat.{ℕ, _/_, _%_, _^_}
 use lib.Bits.{bitAnd}
 use lib.ListN.{getD, replicate}
-use Rattle.cells.specs.Parts.{byIndex}
+use Rattle.parts.specs.Parts.{byIndex}
 
 -- what an erased cell holds
 abbrev pub FF : ℕ
@@ -25,7 +25,3 @@ anded bytes cells = byIndex (λ (k old : ℕ). programmedCell old (getD bytes k 
 -- bit b of x, 0 or 1
 abbrev pub bit : ℕ → ℕ → ℕ
 bit b x = x / 2 ^ b % 2
-
--- every element is a byte
-pub record Bytes (xs : List ℕ) : Type 0 where
-  pub below : (k : ℕ) → getD xs k 0 < 256

@@ -1,135 +1,114 @@
 -- What the refusals have shown is what the commands ask for. Assumes nothing.
 use mathlib.Core.Path.{_≡_, refl, sym, ap, subst, _∙_}
-use mathlib.Core.Bool.{Bool, true, false, _&&_, _||_, cond}
+use mathlib.Core.Bool.{Bool, true, false, cond}
 use mathlib.Core.List.{List}
-use mathlib.Core.Logic.{_⊎_, inl, inr, ⊎-elim}
-use Prim.Native.Nat.{ℕ, _+_, _≤_, _<_}
-use native.Mathlib.Nat.{mod-lt, le-trans}
+use Prim.Native.Nat.{ℕ, _<_}
+use native.Mathlib.Nat.{mod-lt}
 use native.Mathlib.Omega.{arith}
-use lib.Dec.{eqb, leb, lit≤}
 use lib.ListN.{length, getD}
-use borrow.Author.Tests.{eqb-true, eqb-false, leb-true}
 use Rattle.units.specs.declared.Address.{Address}
-use Rattle.units.specs.Kinds.{sectorOf, blockOf, pageStart, sectorStart, blockStart}
-use Rattle.units.specs.Models.{modelOf, addressOf}
-use Rattle.units.proofs.Bools.{both, either}
-use Rattle.units.proofs.Rules.{row-rules, units-inside}
-use Rattle.rules.specs.Answers.{isDone}
-use Rattle.rules.specs.Commands.{traitsOf, lengthOk}
-use Rattle.rules.specs.declared.Record.{Record}
-use Rattle.rules.specs.declared.State.{State}
-use Rattle.rules.specs.declared.Traits.{Traits}
-use Rattle.rules.specs.declared.Command.{Command}
-use Rattle.rules.specs.declared.Command.the-variants.{WriteEnable, WriteDisable, ReadStatus, WriteStatus, Read, FastRead, EraseSector, EraseBlock, EraseChip, Program, ReadId, Wake, ReadMaker, Sleep, Unknown}
-use Rattle.rules.specs.declared.Answer.{Answer}
-use Rattle.rules.proofs.States.{sound, highest-bp}
+use Rattle.models.specs.Models.{addressOf}
+use Rattle.models.proofs.Rules.{row-rules, highest-bp}
+use Rattle.answers.specs.Answers.{isDone}
+use Rattle.commands.specs.Commands.{traitsOf, fewest}
+use Rattle.commands.proofs.Rows.{long-enough}
+use Rattle.states.specs.declared.Record.{Record}
+use Rattle.commands.specs.declared.Command.{Command}
+use Rattle.commands.specs.declared.Command.the-variants.{Unknown}
+use Rattle.answers.specs.declared.Answer.{Answer}
+use Rattle.states.proofs.States.{sound}
 use Rattle.ladder.specs.Ladder.{refusalOf}
+use Rattle.ladder.specs.Stages.{givenOf, saidOf}
+use Rattle.ladder.proofs.Stages.{stops-given, goes-on}
 use Rattle.ladder.specs.declared.Head.{Head}
 use Rattle.ladder.proofs.Passed.{Passed, passed}
-use Rattle.chip.specs.declared.Reply.{Reply}
-use Rattle.chip.specs.Effects.{Gives, quiet, stateOnly}
-use Rattle.chip.specs.Frames.{Room, Ready, fewest, headOf, acceptedOf, frameOf}
-
--- the units of an address of the array lie in it
-module _ (rec : Record) (cells : List ℕ) (at : Address) (h : at .0 < length cells) (e : length cells ≡ modelOf (rec .model) .length) where
-  below : at .0 < modelOf (rec .model) .length
-  below = omega arith
-
-  pub page-fits : pageStart at + 256 ≤ length cells
-  page-fits = omega (arith, units-inside (rec .model) at below .page)
-
-  pub sector-fits : (sectorOf at .0 < 1048576) × (sectorStart (sectorOf at) + 4096 ≤ length cells)
-  sector-fits = (omega (arith, row-rules (rec .model) .reach), omega (arith, units-inside (rec .model) at below .sector))
-
-  pub block-fits : (blockOf at .0 < 65536) × (blockStart (blockOf at) + 65536 ≤ length cells)
-  block-fits = (omega (arith, row-rules (rec .model) .reach), omega (arith, units-inside (rec .model) at below .block))
+use Rattle.effects.specs.declared.Reply.{Reply}
+use Rattle.effects.specs.Effects.{Effect, Gives, Room, quiet}
+use Rattle.chip.specs.Frames.{Chip, Sent, Ready, headFor, headOf, acceptedOf, refusedOf, frameOf}
 
 -- an arm of the dispatch: what its command asks for and gives is what the command in hand does
 pub room-at : {c k : Command} {bytes out : List ℕ} → c ≡ k → Room (fewest (traitsOf c)) bytes out → Room (fewest (traitsOf k)) bytes out
 room-at {c} {k} {bytes} {out} e r = subst (λ (x : Command). Room (fewest (traitsOf x)) bytes out) e r
 
-module _ (rec : Record) (s : State) (cells : List ℕ) (at : Address) (bytes out : List ℕ) where
+module _ (rec : Record) (x : Chip) (at : Address) (bytes out : List ℕ) where
   pub at-command : {c k : Command} {r : Reply} {xs os : List ℕ} → c ≡ k
-      → Gives (acceptedOf rec s k cells at bytes out) r xs os
-      → Gives (acceptedOf rec s c cells at bytes out) r xs os
-  at-command {c} {k} {r} {xs} {os} e g = subst (λ (x : Command). Gives (acceptedOf rec s x cells at bytes out) r xs os) (sym e) g
+      → Gives (acceptedOf rec x k at bytes out) r xs os
+      → Gives (acceptedOf rec x c at bytes out) r xs os
+  at-command {c} {k} {r} {xs} {os} e g = subst (λ (d : Command). Gives (acceptedOf rec x d at bytes out) r xs os) (sym e) g
 
--- a length that is allowed is the exact one or at least the least
-length-cases : (k : Traits) (n tail : ℕ) → lengthOk k n tail ≡ true → (n ≡ k .exact) ⊎ (k .least ≤ n)
-unfolding lengthOk
-length-cases k n tail e =
-    ⊎-elim (λ p. inl (eqb-true _ _ (both _ _ p .0))) (λ p. inr (leb-true _ _ (both _ _ p .0)))
-    (either (eqb n (k .exact) && eqb tail 0) (leb (k .least) n && (eqb tail 0 || k .«any_tail»)) e)
+module _ (rec : Record) (x : Chip) (f : Sent) where
+  abbrev H : Head
+  H = headOf rec x f
 
--- no command has an exact length above its least one
-exact-first : (c : Command) → traitsOf c .exact ≤ traitsOf c .least
-unfolding traitsOf
-exact-first WriteEnable = lit≤ tt
-exact-first WriteDisable = lit≤ tt
-exact-first ReadStatus = lit≤ tt
-exact-first WriteStatus = lit≤ tt
-exact-first Read = lit≤ tt
-exact-first FastRead = lit≤ tt
-exact-first EraseSector = lit≤ tt
-exact-first EraseBlock = lit≤ tt
-exact-first EraseChip = lit≤ tt
-exact-first Program = lit≤ tt
-exact-first ReadId = lit≤ tt
-exact-first Wake = lit≤ tt
-exact-first ReadMaker = lit≤ tt
-exact-first Sleep = lit≤ tt
-exact-first Unknown = lit≤ tt
-
-long-enough : (k : Traits) (n tail : ℕ) → k .exact ≤ k .least → 0 < n → lengthOk k n tail ≡ true → fewest k ≤ n
-long-enough k n tail m z e = go (eqb (k .exact) 0) refl (length-cases k n tail e)
-  where
-    go : (b : Bool) → eqb (k .exact) 0 ≡ b → (n ≡ k .exact) ⊎ (k .least ≤ n) → cond b (k .least) (k .exact) ≤ n
-    go true p q =
-        let o : k .exact ≡ 0 = eqb-true (k .exact) 0 p in
-        ⊎-elim (λ x. omega arith) (λ x. x) q
-    go false p q = ⊎-elim (λ x. omega arith) (λ x. le-trans m x) q
-
-module _ (rec : Record) (s : State) (cells bytes : List ℕ) (tail : ℕ) (wp : Bool) (out : List ℕ) where
-  arrived : Passed rec s (length cells) (headOf (rec .model) bytes tail wp) (length out)
-      → Ready rec s (headOf (rec .model) bytes tail wp .command) cells (headOf (rec .model) bytes tail wp .address) bytes out
-  unfolding headOf addressOf
+  pub arrived : Passed rec (x .state) H → Ready rec x (H .command) (H .address) (f .bytes) (f .out)
+  unfolding headFor addressOf
   arrived p =
+      let b : List ℕ = f .bytes in
       record {
-        level = omega (arith, sound rec s (p .valid) .level, highest-bp (rec .model));
+        level = omega (arith, sound rec (x .state) (p .valid) .level, highest-bp (rec .model));
         whole = p .whole;
-        inside = subst (λ (n : ℕ). addressOf (rec .model) (getD bytes 1 0) (getD bytes 2 0) (getD bytes 3 0) .0 < n) (sym (p .whole)) (mod-lt _ (omega (arith, row-rules (rec .model) .some)));
-        fits = record { long = long-enough _ _ _ (exact-first _) (p .some) (p .fits); short = p .short; room = p .roomy };
+        inside = subst (λ (n : ℕ). addressOf (rec .model) (getD b 1 0) (getD b 2 0) (getD b 3 0) .0 < n) (sym (p .whole)) (mod-lt _ (omega (arith, row-rules (rec .model) .some)));
+        fits = record { long = long-enough _ _ _ (p .fits); short = p .short; room = p .roomy };
       }
 
-  abbrev H : Head
-  H = headOf (rec .model) bytes tail wp
+  -- what the call is given was let pass: what the frame says is what is left of the table
+  said : {h : Head} {a : Answer} → isDone (givenOf rec (x .state) H) ≡ true → h ≡ H → a ≡ saidOf rec (x .state) h → a ≡ refusalOf rec (x .state) H
+  said p e g = g ∙ ap (saidOf rec (x .state)) e ∙ sym (goes-on rec (x .state) H p)
 
-  said : {h : Head} {a : Answer} → h ≡ H → a ≡ refusalOf rec s (length cells) h (length out) → a ≡ refusalOf rec s (length cells) H (length out)
-  said e f = f ∙ ap (λ (x : Head). refusalOf rec s (length cells) x (length out)) e
+  pub ready : {h : Head} {a : Answer} → isDone (givenOf rec (x .state) H) ≡ true → h ≡ H → a ≡ saidOf rec (x .state) h
+      → isDone a ≡ true → Ready rec x (h .command) (h .address) (f .bytes) (f .out)
+  ready {h} {a} p e g d =
+      subst (λ (k : Head). Ready rec x (k .command) (k .address) (f .bytes) (f .out)) (sym e)
+      (arrived (passed rec (x .state) H (sym (ap isDone (said p e g)) ∙ d)))
 
-  pub ready : {h : Head} {a : Answer} → h ≡ H → a ≡ refusalOf rec s (length cells) h (length out)
-      → isDone a ≡ true → Ready rec s (h .command) cells (h .address) bytes out
-  ready {h} {a} e f d =
-      subst (λ (x : Head). Ready rec s (x .command) cells (x .address) bytes out) (sym e)
-      (arrived (passed rec s (length cells) H (length out) (sym (ap isDone (said e f)) ∙ d)))
+  -- what a frame comes to, by whether it is refused
+  abbrev either-way : Bool → Effect
+  either-way b = cond b (acceptedOf rec x (H .command) (H .address) (f .bytes) (f .out)) (refusedOf (refusalOf rec (x .state) H) x f)
 
-  pub accept : {h : Head} {a : Answer} {r : Reply} {xs os : List ℕ} → h ≡ H
-      → a ≡ refusalOf rec s (length cells) h (length out) → isDone a ≡ true
-      → Gives (acceptedOf rec s (h .command) cells (h .address) bytes out) r xs os
-      → Gives (frameOf rec s cells bytes tail wp out) r xs os
+  pub accept : {h : Head} {a : Answer} {r : Reply} {xs os : List ℕ} → isDone (givenOf rec (x .state) H) ≡ true → h ≡ H
+      → a ≡ saidOf rec (x .state) h → isDone a ≡ true
+      → Gives (acceptedOf rec x (h .command) (h .address) (f .bytes) (f .out)) r xs os
+      → Gives (frameOf rec x f) r xs os
   unfolding frameOf
-  accept {h} {a} {r} {xs} {os} e f d g =
-      subst
-      (λ (b : Bool). Gives (cond b (acceptedOf rec s (H .command) cells (H .address) bytes out) (stateOnly (refusalOf rec s (length cells) H (length out)) s cells out)) r xs os)
-      (sym (sym (ap isDone (said e f)) ∙ d))
-      (subst (λ (z : Head). Gives (acceptedOf rec s (z .command) cells (z .address) bytes out) r xs os) e g)
+  accept {h} {a} {r} {xs} {os} p e g d q =
+      subst (λ (b : Bool). Gives (either-way b) r xs os)
+      (sym (sym (ap isDone (said p e g)) ∙ d))
+      (subst (λ (k : Head). Gives (acceptedOf rec x (k .command) (k .address) (f .bytes) (f .out)) r xs os) e q)
 
-  pub refuse : {h : Head} {a : Answer} {r : Reply} → h ≡ H
-      → a ≡ refusalOf rec s (length cells) h (length out) → isDone a ≡ false → r ≡ quiet a s
-      → Gives (frameOf rec s cells bytes tail wp out) r cells out
+  -- a refusal, wherever it came from
+  refused : {a : Answer} {r : Reply} → a ≡ refusalOf rec (x .state) H → isDone a ≡ false → r ≡ quiet a (x .state) → Gives (frameOf rec x f) r (x .cells) (f .out)
   unfolding frameOf
-  refuse {h} {a} {r} e f d g =
-      subst
-      (λ (b : Bool). Gives (cond b (acceptedOf rec s (H .command) cells (H .address) bytes out) (stateOnly (refusalOf rec s (length cells) H (length out)) s cells out)) r cells out)
-      (sym (sym (ap isDone (said e f)) ∙ d))
-      (record { reply = g ∙ ap (λ (z : Answer). quiet z s) (said e f); cells = refl; out = refl })
+  refused {a} {r} g d q =
+      subst (λ (b : Bool). Gives (either-way b) r (x .cells) (f .out))
+      (sym (sym (ap isDone g) ∙ d))
+      (record { reply = q ∙ ap (λ (k : Answer). quiet k (x .state)) g; cells = refl; out = refl })
+
+  pub refuse : {h : Head} {a : Answer} {r : Reply} → isDone (givenOf rec (x .state) H) ≡ true → h ≡ H
+      → a ≡ saidOf rec (x .state) h → isDone a ≡ false → r ≡ quiet a (x .state)
+      → Gives (frameOf rec x f) r (x .cells) (f .out)
+  refuse p e g d q = refused (said p e g) d q
+
+  -- the first rows do not look at what the frame says
+  abbrev unread : Head
+  unread =
+      record {
+        cells = length (x .cells);
+        count = length (f .bytes);
+        tail = f .tail;
+        wp = f .wp;
+        room = length (f .out);
+        command = Unknown;
+        address = record { 0 = 0 };
+      }
+
+  as-given : givenOf rec (x .state) unread ≡ givenOf rec (x .state) H
+  unfolding givenOf headFor
+  as-given = refl
+
+  pub let-pass : {a : Answer} → a ≡ givenOf rec (x .state) unread → isDone a ≡ true → isDone (givenOf rec (x .state) H) ≡ true
+  let-pass e d = sym (ap isDone (e ∙ as-given)) ∙ d
+
+  pub refuse-given : {a : Answer} {r : Reply} → a ≡ givenOf rec (x .state) unread → isDone a ≡ false → r ≡ quiet a (x .state) → Gives (frameOf rec x f) r (x .cells) (f .out)
+  refuse-given e d q =
+      let g = e ∙ as-given in
+      refused (g ∙ sym (stops-given rec (x .state) H (sym (ap isDone g) ∙ d))) d q

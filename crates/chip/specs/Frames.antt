@@ -1,73 +1,89 @@
 -- Any frame: its head, the refusals, and what its command does. Assumes nothing.
-use mathlib.Core.Bool.{Bool, true, false, cond}
+use mathlib.Core.Bool.{Bool, cond}
 use mathlib.Core.List.{List}
 use mathlib.Core.Path.{_≡_}
 use Prim.Native.Nat.{ℕ, _≤_, _<_}
-use lib.Dec.{eqb}
 use lib.ListN.{length, getD}
 use Rattle.units.specs.declared.Address.{Address}
-use Rattle.units.specs.Models.{modelOf, addressOf}
-use Rattle.rules.specs.Answers.{isDone}
-use Rattle.rules.specs.Commands.{decodeOf, traitsOf}
-use Rattle.rules.specs.declared.Record.{Record}
-use Rattle.rules.specs.declared.State.{State}
-use Rattle.rules.specs.declared.Traits.{Traits}
-use Rattle.rules.specs.declared.Command.{Command}
-use Rattle.rules.specs.declared.Command.the-variants.{WriteEnable, WriteDisable, ReadStatus, WriteStatus, Read, FastRead, EraseSector, EraseBlock, EraseChip, Program, ReadId, Wake, ReadMaker, Sleep, Unknown}
-use Rattle.rules.specs.declared.Answer.{Answer}
-use Rattle.rules.specs.declared.Answer.the-variants.{Done}
+use Rattle.models.specs.Models.{modelOf, addressOf}
+use Rattle.answers.specs.Answers.{isDone}
+use Rattle.commands.specs.Commands.{decodeOf, traitsOf, fewest}
+use Rattle.states.specs.declared.Record.{Record}
+use Rattle.states.specs.declared.State.{State}
+use Rattle.commands.specs.declared.Command.{Command}
+use Rattle.commands.specs.declared.Command.the-variants.{WriteEnable, WriteDisable, ReadStatus, WriteStatus, Read, FastRead, EraseSector, EraseBlock, EraseChip, Program, ReadId, Wake, ReadMaker, Sleep, Unknown}
+use Rattle.answers.specs.declared.Answer.{Answer}
+use Rattle.answers.specs.declared.Answer.the-variants.{Done}
 use Rattle.ladder.specs.Ladder.{refusalOf}
 use Rattle.ladder.specs.declared.Head.{Head}
-use Rattle.chip.specs.Effects.{Effect, shown, changed, stateOnly, latched, dozing, written, readStatus, readFrom, eraseSector, eraseBlock, eraseChip, programPage, readId, wake, readMaker}
+use Rattle.effects.specs.Effects.{Effect, shown, changed, turned, stateOnly, writeEnable, writeDisable, writeStatus, sleep, readStatus, readFrom, eraseSector, eraseBlock, eraseChip, programPage, readId, wake, readMaker, Room}
 
--- the command is the first byte, the address the next three
-unfoldable pub headOf : ℕ → List ℕ → ℕ → Bool → Head
-headOf model bytes tail wp =
+-- what lies between two calls: the chip's state and its array
+pub record Chip : Type 0 where
+  pub state : State
+  pub cells : List ℕ
+
+-- what a frame sends: its whole bytes, the tail bits after them and the WP# level; and the output lent to it
+pub record Sent : Type 0 where
+  pub bytes : List ℕ
+  pub tail : ℕ
+  pub wp : Bool
+  pub out : List ℕ
+
+abbrev pub chipOf : State → List ℕ → Chip
+chipOf s cells = record { state = s; cells = cells }
+
+abbrev pub sentOf : List ℕ → ℕ → Bool → List ℕ → Sent
+sentOf bytes tail wp out = record { bytes = bytes; tail = tail; wp = wp; out = out }
+
+-- what the refusals look at: the command is the first byte, the address the next three
+unfoldable pub headFor : ℕ → ℕ → List ℕ → ℕ → Bool → ℕ → Head
+headFor model cells bytes tail wp room =
     record {
+      cells = cells;
       count = length bytes;
       tail = tail;
       wp = wp;
+      room = room;
       command = decodeOf (getD bytes 0 0);
       address = addressOf model (getD bytes 1 0) (getD bytes 2 0) (getD bytes 3 0);
     }
 
--- an accepted frame
-unfoldable pub acceptedOf : Record → State → Command → List ℕ → Address → List ℕ → List ℕ → Effect
-acceptedOf rec s WriteEnable cells at bytes out = stateOnly Done (latched s true) cells out
-acceptedOf rec s WriteDisable cells at bytes out = stateOnly Done (latched s false) cells out
-acceptedOf rec s ReadStatus cells at bytes out = shown cells (readStatus s bytes out)
-acceptedOf rec s WriteStatus cells at bytes out = stateOnly Done (written s (getD bytes 1 0) (rec .«status_write»)) cells out
-acceptedOf rec s Read cells at bytes out = shown cells (readFrom 4 s cells at bytes out)
-acceptedOf rec s FastRead cells at bytes out = shown cells (readFrom 5 s cells at bytes out)
-acceptedOf rec s EraseSector cells at bytes out = changed out (eraseSector rec s cells at)
-acceptedOf rec s EraseBlock cells at bytes out = changed out (eraseBlock rec s cells at)
-acceptedOf rec s EraseChip cells at bytes out = changed out (eraseChip rec s cells)
-acceptedOf rec s Program cells at bytes out = changed out (programPage rec s cells at bytes)
-acceptedOf rec s ReadId cells at bytes out = shown cells (readId rec s bytes out)
-acceptedOf rec s Wake cells at bytes out = shown cells (wake rec s bytes out)
-acceptedOf rec s ReadMaker cells at bytes out = shown cells (readMaker rec s bytes out)
-acceptedOf rec s Sleep cells at bytes out = stateOnly Done (dozing s true) cells out
-acceptedOf rec s Unknown cells at bytes out = stateOnly Done s cells out
+abbrev pub headOf : Record → Chip → Sent → Head
+headOf rec x f = headFor (rec .model) (length (x .cells)) (f .bytes) (f .tail) (f .wp) (length (f .out))
 
--- any frame: a refusal returns the state given, drives nothing and changes nothing, WEL included
-unfoldable pub frameOf : Record → State → List ℕ → List ℕ → ℕ → Bool → List ℕ → Effect
-frameOf rec s cells bytes tail wp out =
-    let h : Head = headOf (rec .model) bytes tail wp in
-    let a : Answer = refusalOf rec s (length cells) h (length out) in
-    cond (isDone a) (acceptedOf rec s (h .command) cells (h .address) bytes out) (stateOnly a s cells out)
+-- an accepted frame, by its command: no command looks at the tail bits, nor but for the refusals at the WP# level
+unfoldable pub acceptedOf : Record → Chip → Command → Address → List ℕ → List ℕ → Effect
+acceptedOf rec x WriteEnable at bytes out = turned (x .cells) out (writeEnable (x .state))
+acceptedOf rec x WriteDisable at bytes out = turned (x .cells) out (writeDisable (x .state))
+acceptedOf rec x ReadStatus at bytes out = shown (x .cells) (readStatus (x .state) bytes out)
+acceptedOf rec x WriteStatus at bytes out = turned (x .cells) out (writeStatus rec (x .state) bytes)
+acceptedOf rec x Read at bytes out = shown (x .cells) (readFrom 4 (x .state) (x .cells) at bytes out)
+acceptedOf rec x FastRead at bytes out = shown (x .cells) (readFrom 5 (x .state) (x .cells) at bytes out)
+acceptedOf rec x EraseSector at bytes out = changed out (eraseSector rec (x .state) (x .cells) at)
+acceptedOf rec x EraseBlock at bytes out = changed out (eraseBlock rec (x .state) (x .cells) at)
+acceptedOf rec x EraseChip at bytes out = changed out (eraseChip rec (x .state) (x .cells))
+acceptedOf rec x Program at bytes out = changed out (programPage rec (x .state) (x .cells) at bytes)
+acceptedOf rec x ReadId at bytes out = shown (x .cells) (readId rec (x .state) bytes out)
+acceptedOf rec x Wake at bytes out = shown (x .cells) (wake rec (x .state) bytes out)
+acceptedOf rec x ReadMaker at bytes out = shown (x .cells) (readMaker rec (x .state) bytes out)
+acceptedOf rec x Sleep at bytes out = turned (x .cells) out (sleep (x .state))
+acceptedOf rec x Unknown at bytes out = stateOnly Done (x .state) (x .cells) out
+
+-- a refusal returns the state given, drives nothing and changes nothing, WEL included
+abbrev pub refusedOf : Answer → Chip → Sent → Effect
+refusedOf a x f = stateOnly a (x .state) (x .cells) (f .out)
+
+-- any frame
+unfoldable pub frameOf : Record → Chip → Sent → Effect
+frameOf rec x f =
+    let h : Head = headOf rec x f in
+    let a : Answer = refusalOf rec (x .state) h in
+    cond (isDone a) (acceptedOf rec x (h .command) (h .address) (f .bytes) (f .out)) (refusedOf a x f)
 
 -- what the refusals have shown of an accepted frame, for the code below them
-abbrev pub fewest : Traits → ℕ
-fewest k = cond (eqb (k .exact) 0) (k .least) (k .exact)
-
--- a frame of at least `first` bytes, none longer than is allowed, and room for it in the output
-pub record Room (first : ℕ) (bytes out : List ℕ) : Type 0 where
-  pub long : first ≤ length bytes
-  pub short : length bytes ≤ 65541
-  pub room : length bytes ≤ length out
-
-pub record Ready (rec : Record) (s : State) (c : Command) (cells : List ℕ) (at : Address) (bytes out : List ℕ) : Type 0 where
-  pub level : s .bp ≤ 15
-  pub whole : length cells ≡ modelOf (rec .model) .length
-  pub inside : at .0 < length cells
+pub record Ready (rec : Record) (x : Chip) (c : Command) (at : Address) (bytes out : List ℕ) : Type 0 where
+  pub level : x .state .bp ≤ 15
+  pub whole : length (x .cells) ≡ modelOf (rec .model) .length
+  pub inside : at .0 < length (x .cells)
   pub fits : Room (fewest (traitsOf c)) bytes out

@@ -1,3 +1,2 @@
-pub mod Effects
 pub mod Frames
-pub mod Time
+pub mod Units

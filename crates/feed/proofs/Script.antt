@@ -1,33 +1,106 @@
--- A whole script, and how a feed is a step of it. Assumes nothing.
+-- A whole script: what is written is the log of its lines. Assumes nothing.
 use mathlib.Core.Path.{_≡_, refl, sym, ap, _∙_}
-use mathlib.Core.List.{List, [], _∷_, _++_, append-assoc, append-nil}
-use Prim.Native.Nat.{ℕ}
-use lib.ListN.{length, drop}
+use mathlib.Core.Bool.{Bool, true, false}
+use mathlib.Core.List.{List, [], _∷_, _++_, append-assoc}
+use Prim.Native.Nat.{ℕ, zero, suc, _+_, _≤_}
+use native.Mathlib.Omega.{arith}
+use lib.Dec.{ltb}
+use lib.ListN.{length, take, drop, length-take}
 use lib.Seq.{drop-length}
-use Rattle.rules.specs.declared.Record.{Record}
-use Rattle.lines.specs.Cutting.{Holds}
-use Rattle.feed.specs.declared.Run.{Run}
-use Rattle.feed.specs.Feed.{Did, Fed}
-use Rattle.feed.specs.Script.{Point, logAt, Through, done, more, Whole, ends, goes, joined, WholeScript}
+use borrow.Author.Tests.{ltb-true, ltb-false}
+use Rattle.parts.proofs.Lay.{part-lay}
+use Rattle.states.specs.declared.Record.{Record}
+use Rattle.text.specs.Put.{Put}
+use Rattle.text.proofs.PutLaws.{put-same}
+use Rattle.lines.specs.Lines.{linesFrom, joinedUp}
+use Rattle.lines.specs.Cutting.{Holds, heldRoom}
+use Rattle.stepper.specs.Rows.{logFrom}
+use Rattle.log.specs.Row.{longestRow}
+use Rattle.feed.specs.Feed.{Stand, feedOf}
+use Rattle.feed.specs.Fed.{Did, Fed}
+use Rattle.feed.specs.Script.{emptied, begun, filledPart, Wrote, blockFor, wholeBlock, WholeScript}
+use Rattle.feed.proofs.Feeds.{feed-feeds, last-finishes}
 
-through : {rec : Record} {block : List ℕ} {at : ℕ} {p q : Point} {text : List ℕ} → Through rec block at p text q → (later : List ℕ)
-    → logAt rec p (drop at block ++ later) ≡ text ++ logAt rec q later
-through {rec} {block} (done {p}) later = ap (λ (z : List ℕ). logAt rec p (z ++ later)) (drop-length block)
-through {rec} {block} (more {at} {to} {p} {q} {r} {texts} text e t) later =
-    e later ∙ ap (λ (z : List ℕ). text ++ z) (through t later) ∙ sym (append-assoc text texts (logAt rec r later))
+-- a text that was put into an empty log is what is written out of it
+put-filled : {text d e : List ℕ} {r : ℕ} → Put text d 0 e r → take r e ≡ text
+put-filled {text} {d} {e} {r} p =
+    let n : r ≡ length text = omega (arith, p .next) in
+    ap (λ (k : ℕ). take k e) n ∙ ap (take (length text)) (p .is) ∙ part-lay d 0 text (omega arith)
 
-run : {rec : Record} {p : Point} {blocks : List (List ℕ)} {text : List ℕ} → Whole rec p blocks text → text ≡ logAt rec p (joined blocks)
-run ends = refl
-run {rec} (goes {p} {q} {block} {text} {texts} {blocks} t g) = ap (λ (z : List ℕ). text ++ z) (run g) ∙ sym (through t (joined blocks))
+-- ---- a block
+record Within (block : List ℕ) (s : Stand) (line : List ℕ) : Type 0 where
+  inside : s .run .at ≤ length block
+  hold : length (s .held) ≡ heldRoom
+  room : longestRow ≤ length (s .log)
+  holds : Holds line (s .held) (s .run .used)
 
+-- the block is used up, and `rest` is held
+record Through (rec : Record) (block : List ℕ) (s : Stand) (line : List ℕ) (w : Wrote) : Type 0 where
+  rest : List ℕ
+  hold : length (w .stand .held) ≡ heldRoom
+  room : longestRow ≤ length (w .stand .log)
+  holds : Holds rest (w .stand .held) (w .stand .run .used)
+  same : (later : List ℕ)
+      → logFrom rec (s .run .chip) (s .cells) (s .run .number) (linesFrom line (drop (s .run .at) block ++ later))
+      ≡ w .text ++ logFrom rec (w .stand .run .chip) (w .stand .cells) (w .stand .run .number) (linesFrom rest later)
+
+used-up : (rec : Record) (block : List ℕ) (s : Stand) (line : List ℕ) → Within block s line → length block ≤ s .run .at → Through rec block s line (record { text = []; stand = emptied s })
+used-up rec block s line p l =
+    let n : s .run .at ≡ length block = omega (arith, p .inside) in
+    let none : drop (s .run .at) block ≡ [] = ap (λ (k : ℕ). drop k block) n ∙ drop-length block in
+    record {
+      rest = line;
+      hold = p .hold;
+      room = p .room;
+      holds = p .holds;
+      same = λ later. ap (λ (z : List ℕ). logFrom rec (s .run .chip) (s .cells) (s .run .number) (linesFrom line (z ++ later))) none;
+    }
+
+module _ (rec : Record) (block : List ℕ) (s : Stand) (line : List ℕ) (p : Within block s line) where
+  abbrev fed : Stand
+  fed = feedOf rec block (emptied s)
+
+  feeds : Fed rec (emptied s .run) (s .held) block (s .cells) (s .log) (fed .run) (fed .held) (fed .cells) (fed .log)
+  feeds =
+      feed-feeds rec (emptied s .run) (s .held) block (s .cells) (s .log)
+      (record { inside = p .inside; hold = p .hold; used = omega (arith, p .holds .count, p .hold, length-take (length (s .held)) line); within = omega arith })
+
+  did : Did rec (emptied s .run) block (s .cells) (s .log) (fed .run) (fed .held) (fed .cells) (fed .log) line
+  did = feeds .did line (p .holds)
+
+  next-within : Within block fed (did .rest)
+  next-within = record { inside = feeds .inside; hold = feeds .hold ∙ p .hold; room = omega (arith, p .room, put-same (did .put)); holds = did .holds }
+
+  through-more : (w : Wrote) → Through rec block fed (did .rest) w → Through rec block s line (record { text = filledPart fed ++ w .text; stand = w .stand })
+  through-more w t =
+      record {
+        rest = t .rest;
+        hold = t .hold;
+        room = t .room;
+        holds = t .holds;
+        same = λ later.
+            let end : List ℕ = logFrom rec (w .stand .run .chip) (w .stand .cells) (w .stand .run .number) (linesFrom (t .rest) later) in
+            did .same later ∙ ap (λ (z : List ℕ). did .text ++ z) (t .same later) ∙ sym (append-assoc (did .text) (w .text) end)
+            ∙ ap (λ (z : List ℕ). z ++ w .text ++ end) (sym (put-filled (did .put)));
+      }
+
+through-for : (rec : Record) (block : List ℕ) (n : ℕ) (s : Stand) (line : List ℕ) → Within block s line → length block ≤ s .run .at + n → Through rec block s line (blockFor rec block n (emptied s))
+through-for rec block zero s line p l = used-up rec block s line p (omega arith)
+through-for rec block (suc n) s line p l =
+    go (ltb (s .run .at) (length block)) refl (through-for rec block n (fed rec block s line p) (did rec block s line p .rest) (next-within rec block s line p))
+  where
+    go : (b : Bool) → ltb (s .run .at) (length block) ≡ b
+        → (length block ≤ fed rec block s line p .run .at + n → Through rec block (fed rec block s line p) (did rec block s line p .rest) (blockFor rec block n (emptied (fed rec block s line p))))
+        → Through rec block s line (blockFor rec block (suc n) (emptied s))
+    go true e f =
+        rw e (through-more rec block s line p (blockFor rec block n (emptied (fed rec block s line p)))
+        (f (omega (arith, feeds rec block s line p .on (ltb-true (s .run .at) (length block) e) (p .room)))))
+    go false e f = rw e (used-up rec block s line p (ltb-false (s .run .at) (length block) e))
+
+-- ---- block after block
 pub whole-script : WholeScript
-whole-script rec p blocks text r = run r
-
--- a feed is a step through its block, whatever line is held
-abbrev pub point : Run → List ℕ → List ℕ → Point
-point run cells line = record { chip = run .chip; cells = cells; number = run .number; line = line }
-
-pub fed-steps : {rec : Record} {first : Run} {held block cells log : List ℕ} {r : Run} {held′ cells′ log′ : List ℕ} (f : Fed rec first held block cells log r held′ cells′ log′)
-    (line : List ℕ) (h : Holds line held (first .used)) {texts : List ℕ} {q : Point} → Through rec block (r .at) (point r cells′ (f .did line h .rest)) texts q
-    → Through rec block (first .at) (point first cells line) (f .did line h .text ++ texts) q
-fed-steps f line h t = more (f .did line h .text) (f .did line h .same) t
+whole-script rec s line [] l r h = put-filled (last-finishes rec (begun s .run) (s .held) (s .cells) (s .log) l r .did line h)
+whole-script rec s line (block ∷ blocks) l r h =
+    let t = through-for rec block (length block) (begun s) line (record { inside = omega arith; hold = l; room = r; holds = h }) (omega arith) in
+    let w : Wrote = wholeBlock rec block s in
+    ap (λ (z : List ℕ). w .text ++ z) (whole-script rec (w .stand) (t .rest) blocks (t .hold) (t .room) (t .holds)) ∙ sym (t .same (joinedUp blocks))

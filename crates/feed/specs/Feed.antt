@@ -1,67 +1,106 @@
--- What feeding a block does, whatever was held of its first line and whatever comes after it. Assumes nothing.
+-- What feeding a block does: one turn after the other, each one line or the rest of the block. Assumes nothing.
 use mathlib.Core.Path.{_≡_}
-use mathlib.Core.List.{List, [], _∷_, _++_}
-use Prim.Native.Nat.{ℕ, _+_, _≤_, _<_}
-use lib.ListN.{length, drop}
-use Rattle.rules.specs.declared.Record.{Record}
-use Rattle.text.specs.Put.{Put}
-use Rattle.lines.specs.Lines.{linesFrom, lastLine}
-use Rattle.lines.specs.Cutting.{Holds}
-use Rattle.play.specs.declared.Logged.{Logged}
-use Rattle.play.specs.Play.{next, logFrom}
+use mathlib.Core.Bool.{cond, _&&_}
+use mathlib.Core.List.{List}
+use Prim.Native.Nat.{ℕ, zero, suc, _+_, _-_, _≤_, _<_}
+use lib.Dec.{eqb, leb, ltb}
+use lib.ListN.{length, take, drop}
+use Rattle.parts.specs.Parts.{lay}
+use Rattle.states.specs.declared.Record.{Record}
+use Rattle.lines.specs.declared.Cut.{Cut}
+use Rattle.lines.specs.declared.Cut.the-variants.{Here, Joined, Open}
+use Rattle.lines.specs.Cutting.{cutOf, heldOf, heldRoom}
+use Rattle.play.specs.Play.{Turn}
+use Rattle.stepper.specs.declared.Logged.{Logged}
+use Rattle.stepper.specs.Rows.{lineTurn, rowText, next}
+use Rattle.log.specs.Row.{longestRow}
 use Rattle.feed.specs.declared.Run.{Run}
 
 -- where a feed starts
 pub record Start (run : Run) (held block log : List ℕ) : Type 0 where
   pub inside : run .at ≤ length block
-  pub hold : length held ≡ 641
-  pub used : run .used ≤ 641
+  pub hold : length held ≡ heldRoom
+  pub used : run .used ≤ heldRoom
   pub within : run .filled ≤ length log
 
 -- the log has room for the longest row, and the buffer for the line that is held has 641 bytes: enough to know a line over 640 for one
-pub record Ready (run : Run) (held block log : List ℕ) : Type 0 where
+pub record TurnStart (run : Run) (held block log : List ℕ) : Type 0 where
   pub inside : run .at < length block
-  pub hold : length held ≡ 641
-  pub used : run .used ≤ 641
-  pub room : run .filled + 665 ≤ length log
+  pub hold : length held ≡ heldRoom
+  pub used : run .used ≤ heldRoom
+  pub room : run .filled + longestRow ≤ length log
 
-pub record Goes (done : Logged) (number at : ℕ) (r : Run) : Type 0 where
-  pub chip : r .chip ≡ done .state
-  pub number′ : r .number ≡ next number
-  pub used : r .used ≡ 0
-  pub at′ : r .at ≡ at
-  pub filled : r .filled ≡ done .next
+-- after a line: nothing is held, and the next line has the next number
+abbrev pub goesOn : Logged → ℕ → ℕ → Run
+goesOn done number at = record { chip = done .state; number = next number; used = 0; at = at; filled = done .next }
 
--- From `run` to `r` some text was put into the log, and the log of the lines to come is that text and the log of the lines still to come:
--- `line` is what there is of the line that is held, `later` the input after the block.
-pub record Did (rec : Record) (run : Run) (block cells log : List ℕ) (r : Run) (held cells′ log′ line : List ℕ) : Type 0 where
-  pub text : List ℕ
-  pub rest : List ℕ
-  pub put : Put text log (run .filled) log′ (r .filled)
-  pub holds : Holds rest held (r .used)
-  pub same : (later : List ℕ)
-      → logFrom rec (run .chip) cells (run .number) (linesFrom line (drop (run .at) block ++ later))
-      ≡ text ++ logFrom rec (r .chip) cells′ (r .number) (linesFrom rest (drop (r .at) block ++ later))
+-- where a feed stands: the run, the buffer for the line that is held, the array and the log
+pub record Stand : Type 0 where
+  pub run : Run
+  pub held : List ℕ
+  pub cells : List ℕ
+  pub log : List ℕ
 
--- one turn goes on in the block, by a row at most
-pub record Turned (rec : Record) (run : Run) (held block cells log : List ℕ) (r : Run) (held′ cells′ log′ : List ℕ) : Type 0 where
-  pub on : run .at < r .at
-  pub inside : r .at ≤ length block
-  pub hold : length held′ ≡ length held
-  pub used : r .used ≤ 641
-  pub row : r .filled ≤ run .filled + 665
-  pub did : (line : List ℕ) → Holds line held (run .used) → Did rec run block cells log r held′ cells′ log′ line
+abbrev pub standing : Run → List ℕ → List ℕ → List ℕ → Stand
+standing run held cells log = record { run = run; held = held; cells = cells; log = log }
 
--- a feed goes on to the block's end, or until the log lacks room for a row
-pub record Fed (rec : Record) (run : Run) (held block cells log : List ℕ) (r : Run) (held′ cells′ log′ : List ℕ) : Type 0 where
-  pub inside : r .at ≤ length block
-  pub on : run .at < length block → run .filled + 665 ≤ length log → run .at < r .at
-  pub hold : length held′ ≡ length held
-  pub used : r .used ≤ 641
-  pub within : r .filled ≤ length log
-  pub did : (line : List ℕ) → Holds line held (run .used) → Did rec run block cells log r held′ cells′ log′ line
+-- a line is played, and its row put into the log; the next line starts at `to`
+unfoldable pub lineDone : Record → Stand → List ℕ → List ℕ → ℕ → Stand
+lineDone rec s held line to =
+    let t : Turn = lineTurn rec (s .run .chip) (s .cells) line in
+    let row : List ℕ = rowText rec (s .run .chip) (s .cells) (s .run .number) line in
+    record {
+      run = goesOn (record { next = s .run .filled + length row; state = t .played .state }) (s .run .number) to;
+      held = held;
+      cells = t .cells;
+      log = lay (s .log) (s .run .filled) row;
+    }
+
+-- a line that lies in the block; one that began before it; none that ends in it
+abbrev pub cutTurn : Record → List ℕ → Stand → List ℕ → Cut → Stand
+cutTurn rec block s held (Here e) = lineDone rec s held (take (e - s .run .at) (drop (s .run .at) block)) (e + 1)
+cutTurn rec block s held (Joined n e) = lineDone rec s held (take n held) (e + 1)
+cutTurn rec block s held (Open n) =
+    record {
+      run = record { chip = s .run .chip; number = s .run .number; used = n; at = length block; filled = s .run .filled };
+      held = held;
+      cells = s .cells;
+      log = s .log;
+    }
+
+unfoldable pub feedTurn : Record → List ℕ → Stand → Stand
+feedTurn rec block s = cutTurn rec block s (heldOf (s .held) (s .run .used) block (s .run .at)) (cutOf (s .held) (s .run .used) block (s .run .at))
+
+-- at most n turns, while the block is not used up and the log has room for the longest row
+abbrev pub feedFor : Record → List ℕ → ℕ → Stand → Stand
+feedFor rec block zero s = s
+feedFor rec block (suc n) s = cond (ltb (s .run .at) (length block) && leb (s .run .filled + longestRow) (length (s .log))) (feedFor rec block n (feedTurn rec block s)) s
+
+-- each turn uses up a byte at least, so that the block's length is enough
+unfoldable pub feedOf : Record → List ℕ → Stand → Stand
+feedOf rec block s = feedFor rec block (length block) s
 
 -- at the input's end a line that is held is the last one
-pub record Finished (rec : Record) (run : Run) (held cells log : List ℕ) (filled : ℕ) (log′ : List ℕ) : Type 0 where
-  pub within : filled ≤ length log
-  pub did : (line : List ℕ) → Holds line held (run .used) → Put (logFrom rec (run .chip) cells (run .number) (lastLine line)) log (run .filled) log′ filled
+unfoldable pub lastOf : Record → Stand → Stand
+lastOf rec s = cond (eqb (s .run .used) 0) s (lineDone rec s (s .held) (take (s .run .used) (s .held)) (s .run .at))
+
+-- what a call gives and leaves in the lent buffers
+pub record Stands (t : Stand) (r : Run) (held cells log : List ℕ) : Type 0 where
+  pub run′ : r ≡ t .run
+  pub held′ : held ≡ t .held
+  pub cells′ : cells ≡ t .cells
+  pub log′ : log ≡ t .log
+
+pub record Ends (t : Stand) (filled : ℕ) (cells log : List ℕ) : Type 0 where
+  pub filled′ : filled ≡ t .run .filled
+  pub cells′ : cells ≡ t .cells
+  pub log′ : log ≡ t .log
+
+-- no second answer
+abbrev pub OneStands : Type 0
+OneStands = (t : Stand) (r r₂ : Run) (held held₂ cells cells₂ log log₂ : List ℕ) → Stands t r held cells log → Stands t r₂ held₂ cells₂ log₂
+    → (r ≡ r₂) × (held ≡ held₂) × (cells ≡ cells₂) × (log ≡ log₂)
+
+abbrev pub OneEnds : Type 0
+OneEnds = (t : Stand) (filled filled₂ : ℕ) (cells cells₂ log log₂ : List ℕ) → Ends t filled cells log → Ends t filled₂ cells₂ log₂
+    → (filled ≡ filled₂) × (cells ≡ cells₂) × (log ≡ log₂)

@@ -1,40 +1,59 @@
 -- A whole script, fed in blocks: what is written is the log of its lines. Assumes nothing.
 use mathlib.Core.Path.{_≡_}
+use mathlib.Core.Bool.{cond}
 use mathlib.Core.List.{List, [], _∷_, _++_}
-use Prim.Native.Nat.{ℕ}
-use lib.ListN.{length, drop}
-use Rattle.rules.specs.declared.Record.{Record}
-use Rattle.rules.specs.declared.State.{State}
-use Rattle.lines.specs.Lines.{linesFrom, linesOf, lastLine}
-use Rattle.play.specs.Play.{logFrom}
+use Prim.Native.Nat.{ℕ, zero, suc, _≤_}
+use lib.Dec.{ltb}
+use lib.ListN.{length, take}
+use Rattle.states.specs.declared.Record.{Record}
+use Rattle.lines.specs.Lines.{linesFrom, joinedUp}
+use Rattle.lines.specs.Cutting.{Holds, heldRoom}
+use Rattle.stepper.specs.Rows.{logFrom}
+use Rattle.log.specs.Row.{longestRow}
+use Rattle.feed.specs.declared.Run.{Run}
+use Rattle.feed.specs.Feed.{Stand, standing, feedOf, lastOf}
 
--- where a run stands: the chip's state and array, the number of the next line, and what there is of that line
-pub record Point : Type 0 where
-  pub chip : State
-  pub cells : List ℕ
-  pub number : ℕ
-  pub line : List ℕ
+-- the log was written out, and is empty again
+abbrev pub emptiedRun : Run → Run
+emptiedRun run = record { chip = run .chip; number = run .number; used = run .used; at = run .at; filled = 0 }
 
--- the log still to come, when this input is still to come
-abbrev pub logAt : Record → Point → List ℕ → List ℕ
-logAt rec p input = logFrom rec (p .chip) (p .cells) (p .number) (linesFrom (p .line) input)
+abbrev pub emptied : Stand → Stand
+emptied s = standing (emptiedRun (s .run)) (s .held) (s .cells) (s .log)
 
--- Through a block from a place on: feed after feed puts a text into the log, which is written out before the next.
-pub data Through (rec : Record) (block : List ℕ) : ℕ → Point → List ℕ → Point → Type 0 where
-  done : {p : Point} → Through rec block (length block) p [] p
-  more : {at to : ℕ} {p q r : Point} {texts : List ℕ} (text : List ℕ)
-      → ((later : List ℕ) → logAt rec p (drop at block ++ later) ≡ text ++ logAt rec q (drop to block ++ later))
-      → Through rec block to q texts r → Through rec block at p (text ++ texts) r
+-- the start of a block, with an empty log
+abbrev pub begunRun : Run → Run
+begunRun run = record { chip = run .chip; number = run .number; used = run .used; at = 0; filled = 0 }
+
+abbrev pub begun : Stand → Stand
+begun s = standing (begunRun (s .run)) (s .held) (s .cells) (s .log)
+
+-- what is written out of the log
+abbrev pub filledPart : Stand → List ℕ
+filledPart s = take (s .run .filled) (s .log)
+
+-- a text that was written, and where the run stands after it
+pub record Wrote : Type 0 where
+  pub text : List ℕ
+  pub stand : Stand
+
+-- feed after feed, at most n of them, until the block is used up; the log is written out after each
+abbrev pub blockFor : Record → List ℕ → ℕ → Stand → Wrote
+blockFor rec block zero s = record { text = []; stand = s }
+blockFor rec block (suc n) s =
+    cond (ltb (s .run .at) (length block))
+    (record { text = filledPart (feedOf rec block s) ++ blockFor rec block n (emptied (feedOf rec block s)) .text; stand = blockFor rec block n (emptied (feedOf rec block s)) .stand })
+    (record { text = []; stand = s })
+
+-- each feed uses up a byte at least
+abbrev pub wholeBlock : Record → List ℕ → Stand → Wrote
+wholeBlock rec block s = blockFor rec block (length block) (begun s)
 
 -- block after block, and at the input's end the line that is held
-pub data Whole (rec : Record) : Point → List (List ℕ) → List ℕ → Type 0 where
-  ends : {p : Point} → Whole rec p [] (logFrom rec (p .chip) (p .cells) (p .number) (lastLine (p .line)))
-  goes : {p q : Point} {block text texts : List ℕ} {blocks : List (List ℕ)} → Through rec block 0 p text q → Whole rec q blocks texts → Whole rec p (block ∷ blocks) (text ++ texts)
+abbrev pub writtenOf : Record → Stand → List (List ℕ) → List ℕ
+writtenOf rec s [] = filledPart (lastOf rec (begun s))
+writtenOf rec s (block ∷ blocks) = wholeBlock rec block s .text ++ writtenOf rec (wholeBlock rec block s .stand) blocks
 
-abbrev pub joined : List (List ℕ) → List ℕ
-joined [] = []
-joined (b ∷ bs) = b ++ joined bs
-
--- what was written is the log of the lines of all blocks together
+-- it is the log of the lines of all blocks together, whatever `line` is held at the start
 abbrev pub WholeScript : Type 0
-WholeScript = (rec : Record) (p : Point) (blocks : List (List ℕ)) (text : List ℕ) → Whole rec p blocks text → text ≡ logAt rec p (joined blocks)
+WholeScript = (rec : Record) (s : Stand) (line : List ℕ) (blocks : List (List ℕ)) → length (s .held) ≡ heldRoom → longestRow ≤ length (s .log) → Holds line (s .held) (s .run .used)
+    → writtenOf rec s blocks ≡ logFrom rec (s .run .chip) (s .cells) (s .run .number) (linesFrom line (joinedUp blocks))

@@ -2,11 +2,13 @@
 ghost use mathlib.Core.Path.{_≡_};
 ghost use Prim.Native.Nat.{_+_, _≤_, _<_};
 ghost use lib.ListN.{length};
-ghost use Rattle.feed.specs.Feed.{Start, Ready, Goes, Turned, Fed, Finished};
+ghost use Rattle.log.specs.Row.{longestRow};
+ghost use Rattle.lines.specs.Cutting.{heldRoom};
+ghost use Rattle.feed.specs.Feed.{Start, TurnStart, goesOn, standing, feedTurn, feedOf, lastOf, Stands, Ends};
 use lines::Cut;
-use play::Logged;
-use rules::Record;
-use rules::State;
+use states::Record;
+use states::State;
+use stepper::Logged;
 
 // What goes on from line to line: the chip's state, the number of the next line, how many bytes of it are held from the blocks before,
 // the place in the block, and how much of the log is filled.
@@ -20,7 +22,7 @@ pub struct Run {
 
 // After a line: nothing is held, and the next line has the next number.
 fn line_done(done: Logged, number: u64, at: usize) -> Run
-    ensures { λ r. ⌜ Goes done number at r ⌝ }
+    ensures { λ r. ⌜ r ≡ goesOn done number at ⌝ }
 {
     let chip = done.state;
     Run {
@@ -41,8 +43,8 @@ fn turn(
     array: &mut [u8],
     log: &mut [u8],
 ) -> Run
-    requires { ⌜ Ready run (now held) (now block) (now log) ⌝ }
-    ensures { λ r. ⌜ Turned rec run (now (held .entry)) (now (block .entry)) (now (array .entry)) (now (log .entry)) r (now (held .exit)) (now (array .exit)) (now (log .exit)) ⌝ }
+    requires { ⌜ TurnStart run (now held) (now block) (now log) ⌝ }
+    ensures { λ r. ⌜ Stands (feedTurn rec (now (block .entry)) (standing run (now (held .entry)) (now (array .entry)) (now (log .entry)))) r (now (held .exit)) (now (array .exit)) (now (log .exit)) ⌝ }
 {
     let chip = run.chip;
     let number = run.number;
@@ -52,11 +54,11 @@ fn turn(
     let cut = lines::cut_line(held, used, block, at);
     match cut {
         Cut::Here { end } => {
-            let done = play::log_line(number, &block[at..end], rec, chip, array, log, filled);
+            let done = stepper::log_line(number, &block[at..end], rec, chip, array, log, filled);
             line_done(done, number, end + 1)
         }
         Cut::Joined { used: n, end } => {
-            let done = play::log_line(number, &held[0..n], rec, chip, array, log, filled);
+            let done = stepper::log_line(number, &held[0..n], rec, chip, array, log, filled);
             line_done(done, number, end + 1)
         }
         Cut::Open { used: n } => Run {
@@ -79,13 +81,13 @@ pub fn feed(
     log: &mut [u8],
 ) -> Run
     requires { ⌜ Start first (now held) (now block) (now log) ⌝ }
-    ensures { λ r. ⌜ Fed rec first (now (held .entry)) (now (block .entry)) (now (array .entry)) (now (log .entry)) r (now (held .exit)) (now (array .exit)) (now (log .exit)) ⌝ }
+    ensures { λ r. ⌜ Stands (feedOf rec (now (block .entry)) (standing first (now (held .entry)) (now (array .entry)) (now (log .entry)))) r (now (held .exit)) (now (array .exit)) (now (log .exit)) ⌝ }
 {
     let mut run = first;
     let mut at = first.at;
     while at < block.len() {
         let filled = run.filled;
-        if log.len() - filled < 665 {
+        if log.len() - filled < log::LONGEST_ROW {
             return run;
         }
         run = turn(run, rec, held, block, array, log);
@@ -96,8 +98,8 @@ pub fn feed(
 
 // The input has ended: a line that is held is the last one. How much of the log is filled comes back.
 pub fn finish(run: Run, rec: Record, held: &[u8], array: &mut [u8], log: &mut [u8]) -> usize
-    requires { ⌜ (length (now held) ≡ 641) × (run .used ≤ 641) × (run .filled + 665 ≤ length (now log)) ⌝ }
-    ensures { λ r. ⌜ Finished rec run (now (held .entry)) (now (array .entry)) (now (log .entry)) r (now (log .exit)) ⌝ }
+    requires { ⌜ (length (now held) ≡ heldRoom) × (run .used ≤ heldRoom) × (run .filled + longestRow ≤ length (now log)) ⌝ }
+    ensures { λ r. ⌜ Ends (lastOf rec (standing run (now (held .entry)) (now (array .entry)) (now (log .entry)))) r (now (array .exit)) (now (log .exit)) ⌝ }
 {
     let used = run.used;
     let filled = run.filled;
@@ -105,6 +107,6 @@ pub fn finish(run: Run, rec: Record, held: &[u8], array: &mut [u8], log: &mut [u
     if used == 0 {
         return filled;
     }
-    let done = play::log_line(run.number, &held[0..used], rec, chip, array, log, filled);
+    let done = stepper::log_line(run.number, &held[0..used], rec, chip, array, log, filled);
     done.next
 }

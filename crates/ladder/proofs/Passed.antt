@@ -1,21 +1,20 @@
 -- What a frame that nothing refuses has shown, by name: a new row moves only this place. Assumes nothing.
 use mathlib.Core.Path.{_≡_, refl, sym, _∙_}
-use mathlib.Core.Bool.{Bool, true, false, not, _&&_, _||_, cond, true≢false}
+use mathlib.Core.Bool.{Bool, true, false, not, _&&_, cond, true≢false}
 use mathlib.Core.List.{List, [], _∷_}
-use Prim.Native.Nat.{ℕ, _≤_, _<_}
+use Prim.Native.Nat.{_≤_, _<_}
 use native.Mathlib.Nat.{pos-of-ne-zero}
-use lib.Dec.{eqb, ltb}
+use lib.Dec.{eqb}
 use borrow.Author.Tests.{eqb-true, eqb-false, ltb-false, not-true, not-false}
 use Rattle.units.proofs.Bools.{both, neither}
-use Rattle.units.specs.Kinds.{blockOf}
-use Rattle.units.specs.Models.{modelOf, isProtected}
-use Rattle.rules.specs.Answers.{isDone}
-use Rattle.rules.specs.Commands.{traitsOf, lengthOk}
-use Rattle.rules.specs.States.{recordOk, stateOk}
-use Rattle.rules.specs.declared.Record.{Record}
-use Rattle.rules.specs.declared.State.{State}
-use Rattle.rules.specs.declared.Answer.{Answer}
-use Rattle.rules.specs.declared.Answer.the-variants.{Done}
+use Rattle.models.specs.Models.{modelOf}
+use Rattle.answers.specs.Answers.{isDone}
+use Rattle.commands.specs.Commands.{traitsOf, lengthOk}
+use Rattle.states.specs.States.{recordOk, stateOk}
+use Rattle.states.specs.declared.Record.{Record}
+use Rattle.states.specs.declared.State.{State}
+use Rattle.answers.specs.declared.Answer.{Answer}
+use Rattle.answers.specs.declared.Answer.the-variants.{Done}
 use Rattle.ladder.specs.declared.Head.{Head}
 use Rattle.ladder.specs.Ladder.{Rung, firstOf, ladder, guarded, refusalOf}
 use Rattle.ladder.proofs.Stages.{honest}
@@ -40,13 +39,13 @@ pub unrefused : (rs : List Rung) → Clear rs → firstOf rs ≡ Done
 unrefused [] c = refl
 unrefused (r ∷ rs) c = rw (c .0) (unrefused rs (c .1))
 
-pub record Passed (rec : Record) (s : State) (cells : ℕ) (h : Head) (room : ℕ) : Type 0 where
+pub record Passed (rec : Record) (s : State) (h : Head) : Type 0 where
   pub right : recordOk rec ≡ true
-  pub whole : cells ≡ modelOf (rec .model) .length
+  pub whole : h .cells ≡ modelOf (rec .model) .length
   pub valid : stateOk rec s ≡ true
   pub short : h .count ≤ 65541
   pub tail : h .tail ≤ 7
-  pub roomy : h .count ≤ room
+  pub roomy : h .count ≤ h .room
   pub some : 0 < h .count
   pub listens : (not (eqb (s .busy) 0) && not (traitsOf (h .command) .«while_busy»)) ≡ false
   pub awake : (s .asleep && not (traitsOf (h .command) .«while_asleep»)) ≡ false
@@ -56,11 +55,11 @@ pub record Passed (rec : Record) (s : State) (cells : ℕ) (h : Head) (room : �
   pub unlocked : (traitsOf (h .command) .lock && (s .srwd && not (h .wp))) ≡ false
   pub free : guarded rec s (traitsOf (h .command)) h ≡ false
 
-pub passed : (rec : Record) (s : State) (cells : ℕ) (h : Head) (room : ℕ) → isDone (refusalOf rec s cells h room) ≡ true
-    → Passed rec s cells h room
+pub passed : (rec : Record) (s : State) (h : Head) → isDone (refusalOf rec s h) ≡ true
+    → Passed rec s h
 unfolding refusalOf
-passed rec s cells h room e =
-    let c = clear (ladder rec s cells h room (traitsOf (h .command))) refl e in
+passed rec s h e =
+    let c = clear (ladder rec s h (traitsOf (h .command))) refl e in
     let d = c .1 .1 .1 .1 .1 in
     let f = d .1 .1 .1 .1 .1 in
     let long = neither _ _ (c .1 .1 .1 .0) in

@@ -1,23 +1,21 @@
--- The three stages, one after the other, are the one table. Assumes nothing.
-use mathlib.Core.Path.{_≡_, refl, sym, ap, _∙_}
-use mathlib.Core.Bool.{Bool, true, false, not, _&&_, cond, true≢false}
+-- The stages, one after the other, are the one table. Assumes nothing.
+use mathlib.Core.Path.{_≡_, refl, _∙_}
+use mathlib.Core.Bool.{Bool, true, false, not, _&&_, cond}
 use mathlib.Core.List.{List, [], _∷_, _++_}
-use Prim.Native.Nat.{ℕ}
 use lib.ListN.{take, drop}
 use borrow.Author.Tests.{not-true}
 use Rattle.units.proofs.Bools.{both}
-use Rattle.rules.specs.Answers.{isDone}
-use Rattle.rules.specs.Commands.{traitsOf}
-use Rattle.rules.specs.declared.Record.{Record}
-use Rattle.rules.specs.declared.State.{State}
-use Rattle.rules.specs.declared.Traits.{Traits}
-use Rattle.rules.specs.declared.Command.{Command}
-use Rattle.rules.specs.declared.Command.the-variants.{WriteEnable, WriteDisable, ReadStatus, WriteStatus, Read, FastRead, EraseSector, EraseBlock, EraseChip, Program, ReadId, Wake, ReadMaker, Sleep, Unknown}
-use Rattle.rules.specs.declared.Answer.{Answer}
-use Rattle.rules.specs.declared.Answer.the-variants.{Done}
+use Rattle.answers.specs.Answers.{isDone}
+use Rattle.commands.specs.Commands.{traitsOf}
+use Rattle.states.specs.declared.Record.{Record}
+use Rattle.states.specs.declared.State.{State}
+use Rattle.commands.specs.declared.Traits.{Traits}
+use Rattle.commands.specs.declared.Command.{Command}
+use Rattle.commands.proofs.Rows.{no-latch}
+use Rattle.answers.specs.declared.Answer.the-variants.{Done}
 use Rattle.ladder.specs.declared.Head.{Head}
 use Rattle.ladder.specs.Ladder.{Rung, firstOf, ladder, refusalOf}
-use Rattle.ladder.specs.Stages.{givenOf, heardOf, allowedOf}
+use Rattle.ladder.specs.Stages.{givenOf, saidOf, heardOf, allowedOf}
 
 -- no row of a table answers 0
 abbrev pub honest : List Rung → Bool
@@ -36,49 +34,35 @@ joined (r ∷ rs) ys h = go (r .bad) (joined rs ys (k .1))
     go true e = rw (not-true (isDone (r .says)) (k .0))
     go false e = e
 
-pub one-table : (rec : Record) (s : State) (cells : ℕ) (h : Head) (room : ℕ)
+pub one-table : (rec : Record) (s : State) (h : Head)
+    → refusalOf rec s h ≡ cond (isDone (givenOf rec s h)) (saidOf rec s h) (givenOf rec s h)
+unfolding refusalOf givenOf saidOf
+one-table rec s h = let rows = ladder rec s h (traitsOf (h .command)) in joined (take 5 rows) (drop 5 rows) refl
+
+pub two-stages : (rec : Record) (s : State) (h : Head)
     → (let k : Traits = traitsOf (h .command) in
-    refusalOf rec s cells h room
-    ≡ cond (isDone (givenOf rec s cells h room k))
-    (cond (isDone (heardOf rec s cells h room k)) (allowedOf rec s cells h room k) (heardOf rec s cells h room k))
-    (givenOf rec s cells h room k))
-unfolding refusalOf givenOf heardOf allowedOf
-one-table rec s cells h room =
-    let rows = ladder rec s cells h room (traitsOf (h .command)) in
-    let a = take 5 rows in
-    let b = take 5 (drop 5 rows) in
-    let c = drop 10 rows in
-    joined a (b ++ c) refl ∙ ap (λ (x : Answer). cond (isDone (firstOf a)) x (firstOf a)) (joined b c refl)
+    saidOf rec s h ≡ cond (isDone (heardOf rec s h k)) (allowedOf rec s h k) (heardOf rec s h k))
+unfolding saidOf heardOf allowedOf
+two-stages rec s h = let rows = ladder rec s h (traitsOf (h .command)) in joined (take 5 (drop 5 rows)) (drop 10 rows) refl
 
 -- ---- where the code stops
-module _ (rec : Record) (s : State) (cells : ℕ) (h : Head) (room : ℕ) where
+module _ (rec : Record) (s : State) (h : Head) where
   abbrev k : Traits
   k = traitsOf (h .command)
 
-  pub stops-given : isDone (givenOf rec s cells h room k) ≡ false → refusalOf rec s cells h room ≡ givenOf rec s cells h room k
-  stops-given e = one-table rec s cells h room ∙ rw e
+  pub stops-given : isDone (givenOf rec s h) ≡ false → refusalOf rec s h ≡ givenOf rec s h
+  stops-given e = one-table rec s h ∙ rw e
 
-  pub stops-heard : isDone (givenOf rec s cells h room k) ≡ true → isDone (heardOf rec s cells h room k) ≡ false → refusalOf rec s cells h room ≡ heardOf rec s cells h room k
-  stops-heard e f = one-table rec s cells h room ∙ rw (e, f)
+  pub goes-on : isDone (givenOf rec s h) ≡ true → refusalOf rec s h ≡ saidOf rec s h
+  goes-on e = one-table rec s h ∙ rw e
 
-  pub goes-on : isDone (givenOf rec s cells h room k) ≡ true → isDone (heardOf rec s cells h room k) ≡ true → refusalOf rec s cells h room ≡ allowedOf rec s cells h room k
-  goes-on e f = one-table rec s cells h room ∙ rw (e, f)
+  pub stops-heard : isDone (heardOf rec s h k) ≡ false → saidOf rec s h ≡ heardOf rec s h k
+  stops-heard e = two-stages rec s h ∙ rw e
+
+  pub passes-heard : isDone (heardOf rec s h k) ≡ true → saidOf rec s h ≡ allowedOf rec s h k
+  passes-heard e = two-stages rec s h ∙ rw e
 
 -- a command that needs no WEL is stopped by none of the last three rows
-pub harmless : (rec : Record) (s : State) (cells : ℕ) (h : Head) (room : ℕ) (c : Command) → traitsOf c .latch ≡ false → allowedOf rec s cells h room (traitsOf c) ≡ Done
-unfolding traitsOf allowedOf
-harmless rec s cells h room WriteEnable e = refl
-harmless rec s cells h room WriteDisable e = refl
-harmless rec s cells h room ReadStatus e = refl
-harmless rec s cells h room WriteStatus e = absurd (true≢false e)
-harmless rec s cells h room Read e = refl
-harmless rec s cells h room FastRead e = refl
-harmless rec s cells h room EraseSector e = absurd (true≢false e)
-harmless rec s cells h room EraseBlock e = absurd (true≢false e)
-harmless rec s cells h room EraseChip e = absurd (true≢false e)
-harmless rec s cells h room Program e = absurd (true≢false e)
-harmless rec s cells h room ReadId e = refl
-harmless rec s cells h room Wake e = refl
-harmless rec s cells h room ReadMaker e = refl
-harmless rec s cells h room Sleep e = refl
-harmless rec s cells h room Unknown e = refl
+pub harmless : (rec : Record) (s : State) (h : Head) (c : Command) → traitsOf c .latch ≡ false → allowedOf rec s h (traitsOf c) ≡ Done
+unfolding allowedOf
+harmless rec s h c e = let k = no-latch c e in rw (k .latch, k .lock, k .unit, k .whole)

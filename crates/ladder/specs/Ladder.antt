@@ -1,17 +1,16 @@
 -- The refusals as one ordered table: 01, "Numbers returned, in order of checking". Assumes nothing.
-use mathlib.Core.Bool.{Bool, true, false, not, _&&_, _||_, cond}
+use mathlib.Core.Bool.{Bool, not, _&&_, _||_, cond}
 use mathlib.Core.List.{List, [], _∷_}
-use Prim.Native.Nat.{ℕ}
 use lib.Dec.{eqb, ltb}
 use Rattle.units.specs.Kinds.{blockOf}
-use Rattle.units.specs.Models.{modelOf, isProtected}
-use Rattle.rules.specs.Commands.{traitsOf, lengthOk}
-use Rattle.rules.specs.States.{recordOk, stateOk}
-use Rattle.rules.specs.declared.Record.{Record}
-use Rattle.rules.specs.declared.State.{State}
-use Rattle.rules.specs.declared.Traits.{Traits}
-use Rattle.rules.specs.declared.Answer.{Answer}
-use Rattle.rules.specs.declared.Answer.the-variants.{Done, BadRecord, BadArray, BadState, BadFrame, ShortOut, Empty, Busy, Asleep, NoCommand, BadLength, NotEnabled, Locked, Protected}
+use Rattle.models.specs.Models.{modelOf, isProtected}
+use Rattle.commands.specs.Commands.{traitsOf, lengthOk}
+use Rattle.states.specs.States.{recordOk, stateOk}
+use Rattle.states.specs.declared.Record.{Record}
+use Rattle.states.specs.declared.State.{State}
+use Rattle.commands.specs.declared.Traits.{Traits}
+use Rattle.answers.specs.declared.Answer.{Answer}
+use Rattle.answers.specs.declared.Answer.the-variants.{Done, BadRecord, BadArray, BadState, BadFrame, ShortOut, Empty, Busy, Asleep, NoCommand, BadLength, NotEnabled, Locked, Protected}
 use Rattle.ladder.specs.declared.Head.{Head}
 
 -- a row of the table: a test, and the answer where it holds
@@ -32,14 +31,14 @@ firstOf (r ∷ rs) = cond (r .bad) (r .says) (firstOf rs)
 abbrev pub guarded : Record → State → Traits → Head → Bool
 guarded rec s k h = (k .unit && isProtected (rec .model) (s .bp) (blockOf (h .address))) || (k .whole && not (eqb (s .bp) 0))
 
--- the table, for a frame that is given an array of so many cells and an output of so much room
-abbrev pub ladder : Record → State → ℕ → Head → ℕ → Traits → List Rung
-ladder rec s cells h room k =
+-- the table
+abbrev pub ladder : Record → State → Head → Traits → List Rung
+ladder rec s h k =
     (not (recordOk rec) gives BadRecord)
-    ∷ (not (eqb cells (modelOf (rec .model) .length)) gives BadArray)
+    ∷ (not (eqb (h .cells) (modelOf (rec .model) .length)) gives BadArray)
     ∷ (not (stateOk rec s) gives BadState)
     ∷ ((ltb 65541 (h .count) || ltb 7 (h .tail)) gives BadFrame)
-    ∷ (ltb room (h .count) gives ShortOut)
+    ∷ (ltb (h .room) (h .count) gives ShortOut)
     ∷ (eqb (h .count) 0 gives Empty)
     ∷ ((not (eqb (s .busy) 0) && not (k .«while_busy»)) gives Busy)
     ∷ ((s .asleep && not (k .«while_asleep»)) gives Asleep)
@@ -50,5 +49,5 @@ ladder rec s cells h room k =
     ∷ (guarded rec s k h gives Protected)
     ∷ []
 
-unfoldable pub refusalOf : Record → State → ℕ → Head → ℕ → Answer
-refusalOf rec s cells h room = firstOf (ladder rec s cells h room (traitsOf (h .command)))
+unfoldable pub refusalOf : Record → State → Head → Answer
+refusalOf rec s h = firstOf (ladder rec s h (traitsOf (h .command)))

@@ -1,142 +1,104 @@
 // The refusals in their order. The stages are how; the one table of specs/Ladder.antt is what.
 ghost use mathlib.Core.Path.{_≡_};
-ghost use mathlib.Core.List.{_∷_, []};
-ghost use Rattle.ladder.specs.Ladder.{_gives_, firstOf, refusalOf};
-ghost use Rattle.ladder.specs.Stages.{givenOf, heardOf, allowedOf};
-use rules::Answer;
-use rules::Command;
-use rules::Record;
-use rules::State;
-use rules::Traits;
+ghost use Rattle.ladder.specs.Stages.{givenOf, saidOf, heardOf, allowedOf};
+use answers::Answer;
+use commands::Command;
+use commands::Traits;
+use states::Record;
+use states::State;
 use units::Address;
 
-// What the refusals look at of one frame: its whole bytes, tail bits and WP# level, its command, and its address in the array.
+// What the refusals look at of one frame: the cells of the array that it is given, its whole bytes, tail bits and WP# level, the room of its output,
+// its command, and its address in the array.
 pub struct Head {
+    pub cells: usize,
     pub count: usize,
     pub tail: u32,
     pub wp: bool,
+    pub room: usize,
     pub command: Command,
     pub address: Address,
 }
 
-fn given_rungs(record: bool, array: bool, state: bool, frame: bool, out: bool) -> Answer
-    ensures { λ r. ⌜ r ≡ firstOf ((«record» gives Answer.BadRecord) ∷ (array gives Answer.BadArray) ∷ (state gives Answer.BadState) ∷ (frame gives Answer.BadFrame) ∷ (out gives Answer.ShortOut) ∷ []) ⌝ }
+// 1 to 5: what the call is given at all. The command and the address are not looked at.
+pub fn given(rec: Record, st: State, head: Head) -> Answer
+    ensures { λ r. ⌜ r ≡ givenOf rec st head ⌝ }
 {
-    if record {
+    if !states::record_ok(rec) {
         return Answer::BadRecord;
     }
-    if array {
+    let row = models::model_of(rec.model);
+    if head.cells != row.length as usize {
         return Answer::BadArray;
     }
-    if state {
+    if !states::state_ok(rec, st) {
         return Answer::BadState;
     }
-    if frame {
+    let n = head.count;
+    if (65541 < n) | (7 < head.tail) {
         return Answer::BadFrame;
     }
-    if out {
+    if head.room < n {
         return Answer::ShortOut;
     }
     Answer::Done
 }
 
-fn heard_rungs(empty: bool, busy: bool, asleep: bool, unknown: bool, length: bool) -> Answer
-    ensures { λ r. ⌜ r ≡ firstOf ((empty gives Answer.Empty) ∷ (busy gives Answer.Busy) ∷ (asleep gives Answer.Asleep) ∷ (unknown gives Answer.NoCommand) ∷ (length gives Answer.BadLength) ∷ []) ⌝ }
+// 10 to 14: whether the chip hears a frame of that command and length.
+fn heard(rec: Record, st: State, head: Head, t: Traits) -> Answer
+    ensures { λ r. ⌜ r ≡ heardOf rec st head t ⌝ }
 {
-    if empty {
+    let n = head.count;
+    let tail = head.tail;
+    if n == 0 {
         return Answer::Empty;
     }
-    if busy {
+    if (st.busy != 0) & !t.while_busy {
         return Answer::Busy;
     }
-    if asleep {
+    if st.asleep & !t.while_asleep {
         return Answer::Asleep;
     }
-    if unknown {
+    if !t.known {
         return Answer::NoCommand;
     }
-    if length {
+    if !commands::length_ok(t, n, tail) {
         return Answer::BadLength;
     }
     Answer::Done
 }
 
-fn allowed_rungs(latch: bool, lock: bool, guard: bool) -> Answer
-    ensures { λ r. ⌜ r ≡ firstOf ((latch gives Answer.NotEnabled) ∷ (lock gives Answer.Locked) ∷ (guard gives Answer.Protected) ∷ []) ⌝ }
+// 15 to 17: whether the chip may do it.
+fn allowed(rec: Record, st: State, head: Head, t: Traits) -> Answer
+    ensures { λ r. ⌜ r ≡ allowedOf rec st head t ⌝ }
 {
-    if latch {
+    if t.latch & !st.wel {
         return Answer::NotEnabled;
     }
-    if lock {
+    if t.lock & (st.srwd & !head.wp) {
         return Answer::Locked;
     }
-    if guard {
+    let model = rec.model;
+    let bp = st.bp;
+    let at = head.address;
+    if (t.unit & models::is_protected(model, bp, at.in_block())) | (t.whole & (bp != 0)) {
         return Answer::Protected;
     }
     Answer::Done
 }
 
-// 1 to 5: what the call is given at all.
-fn given(rec: Record, st: State, cells: usize, head: Head, room: usize, t: Traits) -> Answer
-    ensures { λ r. ⌜ r ≡ givenOf rec st cells head room t ⌝ }
-{
-    let row = units::model_of(rec.model);
-    let n = head.count;
-    given_rungs(
-        !rules::record_ok(rec),
-        cells != row.length as usize,
-        !rules::state_ok(rec, st),
-        (65541 < n) | (7 < head.tail),
-        room < n,
-    )
-}
-
-// 10 to 14: whether the chip hears a frame of that command and length.
-fn heard(rec: Record, st: State, cells: usize, head: Head, room: usize, t: Traits) -> Answer
-    ensures { λ r. ⌜ r ≡ heardOf rec st cells head room t ⌝ }
-{
-    let n = head.count;
-    let tail = head.tail;
-    heard_rungs(
-        n == 0,
-        (st.busy != 0) & !t.while_busy,
-        st.asleep & !t.while_asleep,
-        !t.known,
-        !rules::length_ok(t, n, tail),
-    )
-}
-
-// 15 to 17: whether the chip may do it.
-fn allowed(rec: Record, st: State, cells: usize, head: Head, room: usize, t: Traits) -> Answer
-    ensures { λ r. ⌜ r ≡ allowedOf rec st cells head room t ⌝ }
-{
-    let model = rec.model;
-    let bp = st.bp;
-    let at = head.address;
-    allowed_rungs(
-        t.latch & !st.wel,
-        t.lock & (st.srwd & !head.wp),
-        (t.unit & units::is_protected(model, bp, at.in_block())) | (t.whole & (bp != 0)),
-    )
-}
-
-// The first refusal that applies, and Done where none does: for a frame that is given an array of so many cells and an output of so
-// much room.
-pub fn refusal(rec: Record, st: State, cells: usize, head: Head, room: usize) -> Answer
-    ensures { λ r. ⌜ r ≡ refusalOf rec st cells head room ⌝ }
+// 10 to 17: the first refusal that applies to a frame that 1 to 5 let pass, and Done where none does.
+pub fn said(rec: Record, st: State, head: Head) -> Answer
+    ensures { λ r. ⌜ r ≡ saidOf rec st head ⌝ }
 {
     let command = head.command;
-    let t = rules::traits_of(command);
-    let first = given(rec, st, cells, head, room, t);
-    if !rules::is_done(first) {
+    let t = commands::traits_of(command);
+    let first = heard(rec, st, head, t);
+    if !answers::is_done(first) {
         return first;
     }
-    let second = heard(rec, st, cells, head, room, t);
-    if !rules::is_done(second) {
-        return second;
-    }
     if t.latch {
-        return allowed(rec, st, cells, head, room, t);
+        return allowed(rec, st, head, t);
     }
     Answer::Done
 }

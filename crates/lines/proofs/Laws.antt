@@ -7,13 +7,15 @@ use native.Mathlib.Nat.{add-zero}
 use native.Mathlib.Numerals.{add-one}
 use native.Mathlib.Omega.{arith}
 use lib.Dec.{eqb, leb, ltb}
-use lib.ListN.{length, getD, drop, take, length-drop, take-append-drop, drop-of-length-le}
+use lib.ListN.{length, getD, drop, take, length-drop, drop-of-length-le}
 use lib.Seq.{drop-cons, take-nil, take-all}
 use borrow.Author.Tests.{ne-eqb, leb-true, leb-false, lt-ltb, le-ltb}
 use Rattle.script.proofs.HexLaws.{and-left, and-right}
-use Rattle.text.specs.Put.{lay, Put}
+use Rattle.parts.specs.Parts.{lay}
+use Rattle.parts.proofs.Lay.{lay-none}
+use Rattle.text.specs.Put.{Put}
 use Rattle.lines.specs.declared.Cut.the-variants.{Here, Joined, Open}
-use Rattle.lines.specs.Cutting.{firstLine, endOf, fitting, keptOf, usedOf, cutOf, heldOf, Cuts}
+use Rattle.lines.specs.Cutting.{firstLine, endOf, fitting, heldWith, usedOf, cutOf, heldOf, Cuts, OneCuts}
 
 -- ---- the place of the newline
 pub end-on : (s : List ℕ) (i : ℕ) → i < length s → (getD s i 0 ≡ 10 → ⊥) → endOf s i ≡ endOf s (i + 1)
@@ -27,8 +29,8 @@ end-out s i l = rw (drop-of-length-le s l) (sym (add-zero i))
 
 -- ---- what is kept
 -- nothing, where there is no room or nothing to keep
-pub kept-none : (held part : List ℕ) (used : ℕ) → fitting held used part ≡ [] → (used ≡ usedOf held used part) × (held ≡ keptOf held used part)
-kept-none held part used e = (rw e (sym (add-zero used)), rw e (rw add-zero (sym (take-append-drop used held))))
+pub kept-none : (held part : List ℕ) (used : ℕ) → fitting held used part ≡ [] → (used ≡ usedOf held used part) × (held ≡ heldWith held used part)
+kept-none held part used e = (rw e (sym (add-zero used)), rw e (sym (lay-none held used)))
 
 pub full : (held part : List ℕ) (used : ℕ) → length held ≤ used → fitting held used part ≡ []
 full held part used l = let z : length held - used ≡ 0 = omega arith in ap (λ (n : ℕ). take n part) z
@@ -42,7 +44,7 @@ as-fits m s n e = go (leb m (length s)) refl
     go false p = let h : length s < m = leb-false m (length s) p in take-all n s (omega arith) ∙ sym (take-all m s (omega arith))
 
 pub kept-put : (held part after : List ℕ) (used n r : ℕ) → n ≡ min (length held - used) (length part) → Put (take n part) held used after r
-    → (r ≡ usedOf held used part) × (after ≡ keptOf held used part)
+    → (r ≡ usedOf held used part) × (after ≡ heldWith held used part)
 kept-put held part after used n r e p =
     let same : take n part ≡ fitting held used part = as-fits (length held - used) part n e in
     (p .next ∙ ap (λ (z : List ℕ). used + length z) same, p .is ∙ ap (lay held used) same)
@@ -92,7 +94,7 @@ cuts-here held used block at e h t =
     record { is = rw (← h, a, b); kept = rw (← h, t) }
 
 pub cuts-joined : (held : List ℕ) (used : ℕ) (block : List ℕ) (at e n : ℕ) (after : List ℕ) → e ≡ endOf block at → (ltb e (length block) && eqb used 0) ≡ false → e < length block
-    → n ≡ usedOf held used (take (e - at) (drop at block)) → after ≡ keptOf held used (take (e - at) (drop at block)) → Cuts held used block at (Joined n e) after
+    → n ≡ usedOf held used (take (e - at) (drop at block)) → after ≡ heldWith held used (take (e - at) (drop at block)) → Cuts held used block at (Joined n e) after
 unfolding cutOf heldOf
 cuts-joined held used block at e n after h t l x y =
     let a : ltb e (length block) ≡ true = lt-ltb e (length block) l in
@@ -101,9 +103,12 @@ cuts-joined held used block at e n after h t l x y =
     record { is = rw (← h, a, b, ← p) (ap (λ (z : ℕ). Joined z e) x); kept = rw (← h, t, ← p) y }
 
 pub cuts-open : (held : List ℕ) (used : ℕ) (block : List ℕ) (at e n : ℕ) (after : List ℕ) → e ≡ endOf block at → length block ≤ e
-    → n ≡ usedOf held used (take (e - at) (drop at block)) → after ≡ keptOf held used (take (e - at) (drop at block)) → Cuts held used block at (Open n) after
+    → n ≡ usedOf held used (take (e - at) (drop at block)) → after ≡ heldWith held used (take (e - at) (drop at block)) → Cuts held used block at (Open n) after
 unfolding cutOf heldOf
 cuts-open held used block at e n after h l x y =
     let a : ltb e (length block) ≡ false = le-ltb e (length block) l in
     let p : take (e - at) (drop at block) ≡ firstLine (drop at block) = part-first block at e h in
     record { is = rw (← h, a, ← p) (ap Open x); kept = rw (← h, a, ← p) y }
+
+pub one-cuts : OneCuts
+one-cuts held used block at r r′ after after′ p q = (p .is ∙ sym (q .is), p .kept ∙ sym (q .kept))

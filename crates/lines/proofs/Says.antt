@@ -1,19 +1,19 @@
 -- What a cut says of the lines of the input, whatever line is held and whatever comes after the block. Assumes nothing.
 use mathlib.Core.Path.{_≡_, refl, sym, ap, _∙_, subst, subst₂}
 use mathlib.Core.Bool.{Bool, true, false, _&&_}
-use mathlib.Core.List.{List, [], _∷_, _++_, append-assoc, append-nil}
+use mathlib.Core.List.{List, [], _∷_, _++_, append-nil}
 use Prim.Native.Nat.{ℕ, zero, suc, _+_, _-_, _≤_, _<_, min}
 use native.Mathlib.Nat.{sub-zero, suc-sub-suc, not-suc-le-zero}
 use native.Mathlib.Omega.{arith}
 use lib.Dec.{eqb, ltb}
 use lib.ListN.{length, drop, take, length-append, length-drop, length-take}
-use lib.Seq.{length-take-le, take-at, take-nil, drop-drop, take-all, append-snoc}
+use lib.Seq.{length-take-le, take-nil, drop-drop, take-all, append-snoc}
 use borrow.Author.Tests.{ltb-true, ltb-false, eqb-true}
-use Rattle.text.proofs.PutLaws.{length-lay}
+use Rattle.parts.proofs.Lay.{length-lay, take-lay}
 use Rattle.lines.specs.declared.Cut.{Cut}
 use Rattle.lines.specs.declared.Cut.the-variants.{Here, Joined, Open}
 use Rattle.lines.specs.Lines.{linesFrom}
-use Rattle.lines.specs.Cutting.{firstLine, endOf, fitting, keptOf, usedOf, cutOf, heldOf, Holds}
+use Rattle.lines.specs.Cutting.{firstLine, endOf, fitting, heldWith, usedOf, cutOf, heldOf, Holds}
 use Rattle.lines.proofs.Laws.{first-short, take-first, part-first}
 
 -- ---- lines
@@ -53,18 +53,16 @@ take-append zero (x ∷ xs) ys = let z : 0 - suc (length xs) ≡ 0 = omega arith
 take-append (suc m) (x ∷ xs) ys = rw (suc-sub-suc) (ap (λ (z : List ℕ). x ∷ z) (take-append m xs ys))
 
 -- more of the line
-pub holds-more : (line part held : List ℕ) (used : ℕ) → Holds line held used → Holds (line ++ part) (keptOf held used part) (usedOf held used part)
+pub holds-more : (line part held : List ℕ) (used : ℕ) → Holds line held used → Holds (line ++ part) (heldWith held used part) (usedOf held used part)
 holds-more line part held used h =
     let m : ℕ = length held in
     let n : length (take m line) ≡ min m (length line) = length-take m line in
     let u : used ≡ length (take m line) = h .count in
     let fit : fitting held used part ≡ take (m - length line) part = ap (λ (k : ℕ). take k part) {x = m - used} {y = m - length line} (omega arith) in
     let k : length (fitting held used part) ≡ min (m - used) (length part) = length-take (m - used) part in
-    let same : length (keptOf held used part) ≡ m = length-lay held used (fitting held used part) (omega arith) in
+    let same : length (heldWith held used part) ≡ m = length-lay held used (fitting held used part) (omega arith) in
     let front : length (take used held ++ fitting held used part) ≡ usedOf held used part = length-append (take used held) (fitting held used part) ∙ ap (λ (z : ℕ). z + length (fitting held used part)) (length-take-le used held (omega arith)) in
-    let rest : List ℕ = drop (used + length (fitting held used part)) held in
-    let got : take (usedOf held used part) (keptOf held used part) ≡ take used held ++ fitting held used part =
-    ap (take (usedOf held used part)) (sym (append-assoc (take used held) (fitting held used part) rest)) ∙ take-at (take used held ++ fitting held used part) rest (usedOf held used part) front in
+    let got : take (usedOf held used part) (heldWith held used part) ≡ take used held ++ fitting held used part = take-lay held used (fitting held used part) (omega arith) in
     let want : take m (line ++ part) ≡ take used held ++ fitting held used part =
     take-append m line part ∙ ap (λ (z : List ℕ). z ++ take (m - length line) part) (sym (h .is)) ∙ ap (λ (z : List ℕ). take used held ++ z) (sym fit) in
     record {
@@ -72,7 +70,7 @@ holds-more line part held used h =
       count = sym front ∙ ap length (sym want) ∙ ap (λ (z : ℕ). length (take z (line ++ part))) (sym same);
     }
 
-length-kept : (line part held : List ℕ) (used : ℕ) → Holds line held used → length (keptOf held used part) ≡ length held
+length-kept : (line part held : List ℕ) (used : ℕ) → Holds line held used → length (heldWith held used part) ≡ length held
 length-kept line part held used h =
     let n : length (take (length held) line) ≡ min (length held) (length line) = length-take (length held) line in
     let u : used ≡ length (take (length held) line) = h .count in
@@ -104,8 +102,8 @@ ended-at line block at l later =
 -- which way a cut went
 data Way (held : List ℕ) (used : ℕ) (block : List ℕ) (at : ℕ) : Cut → Type 0 where
   way-here : endOf block at < length block → used ≡ 0 → heldOf held used block at ≡ held → Way held used block at (Here (endOf block at))
-  way-joined : endOf block at < length block → heldOf held used block at ≡ keptOf held used (firstLine (drop at block)) → Way held used block at (Joined (usedOf held used (firstLine (drop at block))) (endOf block at))
-  way-open : length block ≤ endOf block at → heldOf held used block at ≡ keptOf held used (firstLine (drop at block)) → Way held used block at (Open (usedOf held used (firstLine (drop at block))))
+  way-joined : endOf block at < length block → heldOf held used block at ≡ heldWith held used (firstLine (drop at block)) → Way held used block at (Joined (usedOf held used (firstLine (drop at block))) (endOf block at))
+  way-open : length block ≤ endOf block at → heldOf held used block at ≡ heldWith held used (firstLine (drop at block)) → Way held used block at (Open (usedOf held used (firstLine (drop at block))))
 
 way : (held : List ℕ) (used : ℕ) (block : List ℕ) (at : ℕ) → Way held used block at (cutOf held used block at)
 unfolding cutOf heldOf
@@ -222,7 +220,7 @@ open-of line held used block at n h r (way-open l k) c =
     let all : firstLine (drop at block) ≡ drop at block = sym (take-first (drop at block)) ∙ take-all (length (firstLine (drop at block))) (drop at block) (omega arith) in
     record {
       holds = subst₂ (λ (a : List ℕ) (b : ℕ). Holds (line ++ drop at block) a b) (sym k) y
-          (subst (λ (z : List ℕ). Holds (line ++ z) (keptOf held used (firstLine (drop at block))) (usedOf held used (firstLine (drop at block)))) all (holds-more line (firstLine (drop at block)) held used h));
+          (subst (λ (z : List ℕ). Holds (line ++ z) (heldWith held used (firstLine (drop at block))) (usedOf held used (firstLine (drop at block)))) all (holds-more line (firstLine (drop at block)) held used h));
       goes-on = λ later. still line (drop at block) later (omega arith);
     }
 open-of line held used block at n h r (way-here l z k) c = absurd (never cc)

@@ -5,8 +5,9 @@ use mathlib.Core.List.{List, [], _∷_}
 use Prim.Native.Nat.{ℕ, _+_, _-_}
 use lib.Dec.{eqb, ltb}
 use lib.ListN.{length, take, drop}
+use Rattle.parts.specs.Parts.{lay}
 use Rattle.text.specs.Text.{newline}
-use Rattle.text.specs.Put.{lay}
+use Rattle.script.specs.Grammar.{longestLine}
 use Rattle.lines.specs.declared.Cut.{Cut}
 use Rattle.lines.specs.declared.Cut.the-variants.{Here, Joined, Open}
 
@@ -24,8 +25,8 @@ abbrev pub fitting : List ℕ → ℕ → List ℕ → List ℕ
 fitting held used part = take (length held - used) part
 
 -- held with that behind its first `used` bytes, and how many bytes are held then
-abbrev pub keptOf : List ℕ → ℕ → List ℕ → List ℕ
-keptOf held used part = lay held used (fitting held used part)
+abbrev pub heldWith : List ℕ → ℕ → List ℕ → List ℕ
+heldWith held used part = lay held used (fitting held used part)
 
 abbrev pub usedOf : List ℕ → ℕ → List ℕ → ℕ
 usedOf held used part = used + length (fitting held used part)
@@ -38,12 +39,21 @@ cutOf held used block at =
     (Open (usedOf held used (firstLine (drop at block))))
 
 unfoldable pub heldOf : List ℕ → ℕ → List ℕ → ℕ → List ℕ
-heldOf held used block at = cond (ltb (endOf block at) (length block) && eqb used 0) held (keptOf held used (firstLine (drop at block)))
+heldOf held used block at = cond (ltb (endOf block at) (length block) && eqb used 0) held (heldWith held used (firstLine (drop at block)))
 
 -- what a cut gives, and what it leaves in held
 pub record Cuts (held : List ℕ) (used : ℕ) (block : List ℕ) (at : ℕ) (r : Cut) (after : List ℕ) : Type 0 where
   pub is : r ≡ cutOf held used block at
   pub kept : after ≡ heldOf held used block at
+
+-- no second answer
+abbrev pub OneCuts : Type 0
+OneCuts = (held : List ℕ) (used : ℕ) (block : List ℕ) (at : ℕ) (r r′ : Cut) (after after′ : List ℕ) → Cuts held used block at r after → Cuts held used block at r′ after′
+    → (r ≡ r′) × (after ≡ after′)
+
+-- one byte more than the longest line: enough to know a longer one for what it is
+abbrev pub heldRoom : ℕ
+heldRoom = longestLine + 1
 
 -- held and used stand for the bytes `line` that are there of a line: all of them, or as many as held has room for
 pub record Holds (line held : List ℕ) (used : ℕ) : Type 0 where

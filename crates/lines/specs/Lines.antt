@@ -15,6 +15,7 @@ abbrev pub linesFrom : List ℕ → List ℕ → List (List ℕ)
 linesFrom line [] = lastLine line
 linesFrom line (b ∷ s) = cond (eqb b newline) (line ∷ linesFrom [] s) (linesFrom (line ++ (b ∷ [])) s)
 
--- the lines of an input
-unfoldable pub linesOf : List ℕ → List (List ℕ)
-linesOf s = linesFrom [] s
+-- an input that comes in blocks
+abbrev pub joinedUp : List (List ℕ) → List ℕ
+joinedUp [] = []
+joinedUp (b ∷ bs) = b ++ joinedUp bs

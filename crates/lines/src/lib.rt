@@ -2,8 +2,7 @@
 // line is held in a lent buffer, as far as it has room. With room for 641 bytes that is enough to know a line over 640 bytes for one,
 // however long it is.
 ghost use mathlib.Core.Path.{_≡_};
-ghost use Prim.Native.Nat.{min};
-ghost use Rattle.lines.specs.Cutting.{endOf, keptOf, usedOf, Cuts};
+ghost use Rattle.lines.specs.Cutting.{endOf, heldWith, usedOf, Cuts};
 
 // What stands in a block from a place on.
 pub enum Cut {
@@ -29,20 +28,14 @@ fn line_end(block: &[u8], at: usize) -> usize
     i
 }
 
-fn least(a: usize, b: usize) -> usize
-    ensures { λ r. ⌜ r ≡ min a b ⌝ }
-{
-    if a < b { a } else { b }
-}
-
 // Holds part behind the first `used` bytes of held, as far as there is room; and how many bytes are held then.
 fn keep(held: &mut [u8], used: usize, part: &[u8]) -> usize
-    ensures { λ r. ⌜ (r ≡ usedOf (now (held .entry)) used (now (part .entry))) × (now (held .exit) ≡ keptOf (now (held .entry)) used (now (part .entry))) ⌝ }
+    ensures { λ r. ⌜ (r ≡ usedOf (now (held .entry)) used (now (part .entry))) × (now (held .exit) ≡ heldWith (now (held .entry)) used (now (part .entry))) ⌝ }
 {
     if held.len() <= used {
         return used;
     }
-    let n = least(held.len() - used, part.len());
+    let n = parts::least(held.len() - used, part.len());
     text::put_all(&part[0..n], held, used)
 }
 

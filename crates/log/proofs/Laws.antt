@@ -1,5 +1,5 @@
 -- The laws of `specs/Row.antt` that the proofs cite. No contract cites this file. Assumes nothing.
-use mathlib.Core.Path.{_≡_, refl, sym}
+use mathlib.Core.Path.{_≡_, refl, sym, _∙_}
 use mathlib.Core.Bool.{Bool, true, false}
 use mathlib.Core.List.{List}
 use Prim.Native.Nat.{ℕ, _+_, _-_, _*_, _/_, _≤_, _<_}
@@ -10,7 +10,7 @@ use borrow.Author.Tests.{le-leb, lt-leb, leb-true, leb-false}
 use Rattle.text.specs.Put.{Put}
 use Rattle.text.specs.Text.{hexText, decimalText}
 use Rattle.text.proofs.TextLaws.{length-hexText, decimal-few}
-use Rattle.log.specs.Row.{fromText, bytesText, logText, roomOf, Rowed}
+use Rattle.log.specs.Row.{fromText, bytesText, logText, roomOf, Rowed, OneRowed}
 
 pub fits-in : (at fixed n len : ℕ) → at ≤ len → fixed ≤ len - at → leb n ((len - at - fixed) / 2) ≡ leb (at + (2 * n + fixed)) len
 fits-in at fixed n len l m = go (leb (at + (2 * n + fixed)) len) refl
@@ -52,3 +52,6 @@ row-most number answer from driven =
     let c : length (fromText from (length driven)) ≤ 20 = from-most from (length driven) in
     let d : length (bytesText driven) ≤ 2 * length driven + 1 = bytes-most driven in
     simp length-append (omega arith)
+
+pub one-rowed : OneRowed
+one-rowed most row d at e e′ r r′ p q = (p .is ∙ sym (q .is), p .next ∙ sym (q .next))

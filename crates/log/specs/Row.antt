@@ -5,8 +5,8 @@ use mathlib.Core.List.{List, [], _∷_, _++_}
 use Prim.Native.Nat.{ℕ, _+_, _*_}
 use lib.Dec.{eqb, leb}
 use lib.ListN.{length}
+use Rattle.parts.specs.Parts.{lay}
 use Rattle.text.specs.Text.{ascii, tab, newline, hexText, decimalText}
-use Rattle.text.specs.Put.{lay}
 
 -- `-`, where there is nothing to show
 abbrev pub dash : List ℕ
@@ -37,7 +37,15 @@ logText number answer from driven = rowOf (decimalText number ∷ decimalText an
 abbrev pub roomOf : ℕ → ℕ
 roomOf n = 2 * n + 65
 
+-- the most that any row of a script takes: a frame has at most 300 bytes, and drives no more
+abbrev pub longestRow : ℕ
+longestRow = roomOf 300
+
 -- A row is put into d from `at` on where there is room for `most` bytes; else d stays as it was. r is the place past what was put.
 pub record Rowed (most : ℕ) (row d : List ℕ) (at : ℕ) (e : List ℕ) (r : ℕ) : Type 0 where
   pub is : e ≡ cond (leb (at + most) (length d)) (lay d at row) d
   pub next : r ≡ cond (leb (at + most) (length d)) (at + length row) at
+
+-- no second answer
+abbrev pub OneRowed : Type 0
+OneRowed = (most : ℕ) (row d : List ℕ) (at : ℕ) (e e′ : List ℕ) (r r′ : ℕ) → Rowed most row d at e r → Rowed most row d at e′ r′ → (e ≡ e′) × (r ≡ r′)

@@ -6,6 +6,9 @@ ghost use lib.Dec.{leb};
 ghost use Rattle.text.specs.Put.{Put};
 ghost use Rattle.log.specs.Row.{headerText, fromText, bytesText, logText, roomOf, Rowed};
 
+// The longest row of a script, `longestRow`: a log with less room left is written out first.
+pub const LONGEST_ROW: usize = 665;
+
 // Whether `fixed` bytes and two for each of n fit into a buffer of `len` from `at` on.
 fn fits(at: usize, fixed: usize, n: usize, len: usize) -> bool
     ensures { λ r. ⌜ r ≡ leb (at + (2 * n + fixed)) len ⌝ }

@@ -1,14 +1,11 @@
-// A script line played on the chip, and its row of the log.
+// A script line played on the chip.
 ghost use mathlib.Core.Path.{_≡_};
-ghost use Prim.Native.Nat.{_+_, _≤_};
-ghost use lib.ListN.{length};
-ghost use Rattle.chip.specs.Time.{waitOf, powerOf};
-ghost use Rattle.script.specs.Reading.{lineOf};
-ghost use Rattle.play.specs.Play.{Plays, passedOf, frameTurn, playOf, Logs};
-use chip::After;
-use rules::Record;
-use rules::State;
+ghost use Rattle.chip.specs.Frames.{chipOf};
+ghost use Rattle.play.specs.Play.{Plays, passedOf, frameTurn, playOf};
 use script::Line;
+use states::Record;
+use states::State;
+use time::After;
 
 // What a line came to: the answer's number, the first driven position and how many bytes are driven, and the state after.
 pub struct Played {
@@ -25,7 +22,7 @@ fn passed(a: After) -> Played
     let answer = a.answer;
     let state = a.state;
     Played {
-        answer: rules::number_of(answer),
+        answer: answers::number_of(answer),
         from: 0,
         count: 0,
         state,
@@ -42,15 +39,15 @@ fn play_frame(
     array: &mut [u8],
     shown: &mut [u8],
 ) -> Played
-    ensures { λ r. ⌜ Plays (frameTurn rec st (now (array .entry)) (now (shown .entry)) (now (line .entry)) wp tail) r (now (array .exit)) (now (shown .exit)) ⌝ }
+    ensures { λ r. ⌜ Plays (frameTurn rec (chipOf st (now (array .entry))) (now (shown .entry)) (now (line .entry)) wp tail) r (now (array .exit)) (now (shown .exit)) ⌝ }
 {
-    let mut frame = [0u8; 300];
-    let n = script::frame_bytes(line, &mut frame);
-    let r = stepper::stepped(st, rec, array, &frame[0..n], tail as u32, wp, shown);
+    let mut sent = [0u8; 300];
+    let n = script::frame_bytes(line, &mut sent);
+    let r = chip::frame(rec, st, array, &sent[0..n], tail as u32, wp, shown);
     let answer = r.answer;
     let state = r.state;
     Played {
-        answer: rules::number_of(answer),
+        answer: answers::number_of(answer),
         from: r.from,
         count: r.count,
         state,
@@ -59,13 +56,13 @@ fn play_frame(
 
 // Any line, of any bytes: a bad one is answered 20 and changes nothing.
 pub fn play(line: &[u8], rec: Record, st: State, array: &mut [u8], shown: &mut [u8]) -> Played
-    ensures { λ r. ⌜ Plays (playOf rec st (now (array .entry)) (now (shown .entry)) (now (line .entry))) r (now (array .exit)) (now (shown .exit)) ⌝ }
+    ensures { λ r. ⌜ Plays (playOf rec (chipOf st (now (array .entry))) (now (shown .entry)) (now (line .entry))) r (now (array .exit)) (now (shown .exit)) ⌝ }
 {
     let said = script::read_line(line);
     match said {
         Line::Frame { wp, tail, count: _ } => play_frame(line, wp, tail, rec, st, array, shown),
-        Line::Wait(us) => passed(stepper::waited(st, rec, us)),
-        Line::Power => passed(stepper::cycled(st, rec)),
+        Line::Wait(us) => passed(time::wait(rec, st, us)),
+        Line::Power => passed(time::power_cycle(rec, st)),
         Line::Bad => Played {
             answer: 20,
             from: 0,
@@ -73,32 +70,4 @@ pub fn play(line: &[u8], rec: Record, st: State, array: &mut [u8], shown: &mut [
             state: st,
         },
     }
-}
-
-// The place past the row, and the state after.
-pub struct Logged {
-    pub next: usize,
-    pub state: State,
-}
-
-// Plays a line and puts its row into the log from `at` on, which has room for the longest row.
-pub fn log_line(
-    number: u64,
-    line: &[u8],
-    rec: Record,
-    st: State,
-    array: &mut [u8],
-    log: &mut [u8],
-    at: usize,
-) -> Logged
-    requires { ⌜ at + 665 ≤ length (now log) ⌝ }
-    ensures { λ r. ⌜ Logs rec st (now (array .entry)) number (now (line .entry)) (now (log .entry)) at r (now (array .exit)) (now (log .exit)) ⌝ }
-{
-    let mut shown = [0u8; 300];
-    let p = play(line, rec, st, array, &mut shown);
-    let from = p.from as usize;
-    let end = from + p.count as usize;
-    let next = log::put_row(number, p.answer, p.from, &shown[from..end], log, at);
-    let state = p.state;
-    Logged { next, state }
 }

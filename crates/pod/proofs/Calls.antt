@@ -1,59 +1,66 @@
 -- The effects of the calls, from what the chip and the packing give. Assumes nothing.
-use mathlib.Core.Path.{_≡_, ap, _∙_}
-use mathlib.Core.Bool.{true, not}
+use mathlib.Core.Path.{_≡_, sym, ap, _∙_}
+use mathlib.Core.Bool.{true, false}
 use mathlib.Core.List.{List}
 use Prim.Native.Nat.{ℕ}
-use lib.Dec.{eqb}
-use Rattle.rules.specs.Answers.{numberOf, isDone}
-use Rattle.rules.specs.States.{stateOk}
-use Rattle.rules.specs.declared.Record.{Record}
-use Rattle.rules.specs.declared.State.{State}
-use Rattle.rules.specs.declared.Answer.{Answer}
-use Rattle.chip.specs.declared.Reply.{Reply}
-use Rattle.chip.specs.declared.After.{After}
-use Rattle.chip.specs.Effects.{Effect, Gives}
-use Rattle.chip.specs.Frames.{frameOf}
-use Rattle.chip.specs.Time.{later, cycled, ifValid, waitOf, powerOf}
+use Rattle.answers.specs.Answers.{numberOf, isDone}
+use Rattle.states.specs.States.{recordOk, stateOk}
+use Rattle.states.specs.declared.Record.{Record}
+use Rattle.states.specs.declared.State.{State}
+use Rattle.answers.specs.declared.Answer.{Answer}
+use Rattle.effects.specs.declared.Reply.{Reply}
+use Rattle.time.specs.declared.After.{After}
+use Rattle.ladder.specs.Ladder.{refusalOf}
+use Rattle.effects.specs.Effects.{Effect, Gives}
+use Rattle.chip.specs.Frames.{Sent, chipOf, frameOf}
+use Rattle.time.specs.Time.{later, cycled, ifValid, waitOf, powerOf}
 use Rattle.pod.specs.Packing.{unpackOf}
-use Rattle.pod.specs.Calls.{keptOf, answeredOf, calledFrame, calledWait, calledCycle, Leaves, Answers, Fits}
+use Rattle.pod.specs.Calls.{keptOf, answeredOf, calledFrame, calledWait, calledCycle, Leaves, Answers, Packs}
 use Rattle.pod.proofs.Packing.{Small, packing-length}
 use Rattle.pod.proofs.Valid.{valid-packing, valid-small, timely, later-small, cycled-small, Taken, taken}
 
 -- what is packed fits eight bytes
 fits : (rec : Record) (xs : List ℕ) (a : Answer) (next : State)
-    → (isDone a ≡ true → stateOk rec (unpackOf xs) ≡ true) → (isDone a ≡ true → Small next) → Fits a next xs
+    → (isDone a ≡ true → stateOk rec (unpackOf xs) ≡ true) → (isDone a ≡ true → Small next) → Packs a next xs
 fits rec xs a next v h = record { room = λ d. packing-length xs (valid-packing rec xs (v d)); level = λ d. h d .level }
 
 -- ---- frames
-module _ (rec : Record) (xs cells bytes : List ℕ) (tail wp : ℕ) (out : List ℕ) where
+module _ (rec : Record) (xs cells : List ℕ) (f : Sent) where
   abbrev E : Effect
-  E = frameOf rec (unpackOf xs) cells bytes tail (not (eqb wp 0)) out
+  E = frameOf rec (chipOf (unpackOf xs) cells) f
 
-  pub frame-taken : isDone (E .reply .answer) ≡ true → Taken rec (unpackOf xs) cells bytes tail (not (eqb wp 0)) out
-  frame-taken d = taken rec (unpackOf xs) cells bytes tail (not (eqb wp 0)) out d
+  pub frame-taken : isDone (E .reply .answer) ≡ true → Taken rec (chipOf (unpackOf xs) cells) E
+  frame-taken d = taken rec (chipOf (unpackOf xs) cells) f d
 
-  frame-fits : Fits (E .reply .answer) (E .reply .state) xs
+  frame-fits : Packs (E .reply .answer) (E .reply .state) xs
   frame-fits = fits rec xs (E .reply .answer) (E .reply .state) (λ d. frame-taken d .valid) (λ d. frame-taken d .replied .small)
 
-  module _ {r : Record} {s : State} {reply : Reply} {cells′ out′ : List ℕ} (re : r ≡ rec) (se : s ≡ unpackOf xs) (g : Gives (frameOf r s cells bytes tail (not (eqb wp 0)) out) reply cells′ out′) where
+  module _ {r : Record} {s : State} {reply : Reply} {cells′ out′ : List ℕ} (re : r ≡ rec) (se : s ≡ unpackOf xs) (g : Gives (frameOf r (chipOf s cells) f) reply cells′ out′) where
     given : Gives E reply cells′ out′
     given = rw (← re, ← se) g
 
-    pub fits-frame : Fits (reply .answer) (reply .state) xs
+    pub fits-frame : Packs (reply .answer) (reply .state) xs
     fits-frame = rw (given .reply) frame-fits
 
     pub leaves : {n : ℕ} {xs′ : List ℕ} → n ≡ numberOf (reply .answer) → xs′ ≡ keptOf (reply .answer) (reply .state) xs
-        → Leaves (calledFrame rec xs cells bytes tail wp out) n xs′ cells′ out′ (reply .from) (reply .count)
+        → Leaves (calledFrame rec xs cells f) n xs′ cells′ out′ (reply .from) (reply .count)
     unfolding calledFrame
-    leaves e f =
+    leaves e k =
         record {
           number-is = e ∙ ap (λ (x : Reply). numberOf (x .answer)) (given .reply);
-          state-is = f ∙ ap (λ (x : Reply). keptOf (x .answer) (x .state) xs) (given .reply);
+          state-is = k ∙ ap (λ (x : Reply). keptOf (x .answer) (x .state) xs) (given .reply);
           cells-are = given .cells;
           out-is = given .out;
           from-is = ap (λ (x : Reply). x .from) (given .reply);
           count-is = ap (λ (x : Reply). x .count) (given .reply);
         }
+
+-- the first row of the table, tested before the state is unpacked
+pub bad-record : (rec : Record) (xs cells : List ℕ) (f : Sent) {r : Record} → r ≡ rec → recordOk r ≡ false → Leaves (calledFrame rec xs cells f) 1 xs cells (f .out) 0 0
+unfolding calledFrame frameOf refusalOf keptOf
+bad-record rec xs cells f {r} e b =
+    let no : recordOk rec ≡ false = sym (ap recordOk e) ∙ b in
+    record { number-is = rw no; state-is = rw no; cells-are = rw no; out-is = rw no; from-is = rw no; count-is = rw no }
 
 -- ---- waits and power cycles
 module _ (rec : Record) (xs : List ℕ) (next : State) (h : Small (unpackOf xs) → Small next) where
@@ -62,7 +69,7 @@ module _ (rec : Record) (xs : List ℕ) (next : State) (h : Small (unpackOf xs) 
       let t = timely rec (unpackOf xs) next d in
       rw (t .after) (h (valid-small rec (unpackOf xs) (t .right) (t .valid)))
 
-  time-fits : Fits (ifValid rec (unpackOf xs) next .answer) (ifValid rec (unpackOf xs) next .state) xs
+  time-fits : Packs (ifValid rec (unpackOf xs) next .answer) (ifValid rec (unpackOf xs) next .state) xs
   time-fits = fits rec xs _ _ (λ d. timely rec (unpackOf xs) next d .valid) time-small
 
 answers : (xs : List ℕ) {a b : After} {n : ℕ} {xs′ : List ℕ} → a ≡ b → n ≡ numberOf (a .answer) → xs′ ≡ keptOf (a .answer) (a .state) xs
@@ -78,7 +85,7 @@ module _ (rec : Record) (xs : List ℕ) {r : Record} {s : State} {a : After} (re
     waited : a ≡ waitOf rec (unpackOf xs) us
     waited = rw (← re, ← se) e
 
-    pub fits-wait : Fits (a .answer) (a .state) xs
+    pub fits-wait : Packs (a .answer) (a .state) xs
     unfolding waitOf
     fits-wait = rw waited (time-fits rec xs (later (unpackOf xs) us) (later-small (unpackOf xs) us))
 
@@ -90,7 +97,7 @@ module _ (rec : Record) (xs : List ℕ) {r : Record} {s : State} {a : After} (re
     powered : a ≡ powerOf rec (unpackOf xs)
     powered = rw (← re, ← se) e
 
-    pub fits-cycle : Fits (a .answer) (a .state) xs
+    pub fits-cycle : Packs (a .answer) (a .state) xs
     unfolding powerOf
     fits-cycle = rw powered (time-fits rec xs (cycled (unpackOf xs)) (cycled-small (unpackOf xs)))
 

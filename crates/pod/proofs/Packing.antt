@@ -8,8 +8,8 @@ use lib.Dec.{eqb, leb}
 use lib.ListN.{length, getD, drop, drop-of-length-le}
 use lib.Seq.{sets, sets-eq}
 use mir.Val.{boolByte}
-use Rattle.rules.specs.States.{bit, statusOf}
-use Rattle.rules.specs.declared.State.{State}
+use Rattle.states.specs.States.{flag, statusOf}
+use Rattle.states.specs.declared.State.{State}
 use Rattle.pod.specs.Packing.{bytesOf, spelt, packOf, readOf, isPacking, noState, unpackOf}
 use Rattle.pod.proofs.Bytes.{spelt-bytes, bytes-spelt, same-refl, same-eq, last-four}
 use Rattle.pod.proofs.Status.{flag-byte, flag-back, srwd-back, bp-back, wel-back, status-test, flag-test}
@@ -80,7 +80,7 @@ tests xs wip =
     eqb (getD xs 0 0 / 64 % 2) 0
     && (eqb (getD xs 0 0 % 2) wip && (leb (getD xs 1 0) 1 && (eqb (getD xs 2 0) 0 && eqb (getD xs 3 0) 0)))
 
-tests-right : (xs : List ℕ) → length xs ≡ 8 → ((i : ℕ) → getD xs i 0 < 256) → isPacking xs ≡ tests xs (bit (not (eqb (spelt (drop 4 xs)) 0)) 1)
+tests-right : (xs : List ℕ) → length xs ≡ 8 → ((i : ℕ) → getD xs i 0 < 256) → isPacking xs ≡ tests xs (flag (not (eqb (spelt (drop 4 xs)) 0)) 1)
 unfolding isPacking packOf readOf statusOf
 tests-right [] n h = absurd (omega arith)
 tests-right (a ∷ []) n h = absurd (omega arith)

@@ -1,24 +1,24 @@
 -- The promises of specs/Promises.antt. Assumes nothing.
 use mathlib.Core.Path.{_≡_, refl, sym, ap}
-use mathlib.Core.Bool.{Bool, true, false, not, cond}
+use mathlib.Core.Bool.{Bool, true, false, cond}
 use mathlib.Core.List.{List}
 use Prim.Native.Nat.{ℕ}
 use lib.Dec.{eqb}
 use lib.ListN.{length}
 use borrow.Author.Tests.{ne-eqb}
-use Rattle.units.specs.Models.{modelOf}
-use Rattle.rules.specs.Answers.{numberOf, isDone}
-use Rattle.rules.specs.States.{recordOk, stateOk}
-use Rattle.rules.specs.declared.Record.{Record}
-use Rattle.rules.specs.declared.State.{State}
-use Rattle.rules.specs.declared.Answer.{Answer}
+use Rattle.models.specs.Models.{modelOf}
+use Rattle.answers.specs.Answers.{numberOf, isDone}
+use Rattle.states.specs.States.{recordOk, stateOk}
+use Rattle.states.specs.declared.Record.{Record}
+use Rattle.states.specs.declared.State.{State}
+use Rattle.answers.specs.declared.Answer.{Answer}
 use Rattle.ladder.specs.Ladder.{refusalOf}
-use Rattle.chip.specs.Effects.{Effect}
-use Rattle.chip.specs.Frames.{frameOf}
-use Rattle.chip.specs.Time.{later, cycled, ifValid, waitOf, powerOf}
+use Rattle.effects.specs.Effects.{Effect}
+use Rattle.chip.specs.Frames.{chipOf, headFor, frameOf}
+use Rattle.time.specs.Time.{later, cycled, ifValid, waitOf, powerOf}
 use Rattle.pod.specs.Packing.{packOf, unpackOf}
 use Rattle.pod.specs.Calls.{keptOf, called, answered, answeredOf, calledFrame, calledWait, calledCycle}
-use Rattle.pod.specs.Promises.{UnpacksPacked, PacksUnpacked, NoPacking, FrameRefusesBytes, WaitRefusesBytes, CycleRefusesBytes, RefusedFrameStays, RefusedWaitStays, RefusedCycleStays, FrameCarries, WaitCarries, CycleCarries, OneFrame, OneAnswer}
+use Rattle.pod.specs.Promises.{UnpacksPacked, PacksUnpacked, NoPacking, FrameRefusesBytes, WaitRefusesBytes, CycleRefusesBytes, RefusedFrameStays, RefusedWaitStays, RefusedCycleStays, FrameCarries, WaitCarries, CycleCarries, OneCalled, OneAnswered}
 use Rattle.pod.proofs.Packing.{Small, pack-unpack, unpack-pack}
 use Rattle.pod.proofs.Valid.{valid-packing, valid-small, later-small, cycled-small, untimely, refused}
 use Rattle.pod.proofs.Calls.{frame-taken, time-small}
@@ -39,17 +39,17 @@ not-valid rec xs n = go (stateOk rec (unpackOf xs)) refl
     go false e = e
 
 pub frame-refuses-bytes : FrameRefusesBytes
-unfolding calledFrame frameOf refusalOf keptOf
-frame-refuses-bytes rec xs cells bytes tail wp out n = go (recordOk rec) (eqb (length cells) (modelOf (rec .model) .length)) refl refl
+unfolding calledFrame frameOf headFor refusalOf keptOf
+frame-refuses-bytes rec xs cells f n = go (recordOk rec) (eqb (length cells) (modelOf (rec .model) .length)) refl refl
   where
     v : stateOk rec (unpackOf xs) ≡ false
     v = not-valid rec xs n
 
     go : (r l : Bool) → recordOk rec ≡ r → eqb (length cells) (modelOf (rec .model) .length) ≡ l
-        → calledFrame rec xs cells bytes tail wp out ≡ called (cond r (cond l 3 2) 1) xs cells out 0 0
-    go true true e f = rw (e, f, v)
-    go true false e f = rw (e, f)
-    go false l e f = rw e
+        → calledFrame rec xs cells f ≡ called (cond r (cond l 3 2) 1) xs cells (f .out) 0 0
+    go true true e g = rw (e, g, v)
+    go true false e g = rw (e, g)
+    go false l e g = rw e
 
 time-refuses : (rec : Record) (xs : List ℕ) (next : State) → NoPacking rec xs
     → answeredOf xs (ifValid rec (unpackOf xs) next) ≡ answered (cond (recordOk rec) 3 1) xs
@@ -78,8 +78,8 @@ kept-refused a next xs n = rw (ne-eqb (numberOf a) 0 n)
 
 pub refused-frame-stays : RefusedFrameStays
 unfolding calledFrame
-refused-frame-stays rec xs cells bytes tail wp out n =
-    let e = refused rec (unpackOf xs) cells bytes tail (not (eqb wp 0)) out (ne-eqb _ 0 n) in
+refused-frame-stays rec xs cells f n =
+    let e = refused rec (chipOf (unpackOf xs) cells) f (ne-eqb _ 0 n) in
     rw (kept-refused _ _ xs n, ap (λ (x : Effect). x .cells) e, ap (λ (x : Effect). x .out) e, ap (λ (x : Effect). x .reply .from) e, ap (λ (x : Effect). x .reply .count) e)
 
 pub refused-wait-stays : RefusedWaitStays
@@ -102,9 +102,9 @@ carried a next xs h n = go (isDone a) refl
 
 pub frame-carries : FrameCarries
 unfolding calledFrame
-frame-carries rec xs cells bytes tail wp out =
-    carried _ _ xs (λ d. frame-taken rec xs cells bytes tail wp out d .replied .small)
-    (λ d. ap (λ (x : Effect). x .reply .state) (refused rec (unpackOf xs) cells bytes tail (not (eqb wp 0)) out d))
+frame-carries rec xs cells f =
+    carried _ _ xs (λ d. frame-taken rec xs cells f d .replied .small)
+    (λ d. ap (λ (x : Effect). x .reply .state) (refused rec (chipOf (unpackOf xs) cells) f d))
 
 time-carries : (rec : Record) (xs : List ℕ) (next : State) → (Small (unpackOf xs) → Small next)
     → unpackOf (answeredOf xs (ifValid rec (unpackOf xs) next) .state) ≡ ifValid rec (unpackOf xs) next .state
@@ -120,9 +120,9 @@ unfolding calledCycle powerOf
 cycle-carries rec xs = time-carries rec xs (cycled (unpackOf xs)) (cycled-small (unpackOf xs))
 
 -- ---- no second answer
-pub one-frame : OneFrame
-one-frame c n m xs ys cells cells′ out out′ from from′ count count′ p q =
+pub one-called : OneCalled
+one-called c n m xs ys cells cells′ out out′ from from′ count count′ p q =
     rw (p .number-is, p .state-is, p .cells-are, p .out-is, p .from-is, p .count-is, q .number-is, q .state-is, q .cells-are, q .out-is, q .from-is, q .count-is)
 
-pub one-answer : OneAnswer
-one-answer c n m xs ys p q = rw (p .number-is, p .state-is, q .number-is, q .state-is)
+pub one-answered : OneAnswered
+one-answered c n m xs ys p q = rw (p .number-is, p .state-is, q .number-is, q .state-is)

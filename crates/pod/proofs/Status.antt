@@ -7,38 +7,38 @@ use native.Mathlib.Omega.{arith}
 use lib.Dec.{eqb, leb}
 use mir.Val.{boolByte}
 use borrow.Author.Tests.{eqb-true, eqb-false, eq-eqb, ne-eqb, le-leb, lt-leb, leb-true, leb-false}
-use Rattle.rules.specs.States.{bit}
+use Rattle.states.specs.States.{flag}
 
 -- ---- bits
-pub flag-byte : (b : Bool) → boolByte b ≡ bit b 1
+pub flag-byte : (b : Bool) → boolByte b ≡ flag b 1
 flag-byte true = refl
 flag-byte false = refl
 
-pub flag-back : (b : Bool) → eqb (bit b 1) 1 ≡ b
+pub flag-back : (b : Bool) → eqb (flag b 1) 1 ≡ b
 flag-back true = refl
 flag-back false = refl
 
-bit-le : (b : Bool) → bit b 1 ≤ 1
+bit-le : (b : Bool) → flag b 1 ≤ 1
 bit-le true = omega arith
 bit-le false = omega arith
 
-bit-2 : (b : Bool) → bit b 2 ≡ 2 * bit b 1
+bit-2 : (b : Bool) → flag b 2 ≡ 2 * flag b 1
 bit-2 true = refl
 bit-2 false = refl
 
-bit-128 : (b : Bool) → bit b 128 ≡ 128 * bit b 1
+bit-128 : (b : Bool) → flag b 128 ≡ 128 * flag b 1
 bit-128 true = refl
 bit-128 false = refl
 
 -- ---- taken apart: SRWD, BP, WEL and WIP put together give each back
 module _ (srwd wel wip : Bool) (bp : ℕ) where
   abbrev pub byte : ℕ
-  byte = bit srwd 128 + (4 * bp + (bit wel 2 + bit wip 1))
+  byte = flag srwd 128 + (4 * bp + (flag wel 2 + flag wip 1))
 
   pub bp-back : bp ≤ 15 → byte / 4 % 16 ≡ bp
   bp-back h = rw (bit-128 srwd, bit-2 wel) (omega (arith, bit-le srwd, bit-le wel, bit-le wip))
 
-  half : byte / 2 % 2 ≡ bit wel 1
+  half : byte / 2 % 2 ≡ flag wel 1
   half = rw (bit-128 srwd, bit-2 wel) (omega (arith, bit-le srwd, bit-le wel, bit-le wip))
 
   pub wel-back : eqb (byte / 2 % 2) 1 ≡ wel
@@ -64,17 +64,17 @@ others p six q r low v b e hs hl hv = go (eqb six 0) (eqb low v) refl refl
     go false y f g = ne-eqb b (p + (q + (r + v))) (λ (m : b ≡ p + (q + (r + v))). eqb-false six 0 f (omega arith))
 
 module _ (b : ℕ) (h : b < 256) where
-  bit-7 : bit (leb 128 b) 128 ≡ 128 * (b / 128)
+  bit-7 : flag (leb 128 b) 128 ≡ 128 * (b / 128)
   bit-7 = go (leb 128 b) refl
     where
-      go : (t : Bool) → leb 128 b ≡ t → bit t 128 ≡ 128 * (b / 128)
+      go : (t : Bool) → leb 128 b ≡ t → flag t 128 ≡ 128 * (b / 128)
       go true e = let l : 128 ≤ b = leb-true 128 b e in omega arith
       go false e = let l : b < 128 = leb-false 128 b e in omega arith
 
-  bit-1 : bit (eqb (b / 2 % 2) 1) 2 ≡ 2 * (b / 2 % 2)
+  bit-1 : flag (eqb (b / 2 % 2) 1) 2 ≡ 2 * (b / 2 % 2)
   bit-1 = go (eqb (b / 2 % 2) 1) refl
     where
-      go : (t : Bool) → eqb (b / 2 % 2) 1 ≡ t → bit t 2 ≡ 2 * (b / 2 % 2)
+      go : (t : Bool) → eqb (b / 2 % 2) 1 ≡ t → flag t 2 ≡ 2 * (b / 2 % 2)
       go true e = let l : b / 2 % 2 ≡ 1 = eqb-true (b / 2 % 2) 1 e in omega arith
       go false e = let l : (b / 2 % 2 ≡ 1 → ⊥) = eqb-false (b / 2 % 2) 1 e in omega arith
 
@@ -86,13 +86,13 @@ module _ (b : ℕ) (h : b < 256) where
       omega (arith, two, six, seven)
 
   pub status-test : (wip : Bool)
-      → eqb b (byte (leb 128 b) (eqb (b / 2 % 2) 1) wip (b / 4 % 16)) ≡ (eqb (b / 64 % 2) 0 && eqb (b % 2) (bit wip 1))
+      → eqb b (byte (leb 128 b) (eqb (b / 2 % 2) 1) wip (b / 4 % 16)) ≡ (eqb (b / 64 % 2) 0 && eqb (b % 2) (flag wip 1))
   status-test wip =
       rw (bit-7, bit-1)
-      (others (128 * (b / 128)) (b / 64 % 2) (4 * (b / 4 % 16)) (2 * (b / 2 % 2)) (b % 2) (bit wip 1) b all-bits (omega arith) (omega arith) (bit-le wip))
+      (others (128 * (b / 128)) (b / 64 % 2) (4 * (b / 4 % 16)) (2 * (b / 2 % 2)) (b % 2) (flag wip 1) b all-bits (omega arith) (omega arith) (bit-le wip))
 
 -- the flag is 0 or 1
-pub flag-test : (b : ℕ) → eqb b (bit (eqb b 1) 1) ≡ leb b 1
+pub flag-test : (b : ℕ) → eqb b (flag (eqb b 1) 1) ≡ leb b 1
 flag-test zero = refl
 flag-test (suc zero) = refl
 flag-test (suc (suc n)) =

@@ -1,30 +1,22 @@
 -- What a call that is taken shows of its state, what a refused one leaves, and that the state after fits its eight bytes. Assumes nothing.
-use mathlib.Core.Path.{_≡_, refl, sym, ap, _∙_}
+use mathlib.Core.Path.{_≡_, refl, sym, _∙_}
 use mathlib.Core.Bool.{Bool, true, false, true≢false, false≢true}
 use mathlib.Core.List.{List}
 use Prim.Native.Nat.{ℕ, _^_, _≤_, _<_}
 use native.Mathlib.Omega.{arith}
-use lib.Dec.{leb}
-use lib.ListN.{length}
-use borrow.Author.Tests.{leb-true}
-use Rattle.units.specs.Models.{isModel}
-use Rattle.units.specs.declared.Address.{Address}
-use Rattle.units.proofs.Bools.{both}
-use Rattle.rules.specs.Answers.{isDone}
-use Rattle.rules.specs.States.{inRange, recordOk, longestOf, stateOk}
-use Rattle.rules.specs.declared.Record.{Record}
-use Rattle.rules.specs.declared.State.{State}
-use Rattle.rules.specs.declared.Answer.the-variants.{Done}
-use Rattle.rules.specs.declared.Command.{Command}
-use Rattle.rules.specs.declared.Command.the-variants.{WriteEnable, WriteDisable, ReadStatus, WriteStatus, Read, FastRead, EraseSector, EraseBlock, EraseChip, Program, ReadId, Wake, ReadMaker, Sleep, Unknown}
-use Rattle.rules.proofs.States.{sound, highest-bp, status-write-le, page-le, sector-le, block-le, chip-le}
-use Rattle.ladder.specs.Ladder.{refusalOf}
-use Rattle.ladder.specs.declared.Head.{Head}
+use Rattle.models.proofs.Rules.{highest-bp}
+use Rattle.answers.specs.Answers.{isDone}
+use Rattle.states.specs.States.{recordOk, longestOf, stateOk}
+use Rattle.states.specs.declared.Record.{Record}
+use Rattle.states.specs.declared.State.{State}
+use Rattle.states.proofs.States.{sound, longest-in-range}
 use Rattle.ladder.proofs.Passed.{passed}
-use Rattle.chip.specs.declared.Reply.{Reply}
-use Rattle.chip.specs.Effects.{stateOnly, drives, latched, dozing, working, written, readStatus, readFrom, eraseSector, eraseBlock, eraseChip, programPage, readId, wake, readMaker}
-use Rattle.chip.specs.Frames.{headOf, acceptedOf, frameOf}
-use Rattle.chip.specs.Time.{later, cycled, ifValid}
+use Rattle.effects.specs.declared.Reply.{Reply}
+use Rattle.effects.specs.Effects.{latched, dozing, working, written, Effect}
+use Rattle.chip.specs.Frames.{Chip, Sent, headOf, refusedOf, frameOf}
+use Rattle.chip.proofs.Cases.{refusal, accepted, frame-cases, sort, shown-asked}
+use Rattle.time.specs.Time.{later, cycled, ifValid}
+use Rattle.chip.proofs.Sorts.{Move, stays, latches, dozes, works, writes, is-done, moves}
 use Rattle.pod.specs.Packing.{isPacking, noState, unpackOf}
 use Rattle.pod.proofs.Packing.{Small, unpack-none}
 
@@ -39,25 +31,11 @@ valid-packing rec xs v = go (isPacking xs) refl
     go true e = e
     go false e = absurd (nothing-valid rec (rw (unpack-none xs e) at v))
 
-at-most : (us : ℕ) → inRange us ≡ true → us ≤ 1000000000
-unfolding inRange
-at-most us e = leb-true us 1000000000 (both (leb 1 us) (leb us 1000000000) e .1)
-
-longest-bound : (r : Record) → recordOk r ≡ true → longestOf r ≤ 1000000000
-unfolding recordOk longestOf
-longest-bound r e =
-    let a = both (isModel (r .model)) _ e in
-    let b = both (inRange (r .«status_write»)) _ (a .1) in
-    let c = both (inRange (r .page)) _ (b .1) in
-    let d = both (inRange (r .sector)) _ (c .1) in
-    let f = both (inRange (r .block)) _ (d .1) in
-    omega (arith, at-most _ (b .0), at-most _ (c .0), at-most _ (d .0), at-most _ (f .0), at-most _ (f .1))
-
 pub valid-small : (rec : Record) (s : State) → recordOk rec ≡ true → stateOk rec s ≡ true → Small s
 valid-small rec s r v =
     record {
       level = omega (arith, sound rec s v .level, highest-bp (rec .model));
-      short = omega (arith, sound rec s v .time, longest-bound rec r);
+      short = omega (arith, sound rec s v .time, longest-in-range rec r .short);
     }
 
 -- ---- waits and power cycles
@@ -95,66 +73,41 @@ cycled-small s h = record { level = h .level; short = omega arith }
 
 -- ---- what an accepted frame replies
 pub record Done-small (r : Reply) : Type 0 where
-  pub done : r .answer ≡ Done
+  pub done : isDone (r .answer) ≡ true
   pub small : Small (r .state)
 
-module _ (rec : Record) (s : State) (cells : List ℕ) (at : Address) (bytes out : List ℕ) (ok : recordOk rec ≡ true) (h : Small s) where
+module _ (rec : Record) (s : State) (ok : recordOk rec ≡ true) (h : Small s) where
   busy-for : (us : ℕ) → us ≤ longestOf rec → us < 2 ^ 32
-  busy-for us l = omega (arith, longest-bound rec ok)
+  busy-for us l = omega (arith, longest-in-range rec ok .short)
 
-  works : (us : ℕ) → us ≤ longestOf rec → Small (working s us)
+  works-small : (us : ℕ) → us ≤ longestOf rec → Small (working s us)
   unfolding working
-  works us l = record { level = h .level; short = busy-for us l }
+  works-small us l = record { level = h .level; short = busy-for us l }
 
-  accepted : (c : Command) → Done-small (acceptedOf rec s c cells at bytes out .reply)
-  unfolding acceptedOf latched dozing written readStatus readFrom eraseSector eraseBlock eraseChip programPage readId wake readMaker drives
-  accepted WriteEnable = record { done = refl; small = record { level = h .level; short = h .short } }
-  accepted WriteDisable = record { done = refl; small = record { level = h .level; short = h .short } }
-  accepted ReadStatus = record { done = refl; small = h }
-  accepted WriteStatus =
-      record { done = refl; small = record { level = omega arith; short = busy-for _ (status-write-le rec) } }
-  accepted Read = record { done = refl; small = h }
-  accepted FastRead = record { done = refl; small = h }
-  accepted EraseSector = record { done = refl; small = works _ (sector-le rec) }
-  accepted EraseBlock = record { done = refl; small = works _ (block-le rec) }
-  accepted EraseChip = record { done = refl; small = works _ (chip-le rec) }
-  accepted Program = record { done = refl; small = works _ (page-le rec) }
-  accepted ReadId = record { done = refl; small = h }
-  accepted Wake = record { done = refl; small = record { level = h .level; short = h .short } }
-  accepted ReadMaker = record { done = refl; small = h }
-  accepted Sleep = record { done = refl; small = record { level = h .level; short = h .short } }
-  accepted Unknown = record { done = refl; small = h }
+  moved : {t : State} → Move rec s t → Small t
+  unfolding latched dozing written
+  moved stays = h
+  moved (latches b z) = record { level = h .level; short = h .short }
+  moved (dozes b z) = record { level = h .level; short = h .short }
+  moved (works us l w a) = works-small us l
+  moved (writes b us l w a) = record { level = omega arith; short = busy-for us l }
 
 -- ---- frames
-module _ (rec : Record) (s : State) (cells bytes : List ℕ) (tail : ℕ) (wp : Bool) (out : List ℕ) where
-  abbrev H : Head
-  H = headOf (rec .model) bytes tail wp
+-- what an accepted frame has shown of the state, and its reply
+pub record Taken (rec : Record) (x : Chip) (e : Effect) : Type 0 where
+  pub valid : stateOk rec (x .state) ≡ true
+  pub replied : Done-small (e .reply)
 
-  pub record Taken : Type 0 where
-    pub valid : stateOk rec s ≡ true
-    pub replied : Done-small (frameOf rec s cells bytes tail wp out .reply)
-
-  goes : isDone (refusalOf rec s (length cells) H (length out)) ≡ true → Taken
-  unfolding frameOf
-  goes e =
-      let p = passed rec s (length cells) H (length out) e in
-      record { valid = p .valid; replied = rw e (accepted rec s cells (H .address) bytes out (p .right) (valid-small rec s (p .right) (p .valid)) (H .command)) }
-
-  pub taken : isDone (frameOf rec s cells bytes tail wp out .reply .answer) ≡ true → Taken
-  unfolding frameOf
-  taken d = go (isDone (refusalOf rec s (length cells) H (length out))) refl
+module _ (rec : Record) (x : Chip) (f : Sent) where
+  pub taken : isDone (frameOf rec x f .reply .answer) ≡ true → Taken rec x (frameOf rec x f)
+  taken = frame-cases rec x f (λ (e : Effect). isDone (e .reply .answer) ≡ true → Taken rec x e) does (λ n d. absurd (true≢false (sym d ∙ n)))
     where
-      go : (b : Bool) → isDone (refusalOf rec s (length cells) H (length out)) ≡ b → Taken
-      go true e = goes e
-      go false e = absurd (true≢false (sym (rw e at d) ∙ e))
+      does : isDone (refusal rec x f) ≡ true → isDone (accepted rec x f .reply .answer) ≡ true → Taken rec x (accepted rec x f)
+      does g d =
+          let p = passed rec (x .state) (headOf rec x f) g in
+          let s = valid-small rec (x .state) (p .right) (p .valid) in
+          record { valid = p .valid; replied = record { done = d; small = moved rec (x .state) (p .right) s (moves (sort rec x f) (shown-asked rec x f g)) } }
 
   -- a refusal changes nothing
-  pub refused : isDone (frameOf rec s cells bytes tail wp out .reply .answer) ≡ false
-      → frameOf rec s cells bytes tail wp out ≡ stateOnly (frameOf rec s cells bytes tail wp out .reply .answer) s cells out
-  unfolding frameOf
-  refused d = go (isDone (refusalOf rec s (length cells) H (length out))) refl
-    where
-      go : (b : Bool) → isDone (refusalOf rec s (length cells) H (length out)) ≡ b
-          → frameOf rec s cells bytes tail wp out ≡ stateOnly (frameOf rec s cells bytes tail wp out .reply .answer) s cells out
-      go true e = absurd (true≢false (sym (ap isDone (goes e .replied .done)) ∙ d))
-      go false e = rw e
+  pub refused : isDone (frameOf rec x f .reply .answer) ≡ false → frameOf rec x f ≡ refusedOf (frameOf rec x f .reply .answer) x f
+  refused = frame-cases rec x f (λ (e : Effect). isDone (e .reply .answer) ≡ false → e ≡ refusedOf (e .reply .answer) x f) (λ g d. absurd (true≢false (sym (is-done (sort rec x f)) ∙ d))) (λ n d. refl)

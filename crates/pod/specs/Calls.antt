@@ -5,14 +5,14 @@ use mathlib.Core.Path.{_≡_}
 use Prim.Native.Nat.{ℕ, _≤_}
 use lib.Dec.{eqb}
 use lib.ListN.{length}
-use Rattle.rules.specs.Answers.{numberOf, isDone}
-use Rattle.rules.specs.declared.Record.{Record}
-use Rattle.rules.specs.declared.State.{State}
-use Rattle.rules.specs.declared.Answer.{Answer}
-use Rattle.chip.specs.declared.After.{After}
-use Rattle.chip.specs.Effects.{Effect}
-use Rattle.chip.specs.Frames.{frameOf}
-use Rattle.chip.specs.Time.{waitOf, powerOf}
+use Rattle.answers.specs.Answers.{numberOf, isDone}
+use Rattle.states.specs.declared.Record.{Record}
+use Rattle.states.specs.declared.State.{State}
+use Rattle.answers.specs.declared.Answer.{Answer}
+use Rattle.time.specs.declared.After.{After}
+use Rattle.effects.specs.Effects.{Effect}
+use Rattle.chip.specs.Frames.{Sent, chipOf, sentOf, frameOf}
+use Rattle.time.specs.Time.{waitOf, powerOf}
 use Rattle.pod.specs.Packing.{packOf, unpackOf}
 
 -- the record of six numbers
@@ -37,10 +37,13 @@ abbrev pub called : ℕ → List ℕ → List ℕ → List ℕ → ℕ → ℕ �
 called number state cells out from count =
     record { number = number; state = state; cells = cells; out = out; from = from; count = count }
 
--- WP# is low at 0, high at any other number
-unfoldable pub calledFrame : Record → List ℕ → List ℕ → List ℕ → ℕ → ℕ → List ℕ → Called
-calledFrame rec state cells bytes tail wp out =
-    let e : Effect = frameOf rec (unpackOf state) cells bytes tail (not (eqb wp 0)) out in
+-- what C sends: WP# is low at 0, high at any other number
+abbrev pub sentBy : List ℕ → ℕ → ℕ → List ℕ → Sent
+sentBy bytes tail wp out = sentOf bytes tail (not (eqb wp 0)) out
+
+unfoldable pub calledFrame : Record → List ℕ → List ℕ → Sent → Called
+calledFrame rec state cells f =
+    let e : Effect = frameOf rec (chipOf (unpackOf state) cells) f in
     called (numberOf (e .reply .answer)) (keptOf (e .reply .answer) (e .reply .state) state) (e .cells) (e .out) (e .reply .from) (e .reply .count)
 
 -- a wait or a power cycle: the number and the state bytes
@@ -74,6 +77,6 @@ pub record Answers (c : Answered) (number : ℕ) (state : List ℕ) : Type 0 whe
   pub state-is : state ≡ c .state
 
 -- what the code asks before it packs: where nothing was refused there are 8 bytes, and BP fits the status byte
-pub record Fits (a : Answer) (next : State) (state : List ℕ) : Type 0 where
+pub record Packs (a : Answer) (next : State) (state : List ℕ) : Type 0 where
   pub room : isDone a ≡ true → length state ≡ 8
   pub level : isDone a ≡ true → next .bp ≤ 15

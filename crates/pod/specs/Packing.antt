@@ -4,8 +4,8 @@ use mathlib.Core.List.{List, [], _∷_}
 use Prim.Native.Nat.{ℕ, zero, suc, _+_, _*_, _/_, _%_}
 use lib.Dec.{eqb, leb}
 use lib.ListN.{getD, drop}
-use Rattle.rules.specs.States.{bit, statusOf}
-use Rattle.rules.specs.declared.State.{State}
+use Rattle.states.specs.States.{flag, statusOf}
+use Rattle.states.specs.declared.State.{State}
 
 -- a number little-endian in n bytes, and the number that bytes spell
 abbrev pub bytesOf : ℕ → ℕ → List ℕ
@@ -18,7 +18,7 @@ spelt (b ∷ bs) = b + 256 * spelt bs
 
 -- the status byte, the deep power-down flag 0 or 1, two zeros, and the busy time little-endian
 unfoldable pub packOf : State → List ℕ
-packOf s = statusOf s ∷ bit (s .asleep) 1 ∷ 0 ∷ 0 ∷ bytesOf 4 (s .busy)
+packOf s = statusOf s ∷ flag (s .asleep) 1 ∷ 0 ∷ 0 ∷ bytesOf 4 (s .busy)
 
 -- the state that bytes spell: SRWD is bit 7, BP bits 5 to 2 (above the model's highest it is not valid), WEL bit 1. WIP is not read:
 -- it has to be what the busy time makes it

@@ -1,16 +1,16 @@
 -- What is shown of the packing and of the calls; proofs/Promises.antt proves each under its name in small letters. Assumes nothing.
-use mathlib.Core.Bool.{true, not, cond}
+use mathlib.Core.Bool.{true, cond}
 use mathlib.Core.List.{List}
 use mathlib.Core.Path.{_≡_}
 use Prim.Native.Nat.{ℕ}
 use lib.Dec.{eqb}
 use lib.ListN.{length}
-use Rattle.units.specs.Models.{modelOf}
-use Rattle.rules.specs.States.{recordOk, stateOk}
-use Rattle.rules.specs.declared.Record.{Record}
-use Rattle.rules.specs.declared.State.{State}
-use Rattle.chip.specs.Frames.{frameOf}
-use Rattle.chip.specs.Time.{waitOf, powerOf}
+use Rattle.models.specs.Models.{modelOf}
+use Rattle.states.specs.States.{recordOk, stateOk}
+use Rattle.states.specs.declared.Record.{Record}
+use Rattle.states.specs.declared.State.{State}
+use Rattle.chip.specs.Frames.{Sent, chipOf, frameOf}
+use Rattle.time.specs.Time.{waitOf, powerOf}
 use Rattle.pod.specs.Packing.{packOf, unpackOf}
 use Rattle.pod.specs.Calls.{Called, Answered, called, answered, calledFrame, calledWait, calledCycle, Leaves, Answers}
 
@@ -32,10 +32,10 @@ NoPacking rec xs = (s : State) → stateOk rec s ≡ true → xs ≡ packOf s �
 
 abbrev pub FrameRefusesBytes : Type 0
 FrameRefusesBytes =
-    (rec : Record) (xs cells bytes : List ℕ) (tail wp : ℕ) (out : List ℕ)
+    (rec : Record) (xs cells : List ℕ) (f : Sent)
     → NoPacking rec xs
-    → calledFrame rec xs cells bytes tail wp out
-    ≡ called (cond (recordOk rec) (cond (eqb (length cells) (modelOf (rec .model) .length)) 3 2) 1) xs cells out 0 0
+    → calledFrame rec xs cells f
+    ≡ called (cond (recordOk rec) (cond (eqb (length cells) (modelOf (rec .model) .length)) 3 2) 1) xs cells (f .out) 0 0
 
 abbrev pub WaitRefusesBytes : Type 0
 WaitRefusesBytes = (rec : Record) (xs : List ℕ) (us : ℕ) → NoPacking rec xs → calledWait rec xs us ≡ answered (cond (recordOk rec) 3 1) xs
@@ -46,9 +46,9 @@ CycleRefusesBytes = (rec : Record) (xs : List ℕ) → NoPacking rec xs → call
 -- ---- a refused call leaves everything as it was, and *from and *count 0
 abbrev pub RefusedFrameStays : Type 0
 RefusedFrameStays =
-    (rec : Record) (xs cells bytes : List ℕ) (tail wp : ℕ) (out : List ℕ)
-    → (calledFrame rec xs cells bytes tail wp out .number ≡ 0 → ⊥)
-    → calledFrame rec xs cells bytes tail wp out ≡ called (calledFrame rec xs cells bytes tail wp out .number) xs cells out 0 0
+    (rec : Record) (xs cells : List ℕ) (f : Sent)
+    → (calledFrame rec xs cells f .number ≡ 0 → ⊥)
+    → calledFrame rec xs cells f ≡ called (calledFrame rec xs cells f .number) xs cells (f .out) 0 0
 
 abbrev pub RefusedWaitStays : Type 0
 RefusedWaitStays = (rec : Record) (xs : List ℕ) (us : ℕ) → (calledWait rec xs us .number ≡ 0 → ⊥) → calledWait rec xs us .state ≡ xs
@@ -59,8 +59,8 @@ RefusedCycleStays = (rec : Record) (xs : List ℕ) → (calledCycle rec xs .numb
 -- ---- what the next call finds in the bytes is the state that the chip was left in, whatever the answer
 abbrev pub FrameCarries : Type 0
 FrameCarries =
-    (rec : Record) (xs cells bytes : List ℕ) (tail wp : ℕ) (out : List ℕ)
-    → unpackOf (calledFrame rec xs cells bytes tail wp out .state) ≡ frameOf rec (unpackOf xs) cells bytes tail (not (eqb wp 0)) out .reply .state
+    (rec : Record) (xs cells : List ℕ) (f : Sent)
+    → unpackOf (calledFrame rec xs cells f .state) ≡ frameOf rec (chipOf (unpackOf xs) cells) f .reply .state
 
 abbrev pub WaitCarries : Type 0
 WaitCarries = (rec : Record) (xs : List ℕ) (us : ℕ) → unpackOf (calledWait rec xs us .state) ≡ waitOf rec (unpackOf xs) us .state
@@ -69,12 +69,12 @@ abbrev pub CycleCarries : Type 0
 CycleCarries = (rec : Record) (xs : List ℕ) → unpackOf (calledCycle rec xs .state) ≡ powerOf rec (unpackOf xs) .state
 
 -- ---- no second answer: two results of one call that satisfy the contract are equal in every part
-abbrev pub OneFrame : Type 0
-OneFrame =
+abbrev pub OneCalled : Type 0
+OneCalled =
     (c : Called) (n m : ℕ) (xs ys cells cells′ out out′ : List ℕ) (from from′ count count′ : ℕ)
     → Leaves c n xs cells out from count
     → Leaves c m ys cells′ out′ from′ count′
     → called n xs cells out from count ≡ called m ys cells′ out′ from′ count′
 
-abbrev pub OneAnswer : Type 0
-OneAnswer = (c : Answered) (n m : ℕ) (xs ys : List ℕ) → Answers c n xs → Answers c m ys → answered n xs ≡ answered m ys
+abbrev pub OneAnswered : Type 0
+OneAnswered = (c : Answered) (n m : ℕ) (xs ys : List ℕ) → Answers c n xs → Answers c m ys → answered n xs ≡ answered m ys

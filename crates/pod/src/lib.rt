@@ -3,12 +3,13 @@ ghost use mathlib.Core.Path.{_≡_};
 ghost use mathlib.Core.List.{_∷_, []};
 ghost use Prim.Native.Nat.{_≤_};
 ghost use lib.ListN.{length};
-ghost use Rattle.rules.specs.Answers.{numberOf};
+ghost use Rattle.answers.specs.Answers.{numberOf};
 ghost use Rattle.pod.specs.Packing.{spelt, packOf, unpackOf, noState};
-ghost use Rattle.pod.specs.Calls.{recordOf, keptOf, Fits, Leaves, Answers, calledFrame, calledWait, calledCycle};
-use rules::Answer;
-use rules::Record;
-use rules::State;
+ghost use Rattle.pod.specs.Calls.{recordOf, keptOf, Packs, Leaves, sentBy, Answers, calledFrame, calledWait, calledCycle};
+use answers::Answer;
+use parts::wide;
+use states::Record;
+use states::State;
 
 // ---- the packed state
 
@@ -23,12 +24,6 @@ fn no_state() -> State
         asleep: false,
         busy: 0,
     }
-}
-
-fn wide(byte: u8) -> u32
-    ensures { λ r. ⌜ (r ≡ byte) × (r ≤ 255) ⌝ }
-{
-    byte as u32
 }
 
 // The number of four bytes, the low byte first.
@@ -69,7 +64,7 @@ fn pack(st: State, state: &mut [u8])
     ensures { λ _. ⌜ now (state .exit) ≡ packOf st ⌝ }
 {
     let busy = st.busy;
-    state[0] = rules::status(st);
+    state[0] = states::status(st);
     state[1] = st.asleep as u8;
     state[2] = 0;
     state[3] = 0;
@@ -81,10 +76,10 @@ fn pack(st: State, state: &mut [u8])
 
 // The answer's number. The state after is packed where nothing was refused; otherwise the lent bytes stay.
 fn keep(answer: Answer, next: State, state: &mut [u8]) -> u32
-    requires { ⌜ Fits answer next (now state) ⌝ }
+    requires { ⌜ Packs answer next (now state) ⌝ }
     ensures { λ r. ⌜ (r ≡ numberOf answer) × (now (state .exit) ≡ keptOf answer next (now (state .entry))) ⌝ }
 {
-    let number = rules::number_of(answer);
+    let number = answers::number_of(answer);
     if number == 0 {
         pack(next, state);
     }
@@ -131,9 +126,14 @@ pub extern "C" fn gwo_frame(
     from: &mut u32,
     count: &mut u32,
 ) -> u32
-    ensures { λ r. ⌜ Leaves (calledFrame (recordOf model «status_us» «page_us» «sector_us» «block_us» «chip_us») (now (state .entry)) (now (array .entry)) (now (frame .entry)) tail wp (now (out .entry))) r (now (state .exit)) (now (array .exit)) (now (out .exit)) (now (from .exit)) (now (count .exit)) ⌝ }
+    ensures { λ r. ⌜ Leaves (calledFrame (recordOf model «status_us» «page_us» «sector_us» «block_us» «chip_us») (now (state .entry)) (now (array .entry)) (sentBy (now (frame .entry)) tail wp (now (out .entry)))) r (now (state .exit)) (now (array .exit)) (now (out .exit)) (now (from .exit)) (now (count .exit)) ⌝ }
 {
     let rec = record_of(model, status_us, page_us, sector_us, block_us, chip_us);
+    if !states::record_ok(rec) {
+        *from = 0;
+        *count = 0;
+        return 1;
+    }
     let st = unpack(state);
     let reply = chip::frame(rec, st, array, frame, tail, wp != 0, out);
     *from = reply.from;
@@ -159,7 +159,7 @@ pub extern "C" fn gwo_wait(
 {
     let rec = record_of(model, status_us, page_us, sector_us, block_us, chip_us);
     let st = unpack(state);
-    let waited = chip::wait(rec, st, us);
+    let waited = time::wait(rec, st, us);
     let answer = waited.answer;
     let next = waited.state;
     keep(answer, next, state)
@@ -180,7 +180,7 @@ pub extern "C" fn gwo_power_cycle(
 {
     let rec = record_of(model, status_us, page_us, sector_us, block_us, chip_us);
     let st = unpack(state);
-    let cycled = chip::power_cycle(rec, st);
+    let cycled = time::power_cycle(rec, st);
     let answer = cycled.answer;
     let next = cycled.state;
     keep(answer, next, state)

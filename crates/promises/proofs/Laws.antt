@@ -1,42 +1,41 @@
 -- The statements of `specs/Laws.antt`. Assumes nothing.
 use mathlib.Core.Path.{_≡_, refl, sym, ap, subst, _∙_}
-use mathlib.Core.Bool.{Bool, true, false, not, _&&_, _||_, cond, true≢false, and-false}
+use mathlib.Core.Bool.{Bool, true, false, _&&_, _||_, cond, true≢false}
 use mathlib.Core.List.{List}
-use mathlib.Core.Logic.{_⊎_, inl, inr, ⊎-elim}
-use Prim.Native.Nat.{ℕ, _+_, _-_, _*_, _/_, _≤_, _<_}
+use Prim.Native.Nat.{ℕ, _+_, _-_, _≤_, _<_}
 use native.Mathlib.Nat.{le-refl}
 use native.Mathlib.Omega.{arith}
-use lib.Dec.{eqb, leb, ltb}
+use lib.Dec.{eqb, ltb}
 use lib.ListN.{length, getD, drop}
-use borrow.Author.Tests.{eqb-true, eqb-false, ltb-true, ltb-false, lt-ltb, le-ltb, ne-eqb, eq-eqb}
+use borrow.Author.Tests.{eqb-true, ltb-true, ltb-false, lt-ltb, le-ltb, ne-eqb, eq-eqb}
 use Rattle.units.specs.declared.Address.{Address}
-use Rattle.units.specs.Kinds.{sectorOf, blockOf, pageStart, pageOffset, sectorStart, blockStart}
+use Rattle.units.specs.Kinds.{pageStart, pageOffset}
 use Rattle.cells.specs.Cell.{bit}
-use Rattle.cells.specs.Fold.{cellAfter}
-use Rattle.cells.specs.Arrays.{programmed}
-use Rattle.cells.specs.Sheet.{ErasesOnly}
-use Rattle.cells.proofs.Counts.{only-falls}
-use Rattle.cells.proofs.Arrays.{sector-erase, block-erase, chip-erase, page-folds, outside-stays}
-use Rattle.rules.specs.Answers.{isDone}
-use Rattle.rules.specs.States.{recordOk, stateOk}
-use Rattle.rules.specs.declared.Record.{Record}
-use Rattle.rules.specs.declared.State.{State}
-use Rattle.rules.specs.declared.Answer.{Answer}
-use Rattle.rules.specs.declared.Answer.the-variants.{Done, BadRecord, BadState}
-use Rattle.rules.specs.declared.Command.{Command}
-use Rattle.rules.specs.declared.Command.the-variants.{WriteEnable, WriteDisable, ReadStatus, WriteStatus, Read, FastRead, EraseSector, EraseBlock, EraseChip, Program, ReadId, Wake, ReadMaker, Sleep, Unknown}
-use Rattle.rules.proofs.States.{sound, valid}
-use Rattle.ladder.specs.Ladder.{refusalOf}
-use Rattle.ladder.specs.declared.Head.{Head}
-use Rattle.chip.specs.declared.Reply.{Reply}
-use Rattle.chip.specs.declared.After.{After}
-use Rattle.chip.specs.Effects.{Effect, Gives, stateOnly, drives, readStatus, readFrom, eraseSector, eraseBlock, eraseChip, programPage, readId, wake, readMaker}
-use Rattle.chip.specs.Frames.{Ready, headOf, acceptedOf, frameOf}
-use Rattle.chip.specs.Time.{later, cycled, ifValid, waitOf, powerOf}
-use Rattle.chip.proofs.Ready.{ready, page-fits, sector-fits, block-fits}
-use Rattle.promises.specs.Laws.{WaitsAdd, RefusedFrame, RefusedWait, RefusedCycle, Extent, unitOf, OnlyItsUnit, ProgramFalls, OneAnswer, OneFrame, OneWait, OneCycle}
-use Rattle.promises.proofs.Valid.{later-sound}
-use Rattle.promises.proofs.Steps.{refused-frame, wait-taken}
+use Rattle.fold.specs.Fold.{cellAfter}
+use Rattle.flash.specs.Arrays.{programmed}
+use Rattle.fold.proofs.Counts.{only-falls}
+use Rattle.flash.proofs.Arrays.{page-folds, outside-stays}
+use Rattle.answers.specs.Answers.{isDone}
+use Rattle.commands.specs.Commands.{decodeOf}
+use Rattle.states.specs.States.{recordOk, stateOk}
+use Rattle.states.specs.declared.Record.{Record}
+use Rattle.states.specs.declared.State.{State}
+use Rattle.answers.specs.declared.Answer.the-variants.{Done, BadRecord, BadState}
+use Rattle.commands.specs.declared.Command.{Command}
+use Rattle.commands.specs.declared.Command.the-variants.{Program}
+use Rattle.states.proofs.States.{sound, valid}
+use Rattle.effects.specs.declared.Reply.{Reply}
+use Rattle.time.specs.declared.After.{After}
+use Rattle.effects.specs.Effects.{Effect, programPage}
+use Rattle.chip.specs.Frames.{Chip, headFor, acceptedOf, refusedOf}
+use Rattle.chip.specs.Units.{drivenBytes}
+use Rattle.time.specs.Time.{later, cycled, ifValid, waitOf, powerOf}
+use Rattle.changes.proofs.Fits.{page-fits}
+use Rattle.chip.proofs.Sorts.{is-done, counts, changes-only}
+use Rattle.promises.specs.Laws.{WaitsAdd, RefusedFrame, RefusedWait, RefusedCycle, OnlyItsUnit, ProgramFalls, OneOutcome, OneEffect, OneWait, OneCycle, NumberFixed}
+use Rattle.chip.proofs.Cases.{head, frame-cases, sort, shown-ready}
+use Rattle.calls.proofs.Valid.{later-sound}
+use Rattle.calls.proofs.Steps.{wait-taken}
 
 -- ---- waits
 -- WEL stays exactly while neither wait has run the busy time out
@@ -92,43 +91,10 @@ waits-add rec s a b = go (recordOk rec) refl (stateOk rec s) refl
         ∙ sym (wait-taken rec s (a + b) p q)
 
 -- ---- refused calls
-accepted-done : (rec : Record) (s : State) (c : Command) (cells : List ℕ) (at : Address) (bytes out : List ℕ)
-    → isDone (acceptedOf rec s c cells at bytes out .reply .answer) ≡ true
-unfolding acceptedOf drives readStatus readFrom eraseSector eraseBlock eraseChip programPage readId wake readMaker
-accepted-done rec s WriteEnable cells at bytes out = refl
-accepted-done rec s WriteDisable cells at bytes out = refl
-accepted-done rec s ReadStatus cells at bytes out = refl
-accepted-done rec s WriteStatus cells at bytes out = refl
-accepted-done rec s Read cells at bytes out = refl
-accepted-done rec s FastRead cells at bytes out = refl
-accepted-done rec s EraseSector cells at bytes out = refl
-accepted-done rec s EraseBlock cells at bytes out = refl
-accepted-done rec s EraseChip cells at bytes out = refl
-accepted-done rec s Program cells at bytes out = refl
-accepted-done rec s ReadId cells at bytes out = refl
-accepted-done rec s Wake cells at bytes out = refl
-accepted-done rec s ReadMaker cells at bytes out = refl
-accepted-done rec s Sleep cells at bytes out = refl
-accepted-done rec s Unknown cells at bytes out = refl
-
 pub refused : RefusedFrame
-unfolding frameOf
-refused rec s cells bytes tail wp out d = go (isDone a) refl d
-  where
-    h : Head
-    h = headOf (rec .model) bytes tail wp
-
-    a : Answer
-    a = refusalOf rec s (length cells) h (length out)
-
-    go : (b : Bool) → isDone a ≡ b → isDone (cond b (acceptedOf rec s (h .command) cells (h .address) bytes out) (stateOnly a s cells out) .reply .answer) ≡ false
-        → cond b (acceptedOf rec s (h .command) cells (h .address) bytes out) (stateOnly a s cells out)
-        ≡ stateOnly (cond b (acceptedOf rec s (h .command) cells (h .address) bytes out) (stateOnly a s cells out) .reply .answer) s cells out
-    go true e f = absurd (true≢false (sym (done (h .command)) ∙ f))
-      where
-        done : (c : Command) → isDone (acceptedOf rec s c cells (h .address) bytes out .reply .answer) ≡ true
-        done c = accepted-done rec s c cells (h .address) bytes out
-    go false e f = refl
+refused rec x f =
+    frame-cases rec x f (λ (e : Effect). isDone (e .reply .answer) ≡ false → e ≡ refusedOf (e .reply .answer) x f)
+    (λ d q. absurd (true≢false (sym (is-done (sort rec x f)) ∙ q))) (λ d q. refl)
 
 if-valid-refused : (rec : Record) (s next : State) → isDone (ifValid rec s next .answer) ≡ false → ifValid rec s next .state ≡ s
 unfolding ifValid
@@ -149,45 +115,10 @@ unfolding powerOf
 refused-cycle rec s d = if-valid-refused rec s (cycled s) d
 
 -- ---- units
--- a program at an address changes only its page
-page-only : (cells : List ℕ) (at : Address) (sent : List ℕ) (k : ℕ) → pageStart at + 256 ≤ length cells → (k < pageStart at) ⊎ (pageStart at + 256 ≤ k)
-    → getD (programmed cells at sent) k 0 ≡ getD cells k 0
-page-only cells at sent k h o = outside-stays cells at sent k h (λ e. ⊎-elim (λ l. omega arith) (λ l. omega arith) o)
-
-erased-only : {start size : ℕ} {xs ys : List ℕ} (k : ℕ) → ErasesOnly start size xs ys → (k < start) ⊎ (start + size ≤ k) → getD ys k 0 ≡ getD xs k 0
-erased-only k e o = ⊎-elim (λ l. e .before k l) (λ l. e .behind k l) o
-
-accepted-unit : (rec : Record) (s : State) (c : Command) (cells : List ℕ) (at : Address) (bytes out : List ℕ) (k : ℕ) → Ready rec s c cells at bytes out
-    → (k < unitOf c at (length cells) .start) ⊎ (unitOf c at (length cells) .start + unitOf c at (length cells) .size ≤ k)
-    → getD (acceptedOf rec s c cells at bytes out .cells) k 0 ≡ getD cells k 0
-unfolding acceptedOf unitOf eraseSector eraseBlock eraseChip programPage
-accepted-unit rec s WriteEnable cells at bytes out k r o = refl
-accepted-unit rec s WriteDisable cells at bytes out k r o = refl
-accepted-unit rec s ReadStatus cells at bytes out k r o = refl
-accepted-unit rec s WriteStatus cells at bytes out k r o = refl
-accepted-unit rec s Read cells at bytes out k r o = refl
-accepted-unit rec s FastRead cells at bytes out k r o = refl
-accepted-unit rec s EraseSector cells at bytes out k r o = erased-only k (sector-erase cells (sectorOf at) (sector-fits rec cells at (r .inside) (r .whole) .1)) o
-accepted-unit rec s EraseBlock cells at bytes out k r o = erased-only k (block-erase cells (blockOf at) (block-fits rec cells at (r .inside) (r .whole) .1)) o
-accepted-unit rec s EraseChip cells at bytes out k r o = erased-only k (chip-erase cells) o
-accepted-unit rec s Program cells at bytes out k r o = page-only cells at (drop 4 bytes) k (page-fits rec cells at (r .inside) (r .whole)) o
-accepted-unit rec s ReadId cells at bytes out k r o = refl
-accepted-unit rec s Wake cells at bytes out k r o = refl
-accepted-unit rec s ReadMaker cells at bytes out k r o = refl
-accepted-unit rec s Sleep cells at bytes out k r o = refl
-accepted-unit rec s Unknown cells at bytes out k r o = refl
-
 pub only-its-unit : OnlyItsUnit
-unfolding frameOf
-only-its-unit rec s cells bytes tail wp out k o = go (isDone (refusalOf rec s (length cells) h (length out))) refl
-  where
-    h : Head
-    h = headOf (rec .model) bytes tail wp
-
-    go : (b : Bool) → isDone (refusalOf rec s (length cells) h (length out)) ≡ b
-        → getD (cond b (acceptedOf rec s (h .command) cells (h .address) bytes out) (stateOnly (refusalOf rec s (length cells) h (length out)) s cells out) .cells) k 0 ≡ getD cells k 0
-    go true e = accepted-unit rec s (h .command) cells (h .address) bytes out k (ready rec s cells bytes tail wp out {h = h} refl refl e) o
-    go false e = refl
+only-its-unit rec x f k o =
+    frame-cases rec x f (λ (e : Effect). getD (e .cells) k 0 ≡ getD (x .cells) k 0)
+    (λ d. let r = shown-ready rec x f d in changes-only (sort rec x f) (r .inside) (r .whole) .rest k o) (λ d. refl)
 
 -- ---- programs
 falls-in : (cells : List ℕ) (at : Address) (sent : List ℕ) (b k : ℕ) → pageStart at + 256 ≤ length cells → bit b (getD (programmed cells at sent) k 0) ≤ bit b (getD cells k 0)
@@ -197,8 +128,12 @@ falls-in cells at sent b k h = go (ltb k (pageStart at)) refl (ltb k (pageStart 
     same e = rw e (le-refl (bit b (getD cells k 0)))
 
     go : (x : Bool) → ltb k (pageStart at) ≡ x → (y : Bool) → ltb k (pageStart at + 256) ≡ y → bit b (getD (programmed cells at sent) k 0) ≤ bit b (getD cells k 0)
-    go true p y q = same (page-only cells at sent k h (inl (ltb-true k (pageStart at) p)))
-    go false p false q = same (page-only cells at sent k h (inr (ltb-false k (pageStart at + 256) q)))
+    go true p y q =
+        let l : k < pageStart at = ltb-true k (pageStart at) p in
+        same (outside-stays cells at sent k h (λ e. omega arith))
+    go false p false q =
+        let l : pageStart at + 256 ≤ k = ltb-false k (pageStart at + 256) q in
+        same (outside-stays cells at sent k h (λ e. omega arith))
     go false p true q =
         let l : pageStart at ≤ k = ltb-false k (pageStart at) p in
         let m : k < pageStart at + 256 = ltb-true k (pageStart at + 256) q in
@@ -209,35 +144,40 @@ falls-in cells at sent b k h = go (ltb k (pageStart at)) refl (ltb k (pageStart 
         in
         rw f (only-falls b (pageOffset at) sent (k - pageStart at) (getD cells k 0))
 
-program-case : (rec : Record) (s : State) (cells : List ℕ) (at : Address) (bytes out : List ℕ) (b k : ℕ) → pageStart at + 256 ≤ length cells
-    → bit b (getD (acceptedOf rec s Program cells at bytes out .cells) k 0) ≤ bit b (getD cells k 0)
+program-case : (rec : Record) (x : Chip) (c : Command) (at : Address) (bytes out : List ℕ) (b k : ℕ) → c ≡ Program → pageStart at + 256 ≤ length (x .cells)
+    → bit b (getD (acceptedOf rec x c at bytes out .cells) k 0) ≤ bit b (getD (x .cells) k 0)
 unfolding acceptedOf programPage
-program-case rec s cells at bytes out b k h = falls-in cells at (drop 4 bytes) b k h
+program-case rec x c at bytes out b k e h =
+    subst (λ (d : Command). bit b (getD (acceptedOf rec x d at bytes out .cells) k 0) ≤ bit b (getD (x .cells) k 0)) (sym e)
+    (falls-in (x .cells) at (drop 4 bytes) b k h)
 
 pub program-falls : ProgramFalls
-unfolding frameOf
-program-falls rec s cells bytes tail wp out b k e = go (isDone (refusalOf rec s (length cells) h (length out))) refl
-  where
-    h : Head
-    h = headOf (rec .model) bytes tail wp
-
-    accepted : (c : Command) → c ≡ Program → Ready rec s c cells (h .address) bytes out → bit b (getD (acceptedOf rec s c cells (h .address) bytes out .cells) k 0) ≤ bit b (getD cells k 0)
-    accepted c p r = subst (λ (d : Command). bit b (getD (acceptedOf rec s d cells (h .address) bytes out .cells) k 0) ≤ bit b (getD cells k 0)) (sym p) (program-case rec s cells (h .address) bytes out b k (page-fits rec cells (h .address) (r .inside) (r .whole)))
-
-    go : (t : Bool) → isDone (refusalOf rec s (length cells) h (length out)) ≡ t
-        → bit b (getD (cond t (acceptedOf rec s (h .command) cells (h .address) bytes out) (stateOnly (refusalOf rec s (length cells) h (length out)) s cells out) .cells) k 0) ≤ bit b (getD cells k 0)
-    go true p = accepted (h .command) e (ready rec s cells bytes tail wp out {h = h} refl refl p)
-    go false p = le-refl (bit b (getD cells k 0))
+program-falls rec x f b k e =
+    frame-cases rec x f (λ (g : Effect). bit b (getD (g .cells) k 0) ≤ bit b (getD (x .cells) k 0))
+    (λ d.
+    let at = head rec x f .address in
+    let r = shown-ready rec x f d in
+    program-case rec x (head rec x f .command) at (f .bytes) (f .out) b k e (page-fits rec (x .cells) at (r .inside) (r .whole)))
+    (λ d. le-refl (bit b (getD (x .cells) k 0)))
 
 -- ---- no second answer
-pub one-answer : OneAnswer
-one-answer A a r t p q = p ∙ sym q
+pub one-outcome : OneOutcome
+one-outcome A a r t p q = p ∙ sym q
 
-pub one-frame : OneFrame
-one-frame rec s cells bytes tail wp out r t xs ys os ps g k = (g .reply ∙ sym (k .reply), g .cells ∙ sym (k .cells), g .out ∙ sym (k .out))
+pub one-effect : OneEffect
+one-effect rec x f r t xs ys os ps g k = (g .reply ∙ sym (k .reply), g .cells ∙ sym (k .cells), g .out ∙ sym (k .out))
 
 pub one-wait : OneWait
 one-wait rec s us r t p q = p ∙ sym q
 
 pub one-cycle : OneCycle
 one-cycle rec s r t p q = p ∙ sym q
+
+-- ---- the number of driven bytes
+pub number-fixed : NumberFixed
+unfolding headFor
+number-fixed rec x f r xs os g d =
+    ap (λ (q : Reply). q .count) (g .reply)
+    ∙ frame-cases rec x f (λ (e : Effect). isDone (e .reply .answer) ≡ true → e .reply .count ≡ drivenBytes (decodeOf (getD (f .bytes) 0 0)) (length (f .bytes)))
+    (λ e p. counts (sort rec x f)) (λ e p. absurd (true≢false (sym p ∙ e)))
+    (sym (ap (λ (q : Reply). isDone (q .answer)) (g .reply)) ∙ d)

@@ -1,23 +1,22 @@
 -- Laws of the model that are worth having in their own right. Assumes nothing.
 use mathlib.Core.Path.{_≡_}
-use mathlib.Core.Bool.{Bool, false}
+use mathlib.Core.Bool.{false, true}
 use mathlib.Core.List.{List}
 use mathlib.Core.Logic.{_⊎_}
 use Prim.Native.Nat.{ℕ, _+_, _≤_, _<_}
 use lib.ListN.{length, getD}
-use Rattle.units.specs.declared.Address.{Address}
-use Rattle.units.specs.Kinds.{sectorOf, blockOf, pageStart, sectorStart, blockStart}
+use Rattle.commands.specs.Commands.{decodeOf}
 use Rattle.cells.specs.Cell.{bit}
-use Rattle.rules.specs.Answers.{isDone}
-use Rattle.rules.specs.declared.Record.{Record}
-use Rattle.rules.specs.declared.State.{State}
-use Rattle.rules.specs.declared.Command.{Command}
-use Rattle.rules.specs.declared.Command.the-variants.{WriteEnable, WriteDisable, ReadStatus, WriteStatus, Read, FastRead, EraseSector, EraseBlock, EraseChip, Program, ReadId, Wake, ReadMaker, Sleep, Unknown}
-use Rattle.chip.specs.declared.Reply.{Reply}
-use Rattle.chip.specs.declared.After.{After}
-use Rattle.chip.specs.Effects.{Gives, stateOnly}
-use Rattle.chip.specs.Frames.{headOf, frameOf}
-use Rattle.chip.specs.Time.{waitOf, powerOf}
+use Rattle.answers.specs.Answers.{isDone}
+use Rattle.states.specs.declared.Record.{Record}
+use Rattle.states.specs.declared.State.{State}
+use Rattle.commands.specs.declared.Command.the-variants.{Program}
+use Rattle.effects.specs.declared.Reply.{Reply}
+use Rattle.time.specs.declared.After.{After}
+use Rattle.effects.specs.Effects.{Gives}
+use Rattle.chip.specs.Frames.{Chip, Sent, headOf, refusedOf, frameOf}
+use Rattle.chip.specs.Units.{Extent, unitOf, drivenBytes}
+use Rattle.time.specs.Time.{waitOf, powerOf}
 
 -- waiting a and then b is waiting a + b, for any record and state
 abbrev pub WaitsAdd : Type 0
@@ -26,9 +25,8 @@ WaitsAdd = (rec : Record) (s : State) (a b : ℕ) → waitOf rec (waitOf rec s a
 -- a refused call changes nothing
 abbrev pub RefusedFrame : Type 0
 RefusedFrame =
-    (rec : Record) (s : State) (cells bytes : List ℕ) (tail : ℕ) (wp : Bool) (out : List ℕ)
-    → isDone (frameOf rec s cells bytes tail wp out .reply .answer) ≡ false
-    → frameOf rec s cells bytes tail wp out ≡ stateOnly (frameOf rec s cells bytes tail wp out .reply .answer) s cells out
+    (rec : Record) (x : Chip) (f : Sent) → isDone (frameOf rec x f .reply .answer) ≡ false
+    → frameOf rec x f ≡ refusedOf (frameOf rec x f .reply .answer) x f
 
 abbrev pub RefusedWait : Type 0
 RefusedWait = (rec : Record) (s : State) (us : ℕ) → isDone (waitOf rec s us .answer) ≡ false → waitOf rec s us .state ≡ s
@@ -36,57 +34,39 @@ RefusedWait = (rec : Record) (s : State) (us : ℕ) → isDone (waitOf rec s us 
 abbrev pub RefusedCycle : Type 0
 RefusedCycle = (rec : Record) (s : State) → isDone (powerOf rec s .answer) ≡ false → powerOf rec s .state ≡ s
 
--- the cells that a command can change: where they start, and how many there are
-pub record Extent : Type 0 where
-  pub start : ℕ
-  pub size : ℕ
-
-abbrev pub extent : ℕ → ℕ → Extent
-extent start size = record { start = start; size = size }
-
-unfoldable pub unitOf : Command → Address → ℕ → Extent
-unitOf WriteEnable at n = extent 0 0
-unitOf WriteDisable at n = extent 0 0
-unitOf ReadStatus at n = extent 0 0
-unitOf WriteStatus at n = extent 0 0
-unitOf Read at n = extent 0 0
-unitOf FastRead at n = extent 0 0
-unitOf EraseSector at n = extent (sectorStart (sectorOf at)) 4096
-unitOf EraseBlock at n = extent (blockStart (blockOf at)) 65536
-unitOf EraseChip at n = extent 0 n
-unitOf Program at n = extent (pageStart at) 256
-unitOf ReadId at n = extent 0 0
-unitOf Wake at n = extent 0 0
-unitOf ReadMaker at n = extent 0 0
-unitOf Sleep at n = extent 0 0
-unitOf Unknown at n = extent 0 0
-
 -- a frame changes at most the unit that it addresses
+abbrev pub addressed : Record → Chip → Sent → Extent
+addressed rec x f = unitOf (headOf rec x f .command) (headOf rec x f .address) (length (x .cells))
+
 abbrev pub OnlyItsUnit : Type 0
 OnlyItsUnit =
-    (rec : Record) (s : State) (cells bytes : List ℕ) (tail : ℕ) (wp : Bool) (out : List ℕ) (k : ℕ)
-    → (let u : Extent = unitOf (headOf (rec .model) bytes tail wp .command) (headOf (rec .model) bytes tail wp .address) (length cells) in
-    (k < u .start) ⊎ (u .start + u .size ≤ k) → getD (frameOf rec s cells bytes tail wp out .cells) k 0 ≡ getD cells k 0)
+    (rec : Record) (x : Chip) (f : Sent) (k : ℕ)
+    → (k < addressed rec x f .start) ⊎ (addressed rec x f .start + addressed rec x f .size ≤ k)
+    → getD (frameOf rec x f .cells) k 0 ≡ getD (x .cells) k 0
 
--- cells only fall under a program: no bit of any cell rises
+-- cells only fall under a program: no bit b of any cell k rises
 abbrev pub ProgramFalls : Type 0
 ProgramFalls =
-    (rec : Record) (s : State) (cells bytes : List ℕ) (tail : ℕ) (wp : Bool) (out : List ℕ) (b k : ℕ)
-    → headOf (rec .model) bytes tail wp .command ≡ Program
-    → bit b (getD (frameOf rec s cells bytes tail wp out .cells) k 0) ≤ bit b (getD cells k 0)
+    (rec : Record) (x : Chip) (f : Sent) (b k : ℕ) → headOf rec x f .command ≡ Program
+    → bit b (getD (frameOf rec x f .cells) k 0) ≤ bit b (getD (x .cells) k 0)
 
 -- no second answer satisfies a promise. Every promise of the crates below is an equation with a definition, or `Gives`.
-abbrev pub OneAnswer : Type 1
-OneAnswer = (A : Type 0) (a r t : A) → r ≡ a → t ≡ a → r ≡ t
+abbrev pub OneOutcome : Type 1
+OneOutcome = (A : Type 0) (a r t : A) → r ≡ a → t ≡ a → r ≡ t
 
-abbrev pub OneFrame : Type 0
-OneFrame =
-    (rec : Record) (s : State) (cells bytes : List ℕ) (tail : ℕ) (wp : Bool) (out : List ℕ) (r t : Reply) (xs ys os ps : List ℕ)
-    → Gives (frameOf rec s cells bytes tail wp out) r xs os → Gives (frameOf rec s cells bytes tail wp out) t ys ps
-    → (r ≡ t) × (xs ≡ ys) × (os ≡ ps)
+abbrev pub OneEffect : Type 0
+OneEffect =
+    (rec : Record) (x : Chip) (f : Sent) (r t : Reply) (xs ys os ps : List ℕ)
+    → Gives (frameOf rec x f) r xs os → Gives (frameOf rec x f) t ys ps → (r ≡ t) × (xs ≡ ys) × (os ≡ ps)
 
 abbrev pub OneWait : Type 0
 OneWait = (rec : Record) (s : State) (us : ℕ) (r t : After) → r ≡ waitOf rec s us → t ≡ waitOf rec s us → r ≡ t
 
 abbrev pub OneCycle : Type 0
 OneCycle = (rec : Record) (s : State) (r t : After) → r ≡ powerOf rec s → t ≡ powerOf rec s → r ≡ t
+
+-- a made-up number of driven bytes falls: what satisfies the contract of a frame drives as many as the command and the length say
+abbrev pub NumberFixed : Type 0
+NumberFixed =
+    (rec : Record) (x : Chip) (f : Sent) (r : Reply) (xs os : List ℕ) → Gives (frameOf rec x f) r xs os → isDone (r .answer) ≡ true
+    → r .count ≡ drivenBytes (decodeOf (getD (f .bytes) 0 0)) (length (f .bytes))

@@ -2,23 +2,71 @@
 ghost use mathlib.Core.Path.{_≡_};
 ghost use Prim.Native.Nat.{_≤_};
 ghost use lib.ListN.{length};
-ghost use Rattle.runner.specs.Runs.{began, emptiedOf};
+ghost use Rattle.feed.specs.Script.{begunRun, emptiedRun};
 use feed::Run;
+use libc::STDERR_FILENO;
 use libc::STDIN_FILENO;
 use libc::STDOUT_FILENO;
-use rules::Record;
+use states::Record;
 
-// Writes the filled part of the log; whether the output took it.
+// ---- words
+
+// What it is and how it is used.
+fn say_use(fd: i32) {
+    io::write_all(
+        fd,
+        b"usage: runner <SCRIPT >LOG
+Plays a script to a KH25L512 (model 1, bench values, from power-on, all cells FF) and writes down
+what the chip answers. The script comes on standard input, the log goes to standard output.
+  F, WP#, tail, bytes   a frame: WP# 0 or 1, 0 to 7 tail bits, 0 to 300 bytes in capital hex
+  W, microseconds       so much time passes
+  P                     power off and on again
+One step a line, its fields parted by tabs. docs/GUIDE.md has the rest.
+",
+    );
+}
+
+fn is_help(word: &[u8; 6]) -> bool {
+    let dashes = (word[0] == b'-') & (word[1] == b'-');
+    let first = (word[2] == b'h') & (word[3] == b'e');
+    dashes & first & (word[4] == b'l') & (word[5] == b'p')
+}
+
+// Whether --help is the only word.
+fn asks_help() -> bool {
+    let mut word = [0u8; 6];
+    os::arg(1, &mut word);
+    (os::arg_count() == 2) & (os::errno() == 0) & is_help(&word)
+}
+
+// Started with a word it runs nothing.
+fn answer_words() {
+    if asks_help() {
+        say_use(STDOUT_FILENO);
+        return;
+    }
+    io::write_all(STDERR_FILENO, b"runner: it knows no word but --help\n");
+    say_use(STDERR_FILENO);
+}
+
+// ---- the log
+
+// Writes the filled part of the log; whether the output took it. Where it did not, standard error says so.
 fn flush(log: &[u8], filled: usize) -> bool {
     if filled <= log.len() {
-        return io::write_all(STDOUT_FILENO, &log[0..filled]);
+        if io::write_all(STDOUT_FILENO, &log[0..filled]) {
+            return true;
+        }
+        os::fail(b"standard output");
     }
     false
 }
 
+// ---- the script
+
 // The run at the start of a block, with an empty log.
 fn at_block(run: Run) -> Run
-    ensures { λ r. ⌜ r ≡ began run ⌝ }
+    ensures { λ r. ⌜ r ≡ begunRun run ⌝ }
 {
     let chip = run.chip;
     Run {
@@ -32,7 +80,7 @@ fn at_block(run: Run) -> Run
 
 // The run with an empty log.
 fn emptied(run: Run) -> Run
-    ensures { λ r. ⌜ r ≡ emptiedOf run ⌝ }
+    ensures { λ r. ⌜ r ≡ emptiedRun run ⌝ }
 {
     let chip = run.chip;
     Run {
@@ -116,18 +164,19 @@ fn finish(
     flush(log, filled);
 }
 
-fn main() {
+// Header, then block after block.
+fn play_input() {
     let mut log = io::large_buffer();
     let headed = log::put_header(&mut log, 0);
     if !flush(&log, headed) {
         return;
     }
-    let rec = rules::bench_kh25l512();
+    let rec = states::bench_kh25l512();
     let mut array = [0xFFu8; 65536];
     let mut held = [0u8; 641];
     let mut block = io::large_buffer();
     let mut run = Run {
-        chip: rules::power_on(),
+        chip: states::power_on(),
         number: 1,
         used: 0,
         at: 0,
@@ -142,4 +191,12 @@ fn main() {
         }
         blocks -= 1;
     }
+}
+
+fn main() {
+    if os::arg_count() > 1 {
+        answer_words();
+        return;
+    }
+    play_input();
 }

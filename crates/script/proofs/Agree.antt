@@ -2,21 +2,22 @@
 use mathlib.Core.Path.{_≡_, refl, sym, ap, _∙_, subst, subst₂}
 use mathlib.Core.Bool.{Bool, true, false, _&&_, _||_}
 use mathlib.Core.List.{List, [], _∷_}
-use Prim.Native.Nat.{ℕ, suc, _+_, _-_, _*_, _/_, _%_, _≤_, _<_}
+use Prim.Native.Nat.{ℕ, zero, suc, _+_, _-_, _*_, _/_, _%_, _≤_, _<_}
 use native.Mathlib.Omega.{arith}
 use lib.Dec.{eqb, leb, ltb}
 use lib.ListN.{length, getD, drop, take, length-drop}
 use lib.Seq.{take-all, length-take-le}
 use borrow.Author.Tests.{leb-true, leb-false, le-leb, lt-leb, le-ltb, lt-ltb, ltb-true, ltb-false, eq-eqb, eqb-true, eqb-false}
-use Rattle.text.specs.Text.{tab, digitOf, hexText, decimalText, Bytes}
+use Rattle.parts.specs.Parts.{Bytes}
+use Rattle.text.specs.Text.{tab, digitOf, hexText, decimalText}
 use Rattle.text.proofs.TextLaws.{length-hexText, decimal-few}
 use Rattle.script.specs.declared.Line.{Line}
 use Rattle.script.specs.declared.Line.the-variants.{Frame, Wait, Power, Bad}
 use Rattle.script.specs.Grammar.{F, W, P, levelOf, frameText, waitText, powerText, Says}
 use Rattle.script.specs.Grammar.Says.{frame, wait, power}
-use Rattle.script.specs.Hex.{isHex, isDigit, isCapital, nibbleOf, bytesOf}
-use Rattle.script.specs.Reading.{allHex, allDigits, valueFrom, plain, frameHead, isFrame, waitHead, isWait, isPower, waitOf, lineOf, Reads}
-use Rattle.script.proofs.HexLaws.{and-left, and-right, digit-range, capital-range, nibble-digit, nibble-capital, length-bytesOf}
+use Rattle.script.specs.Hex.{isHex, isDigit, isCapital, nibbleOf, hexBytes}
+use Rattle.script.specs.Reading.{allHex, allDigits, valueFrom, plainNumber, frameHead, isFrame, waitHead, isWait, isPower, otherLine, lineOf, Reads, OneReads, GrammarDecides}
+use Rattle.script.proofs.HexLaws.{and-left, and-right, digit-range, capital-range, nibble-digit, nibble-capital, length-hexBytes}
 use Rattle.script.proofs.ReadLaws.{FrameParts, frame-parts, within-line, too-long}
 use Rattle.script.proofs.Decimal.{decimal-plain, decimal-digits, decimal-value, digits-back}
 
@@ -41,17 +42,28 @@ digit-value d l = go (ltb d 10) refl
         let h : 10 ≤ d = ltb-false d 10 p in
         rw (p, le-leb 48 (55 + d) (omega arith), lt-leb (55 + d) 57 (omega arith), le-leb 65 (55 + d) (omega arith), le-leb (55 + d) 70 (omega arith)) (omega arith)
 
+-- a list of bytes, and its first
+rest-bytes : {x : ℕ} {s : List ℕ} → Bytes (x ∷ s) → Bytes s
+rest-bytes b = record { below = λ k. b .below (suc k) }
+
+more-bytes : {x : ℕ} {s : List ℕ} → x < 256 → Bytes s → Bytes (x ∷ s)
+more-bytes {x} {s} l b = record { below = go }
+  where
+    go : (k : ℕ) → getD (x ∷ s) k 0 < 256
+    go zero = l
+    go (suc k) = b .below k
+
 hex-all : (s : List ℕ) → Bytes s → allHex (hexText s) ≡ true
 hex-all [] b = refl
-hex-all (x ∷ s) b = let h : x < 256 = b .0 in rw (digit-hex (x / 16) (omega arith), digit-hex (x % 16) (omega arith)) (hex-all s (b .1))
+hex-all (x ∷ s) b = let h : x < 256 = b .below 0 in rw (digit-hex (x / 16) (omega arith), digit-hex (x % 16) (omega arith)) (hex-all s (rest-bytes b))
 
 -- the hex of bytes spells them
-pub hex-bytes : (s : List ℕ) → Bytes s → bytesOf (hexText s) ≡ s
+pub hex-bytes : (s : List ℕ) → Bytes s → hexBytes (hexText s) ≡ s
 hex-bytes [] b = refl
 hex-bytes (x ∷ s) b =
-    let h : x < 256 = b .0 in
+    let h : x < 256 = b .below 0 in
     let v : nibbleOf (digitOf (x / 16)) * 16 + nibbleOf (digitOf (x % 16)) ≡ x = rw (digit-value (x / 16) (omega arith), digit-value (x % 16) (omega arith)) (omega arith) in
-    ap (λ (z : ℕ). z ∷ bytesOf (hexText s)) v ∙ ap (λ (z : List ℕ). x ∷ z) (hex-bytes s (b .1))
+    ap (λ (z : ℕ). z ∷ hexBytes (hexText s)) v ∙ ap (λ (z : List ℕ). x ∷ z) (hex-bytes s (rest-bytes b))
 
 nibble-back : (b : ℕ) → isHex b ≡ true → (nibbleOf b < 16) × (digitOf (nibbleOf b) ≡ b)
 unfolding isHex
@@ -71,8 +83,8 @@ nibble-back b e = go (isDigit b) refl (isCapital b) refl
         absurd (let z : _≡_ {A = ℕ} 0 1 = cc in omega arith)
 
 -- and an even number of hex digits is the hex of its bytes
-hex-back : (s : List ℕ) → allHex s ≡ true → length s % 2 ≡ 0 → (hexText (bytesOf s) ≡ s) × Bytes (bytesOf s)
-hex-back [] e n = (refl, tt)
+hex-back : (s : List ℕ) → allHex s ≡ true → length s % 2 ≡ 0 → (hexText (hexBytes s) ≡ s) × Bytes (hexBytes s)
+hex-back [] e n = (refl, record { below = λ k. omega arith })
 hex-back (a ∷ []) e n = absurd (omega arith)
 hex-back (a ∷ b ∷ s) e n =
     let r : (isHex b && allHex s) ≡ true = and-right (isHex a) (isHex b && allHex s) e in
@@ -85,7 +97,7 @@ hex-back (a ∷ b ∷ s) e n =
     let m : (nibbleOf a * 16 + nibbleOf b) % 16 ≡ nibbleOf b = omega arith in
     let da : digitOf ((nibbleOf a * 16 + nibbleOf b) / 16) ≡ a = ap digitOf d ∙ x .1 in
     let db : digitOf ((nibbleOf a * 16 + nibbleOf b) % 16) ≡ b = ap digitOf m ∙ y .1 in
-    (rw (da, db) (ap (λ (z : List ℕ). a ∷ b ∷ z) (z .0)), (omega arith, z .1))
+    (rw (da, db) (ap (λ (z : List ℕ). a ∷ b ∷ z) (z .0)), more-bytes (omega arith) (z .1))
 
 -- ---- what is written is read
 level-digit : (wp : Bool) → (leb 48 (levelOf wp) && leb (levelOf wp) 49) ≡ true
@@ -112,13 +124,13 @@ read-frame wp t bytes lt ln b =
     rw (is-frame wp t bytes lt ln b, frame-size wp t bytes, le-ltb 640 (6 + 2 * length bytes) (omega arith), x, y, level-high wp)
 
 read-wait : (us : ℕ) → us ≤ 4294967295 → lineOf (waitText us) ≡ Wait us
-unfolding lineOf isFrame frameHead waitOf isWait waitHead
+unfolding lineOf isFrame frameHead otherLine isWait waitHead
 read-wait us l =
     let f : length (decimalText us) ≤ 20 = decimal-few us in
     rw (le-ltb 640 (suc (suc (length (decimalText us)))) (omega arith), decimal-plain us (omega arith), decimal-digits us (omega arith), decimal-value us (omega arith), le-leb us 4294967295 l)
 
 read-power : lineOf powerText ≡ Power
-unfolding lineOf isFrame frameHead waitOf isWait waitHead isPower
+unfolding lineOf isFrame frameHead otherLine isWait waitHead isPower
 read-power = refl
 
 -- a line of the grammar is read as what it says
@@ -153,13 +165,13 @@ says-as {s} {t} {l} {m} e f p = subst₂ Says (sym e) f p
 frame-says : (s : List ℕ) → FrameParts s → Says s (Frame (eqb (getD s 2 0) 49) (getD s 4 0 - 48) ((length s - 6) / 2))
 frame-says s p =
     let n : length (drop 6 s) ≡ length s - 6 = length-drop 6 s in
-    let k : length (bytesOf (drop 6 s)) ≡ length (drop 6 s) / 2 = length-bytesOf (drop 6 s) in
+    let k : length (hexBytes (drop 6 s)) ≡ length (drop 6 s) / 2 = length-hexBytes (drop 6 s) in
     let h = hex-back (drop 6 s) (p .hex) (omega (arith, p .even, p .least)) in
     let w : getD s 2 0 ≡ levelOf (eqb (getD s 2 0) 49) = level-back (getD s 2 0) (p .wp-low) (p .wp-high) in
     let t : getD s 4 0 ≡ 48 + (getD s 4 0 - 48) = omega (arith, p .tail-low) in
     says-as (six s (p .least) ∙ head-is _ _ _ _ _ _ _ _ _ _ (p .kind) (p .tab-1) w (p .tab-3) t (p .tab-5) (sym (h .0)))
     (ap (Frame (eqb (getD s 2 0) 49) (getD s 4 0 - 48)) (k ∙ ap (λ (z : ℕ). z / 2) n))
-    (frame (eqb (getD s 2 0) 49) (getD s 4 0 - 48) (bytesOf (drop 6 s)) (omega (arith, p .tail-high)) (omega (arith, p .most)) (h .1))
+    (frame (eqb (getD s 2 0) 49) (getD s 4 0 - 48) (hexBytes (drop 6 s)) (omega (arith, p .tail-high)) (omega (arith, p .most)) (h .1))
 
 two : (s : List ℕ) → 2 ≤ length s → s ≡ getD s 0 0 ∷ getD s 1 0 ∷ drop 2 s
 two [] l = absurd (omega arith)
@@ -175,12 +187,12 @@ wait-says s e =
     let kind : Bool = eqb (getD s 0 0) W && eqb (getD s 1 0) tab in
     let us : ℕ = valueFrom 0 (drop 2 s) in
     let fits : Bool = allDigits (drop 2 s) && leb us 4294967295 in
-    let head : (kind && plain (drop 2 s)) ≡ true = and-left (kind && plain (drop 2 s)) fits e in
-    let k : kind ≡ true = and-left kind (plain (drop 2 s)) head in
-    let f : fits ≡ true = and-right (kind && plain (drop 2 s)) fits e in
+    let head : (kind && plainNumber (drop 2 s)) ≡ true = and-left (kind && plainNumber (drop 2 s)) fits e in
+    let k : kind ≡ true = and-left kind (plainNumber (drop 2 s)) head in
+    let f : fits ≡ true = and-right (kind && plainNumber (drop 2 s)) fits e in
     let t : getD s 1 0 ≡ tab = eqb-true (getD s 1 0) tab (and-right (eqb (getD s 0 0) W) (eqb (getD s 1 0) tab) k) in
     let l : us ≤ 4294967295 = leb-true us 4294967295 (and-right (allDigits (drop 2 s)) (leb us 4294967295) f) in
-    let d : drop 2 s ≡ decimalText us = digits-back (drop 2 s) (and-right kind (plain (drop 2 s)) head) (and-left (allDigits (drop 2 s)) (leb us 4294967295) f) (omega arith) in
+    let d : drop 2 s ≡ decimalText us = digits-back (drop 2 s) (and-right kind (plainNumber (drop 2 s)) head) (and-left (allDigits (drop 2 s)) (leb us 4294967295) f) (omega arith) in
     says-as (two s (within-line s 1 8 t) ∙ wait-is _ _ _ _ (eqb-true (getD s 0 0) W (and-left (eqb (getD s 0 0) W) (eqb (getD s 1 0) tab) k)) t d) refl (wait us l)
 
 power-says : (s : List ℕ) → isPower s ≡ true → Says s Power
@@ -191,7 +203,7 @@ power-says (a ∷ b ∷ s) e = absurd (let n : suc (suc (length s)) ≡ 1 = eqb-
 
 -- a line that is not bad is one of the grammar, and says what is read
 pub read-written : (s : List ℕ) → (lineOf s ≡ Bad → ⊥) → Says s (lineOf s)
-unfolding lineOf waitOf
+unfolding lineOf otherLine
 read-written s b = go (ltb 640 (length s)) refl (isFrame s) refl (isWait s) refl (isPower s) refl
   where
     go : (t : Bool) → ltb 640 (length s) ≡ t → (f : Bool) → isFrame s ≡ f → (w : Bool) → isWait s ≡ w → (p : Bool) → isPower s ≡ p → Says s (lineOf s)
@@ -218,23 +230,42 @@ reads s r e = record {
   nothing-else = λ b. subst (Says s) (sym e) (read-written s (λ f. b (e ∙ f)));
 }
 
+pub one-reads : OneReads
+one-reads s r r′ p q = p .is ∙ sym (q .is)
+
+-- the grammar alone decides
+pub grammar-decides : GrammarDecides
+grammar-decides s r w n = go r refl
+  where
+    other : (k : Line) → lineOf s ≡ k → r ≡ Bad → r ≡ lineOf s
+    other (Frame wp t m) f e = w (lineOf s) (read-written s (λ b. let z : _≡_ {A = ℕ} 0 1 = cc in omega arith))
+    other (Wait us) f e = w (lineOf s) (read-written s (λ b. let z : _≡_ {A = ℕ} 0 1 = cc in omega arith))
+    other Power f e = w (lineOf s) (read-written s (λ b. let z : _≡_ {A = ℕ} 0 1 = cc in omega arith))
+    other Bad f e = e ∙ sym f
+
+    go : (k : Line) → r ≡ k → r ≡ lineOf s
+    go (Frame wp t m) e = sym (written-read (n (λ b. let z : _≡_ {A = ℕ} 0 1 = cc in omega arith)))
+    go (Wait us) e = sym (written-read (n (λ b. let z : _≡_ {A = ℕ} 0 1 = cc in omega arith)))
+    go Power e = sym (written-read (n (λ b. let z : _≡_ {A = ℕ} 0 1 = cc in omega arith)))
+    go Bad e = other (lineOf s) refl e
+
 -- ---- what follows for whoever runs a script
 -- the bytes of a frame's line are those that it was written from
-pub frame-spells : (wp : Bool) (t : ℕ) (bytes : List ℕ) → Bytes bytes → bytesOf (drop 6 (frameText wp t bytes)) ≡ bytes
+pub frame-spells : (wp : Bool) (t : ℕ) (bytes : List ℕ) → Bytes bytes → hexBytes (drop 6 (frameText wp t bytes)) ≡ bytes
 frame-spells wp t bytes b = hex-bytes bytes b
 
-frame-facts : {s : List ℕ} {l : Line} → Says s l → (wp : Bool) (t n : ℕ) → l ≡ Frame wp t n → (t ≤ 7) × (n ≤ 300) × (length (bytesOf (drop 6 s)) ≡ n) × (length s ≤ 606)
+frame-facts : {s : List ℕ} {l : Line} → Says s l → (wp : Bool) (t n : ℕ) → l ≡ Frame wp t n → (t ≤ 7) × (n ≤ 300) × (length (hexBytes (drop 6 s)) ≡ n) × (length s ≤ 606)
 frame-facts (frame wp t bytes lt ln b) w u n e =
     let x : t ≡ u = cc in
     let y : length bytes ≡ n = cc in
-    let z : length (bytesOf (hexText bytes)) ≡ length bytes = ap length (hex-bytes bytes b) in
+    let z : length (hexBytes (hexText bytes)) ≡ length bytes = ap length (hex-bytes bytes b) in
     let k : length (frameText wp t bytes) ≡ 6 + 2 * length bytes = frame-size wp t bytes in
     (omega arith, omega arith, z ∙ y, omega arith)
 frame-facts (wait us l) w u n e = absurd (let z : _≡_ {A = ℕ} 0 1 = cc in omega arith)
 frame-facts power w u n e = absurd (let z : _≡_ {A = ℕ} 0 1 = cc in omega arith)
 
 -- a line that is read as a frame has as many bytes as it says, at most 300
-pub frame-count : (s : List ℕ) (wp : Bool) (t n : ℕ) → lineOf s ≡ Frame wp t n → (t ≤ 7) × (n ≤ 300) × (length (bytesOf (drop 6 s)) ≡ n) × (length s ≤ 606)
+pub frame-count : (s : List ℕ) (wp : Bool) (t n : ℕ) → lineOf s ≡ Frame wp t n → (t ≤ 7) × (n ≤ 300) × (length (hexBytes (drop 6 s)) ≡ n) × (length s ≤ 606)
 frame-count s wp t n e = frame-facts (read-written s (λ b. let z : _≡_ {A = ℕ} 0 1 = cc in omega arith)) wp t n e
 
 -- a line over 640 bytes is known by any start of it that is over 640 bytes

@@ -13,7 +13,7 @@ use borrow.Author.Tests.{le-leb, lt-ltb, ltb-true, ltb-false, eq-eqb, ne-eqb, eq
 use Rattle.text.specs.Text.{decimalIn, decimalText}
 use Rattle.text.proofs.TextLaws.{decimal-one, decimal-more}
 use Rattle.script.specs.Hex.{isDigit}
-use Rattle.script.specs.Reading.{allDigits, valueFrom, plain}
+use Rattle.script.specs.Reading.{allDigits, valueFrom, plainNumber}
 use Rattle.script.proofs.HexLaws.{and-left, and-right, digit-range}
 
 -- ---- lists of digits
@@ -88,8 +88,8 @@ spells (suc m) n l h = go (ltb n 10) refl (λ b. let p : 10 ^ suc m ≡ 10 ^ m *
     go true p e = rw p (spells-one n (ltb-true n 10 p))
     go false p e = let b : 10 ≤ n = ltb-false n 10 p in rw p (spells-more n (decimalIn m (n / 10)) b (e b))
 
-plain-of : (n : ℕ) (s : List ℕ) → Spells n s → plain s ≡ true
-unfolding plain
+plain-of : (n : ℕ) (s : List ℕ) → Spells n s → plainNumber s ≡ true
+unfolding plainNumber
 plain-of n s p = go (ltb n 10) refl
   where
     go : (t : Bool) → ltb n 10 ≡ t → (eqb (length s) 1 || (ltb 1 (length s) && not (eqb (getD s 0 0) 48))) ≡ true
@@ -100,8 +100,8 @@ plain-of n s p = go (ltb n 10) refl
         let h : 49 ≤ getD s 0 0 = p .first (omega arith) in
         rw (ne-eqb (length s) 1 (omega arith), lt-ltb 1 (length s) (omega arith), ne-eqb (getD s 0 0) 48 (omega arith))
 
--- the digits of a number are plain, and spell it
-pub decimal-plain : (n : ℕ) → n < 10 ^ 20 → plain (decimalText n) ≡ true
+-- the digits of a number are plainNumber, and spell it
+pub decimal-plain : (n : ℕ) → n < 10 ^ 20 → plainNumber (decimalText n) ≡ true
 unfolding decimalText
 decimal-plain n l = plain-of n (decimalIn 20 n) (spells 20 n (omega arith) l)
 
@@ -142,8 +142,8 @@ prefix s (suc k) e v l f =
     ∙ ap (λ (z : List ℕ). z ++ (d ∷ [])) (prefix s k e v (omega arith) f)
     ∙ sym (take-suc s (suc k) 0 l)
 
-plain-first : (s : List ℕ) → plain s ≡ true → allDigits s ≡ true → (1 ≤ length s) × (1 < length s → 1 ≤ valueFrom 0 (take 1 s))
-unfolding plain
+plain-first : (s : List ℕ) → plainNumber s ≡ true → allDigits s ≡ true → (1 ≤ length s) × (1 < length s → 1 ≤ valueFrom 0 (take 1 s))
+unfolding plainNumber
 plain-first [] p e = absurd (let z : _≡_ {A = ℕ} 0 1 = cc in omega arith)
 plain-first (b ∷ []) p e = (omega arith, λ l. absurd (omega arith))
 plain-first (b ∷ c ∷ s) p e =
@@ -153,7 +153,7 @@ plain-first (b ∷ c ∷ s) p e =
     let ne : b ≡ 48 → ⊥ = eqb-false b 48 (not-true (eqb b 48) k) in
     (omega arith, λ l. omega arith)
 
-pub digits-back : (s : List ℕ) → plain s ≡ true → allDigits s ≡ true → valueFrom 0 s < 10 ^ 20 → s ≡ decimalText (valueFrom 0 s)
+pub digits-back : (s : List ℕ) → plainNumber s ≡ true → allDigits s ≡ true → valueFrom 0 s < 10 ^ 20 → s ≡ decimalText (valueFrom 0 s)
 digits-back [] p e v = absurd (omega (arith, plain-first [] p e .0))
 digits-back (b ∷ s) p e v =
     let whole : take (suc (length s)) (b ∷ s) ≡ b ∷ s = take-length (b ∷ s) in

@@ -10,7 +10,7 @@ use lib.Dec.{leb}
 use lib.ListN.{length, getD, drop, take, set, length-take, length-drop, drop-of-length-le}
 use lib.Seq.{drop-cons, take-suc, set-at, length-take-le, append-snoc, take-nil, take-all}
 use borrow.Author.Tests.{leb-true}
-use Rattle.script.specs.Hex.{isDigit, isCapital, nibbleOf, bytesOf, Unhexed}
+use Rattle.script.specs.Hex.{isDigit, isCapital, nibbleOf, hexBytes, Unhexed, OneUnhexed}
 
 pub and-left : (t u : Bool) → (t && u) ≡ true → t ≡ true
 and-left true u e = refl
@@ -46,19 +46,19 @@ unfolding nibbleOf
 nibble-none b e f = rw (e, f)
 
 -- ---- the bytes of digits
-pub length-bytesOf : (s : List ℕ) → length (bytesOf s) ≡ length s / 2
-length-bytesOf [] = refl
-length-bytesOf (a ∷ []) = refl
-length-bytesOf (a ∷ b ∷ s) = let h : length (bytesOf s) ≡ length s / 2 = length-bytesOf s in omega arith
+pub length-hexBytes : (s : List ℕ) → length (hexBytes s) ≡ length s / 2
+length-hexBytes [] = refl
+length-hexBytes (a ∷ []) = refl
+length-hexBytes (a ∷ b ∷ s) = let h : length (hexBytes s) ≡ length s / 2 = length-hexBytes s in omega arith
 
-pub getD-bytesOf : (s : List ℕ) (k : ℕ) → k < length (bytesOf s) → nibbleOf (getD s (2 * k) 0) * 16 + nibbleOf (getD s (2 * k + 1) 0) ≡ getD (bytesOf s) k 0
-getD-bytesOf [] k l = absurd (not-suc-le-zero l)
-getD-bytesOf (a ∷ []) k l = absurd (not-suc-le-zero l)
-getD-bytesOf (a ∷ b ∷ s) zero l = refl
-getD-bytesOf (a ∷ b ∷ s) (suc k) l =
+pub getD-hexBytes : (s : List ℕ) (k : ℕ) → k < length (hexBytes s) → nibbleOf (getD s (2 * k) 0) * 16 + nibbleOf (getD s (2 * k + 1) 0) ≡ getD (hexBytes s) k 0
+getD-hexBytes [] k l = absurd (not-suc-le-zero l)
+getD-hexBytes (a ∷ []) k l = absurd (not-suc-le-zero l)
+getD-hexBytes (a ∷ b ∷ s) zero l = refl
+getD-hexBytes (a ∷ b ∷ s) (suc k) l =
     ap (λ (n : ℕ). nibbleOf (getD (a ∷ b ∷ s) n 0) * 16 + nibbleOf (getD (a ∷ b ∷ s) (2 * suc k + 1) 0)) {x = 2 * suc k} {y = suc (suc (2 * k))} (omega arith)
     ∙ ap (λ (n : ℕ). nibbleOf (getD s (2 * k) 0) * 16 + nibbleOf (getD (a ∷ b ∷ s) n 0)) {x = 2 * suc k + 1} {y = suc (suc (2 * k + 1))} (omega arith)
-    ∙ getD-bytesOf s k (le-of-suc-le-suc l)
+    ∙ getD-hexBytes s k (le-of-suc-le-suc l)
 
 -- one more byte of bs at the front of d
 pub front-more : (bs d xs : List ℕ) (k v : ℕ) → xs ≡ take k bs ++ drop k d → k < length bs → k < length d → v ≡ getD bs k 0
@@ -71,10 +71,10 @@ front-more bs d xs k v h l m e =
     ∙ ap (λ (z : List ℕ). z ++ drop (suc k) d) (sym (take-suc bs k 0 l))
     ∙ ap (λ (n : ℕ). take n bs ++ drop n d) (sym (add-one k))
 
-pub unhexed-count : (s d : List ℕ) (n : ℕ) → n ≡ min (length s / 2) (length d) → n ≡ length (take (length d) (bytesOf s))
+pub unhexed-count : (s d : List ℕ) (n : ℕ) → n ≡ min (length s / 2) (length d) → n ≡ length (take (length d) (hexBytes s))
 unhexed-count s d n e =
-    let h : length (bytesOf s) ≡ length s / 2 = length-bytesOf s in
-    let l : length (take (length d) (bytesOf s)) ≡ min (length d) (length (bytesOf s)) = length-take (length d) (bytesOf s) in
+    let h : length (hexBytes s) ≡ length s / 2 = length-hexBytes s in
+    let l : length (take (length d) (hexBytes s)) ≡ min (length d) (length (hexBytes s)) = length-take (length d) (hexBytes s) in
     omega arith
 
 -- nothing of a line that is too short for digits from `from` on, and all of the part that starts there
@@ -85,3 +85,8 @@ pub unhexed-part : (s d e : List ℕ) (from r : ℕ) → Unhexed (take (length s
 unhexed-part s d e from r p =
     let n : length (drop from s) ≡ length s - from = length-drop from s in
     subst (λ (z : List ℕ). Unhexed z d e r) (take-all (length s - from) (drop from s) (omega arith)) p
+
+pub one-unhexed : OneUnhexed
+one-unhexed digits d e e′ r r′ p q =
+    let n : r ≡ r′ = p .count ∙ sym (q .count) in
+    (p .is ∙ ap (λ (k : ℕ). take k (hexBytes digits) ++ drop k d) n ∙ sym (q .is), n)

@@ -14,7 +14,7 @@ use Rattle.script.specs.declared.Line.{Line}
 use Rattle.script.specs.declared.Line.the-variants.{Frame, Wait, Power, Bad}
 use Rattle.script.specs.Grammar.{F}
 use Rattle.script.specs.Hex.{isDigit, isHex}
-use Rattle.script.specs.Reading.{allHex, allDigits, valueFrom, numbered, plain, frameHead, isFrame, waitHead, isWait, isPower, waitOf, lineOf}
+use Rattle.script.specs.Reading.{allHex, allDigits, valueFrom, numbered, plainNumber, frameHead, isFrame, waitHead, isWait, isPower, otherLine, lineOf}
 use Rattle.script.proofs.HexLaws.{and-left, and-right, and-false}
 use Rattle.script.proofs.Decimal.{grows}
 
@@ -47,8 +47,8 @@ unfolding numbered
 number-end n s i l m = rw (drop-of-length-le s l, le-leb n 4294967295 m)
 
 -- ---- the parts of a line
-pub plain-is : (s : List ℕ) → (eqb (length s) 3 || (ltb 3 (length s) && not (eqb (getD s 2 0) 48))) ≡ plain (drop 2 s)
-unfolding plain
+pub plain-is : (s : List ℕ) → (eqb (length s) 3 || (ltb 3 (length s) && not (eqb (getD s 2 0) 48))) ≡ plainNumber (drop 2 s)
+unfolding plainNumber
 plain-is [] = refl
 plain-is (a ∷ []) = refl
 plain-is (a ∷ b ∷ []) = refl
@@ -113,22 +113,22 @@ frame-parts s e =
       hex = and-right ((kind && wp) && (tail && fits)) (allHex (drop 6 s)) e;
     }
 
-pub wait-in : (s : List ℕ) (n : ℕ) → waitHead s ≡ true → n ≡ numbered 0 (drop 2 s) → n ≤ 4294967295 → Wait n ≡ waitOf s
-unfolding numbered waitOf isWait
+pub wait-in : (s : List ℕ) (n : ℕ) → waitHead s ≡ true → n ≡ numbered 0 (drop 2 s) → n ≤ 4294967295 → Wait n ≡ otherLine s
+unfolding numbered otherLine isWait
 wait-in s n h e l = go (allDigits (drop 2 s) && leb (valueFrom 0 (drop 2 s)) 4294967295) refl
   where
-    go : (t : Bool) → (allDigits (drop 2 s) && leb (valueFrom 0 (drop 2 s)) 4294967295) ≡ t → Wait n ≡ waitOf s
+    go : (t : Bool) → (allDigits (drop 2 s) && leb (valueFrom 0 (drop 2 s)) 4294967295) ≡ t → Wait n ≡ otherLine s
     go true p = rw (h, p) (ap Wait (e ∙ rw p))
     go false p = let z : n ≡ 4294967296 = e ∙ rw p in absurd (omega arith)
 
-pub wait-out : (s : List ℕ) (n : ℕ) → waitHead s ≡ true → n ≡ numbered 0 (drop 2 s) → 4294967295 < n → Bad ≡ waitOf s
-unfolding numbered waitOf isWait isPower waitHead
+pub wait-out : (s : List ℕ) (n : ℕ) → waitHead s ≡ true → n ≡ numbered 0 (drop 2 s) → 4294967295 < n → Bad ≡ otherLine s
+unfolding numbered otherLine isWait isPower waitHead
 wait-out s n h e l = go (allDigits (drop 2 s) && leb (valueFrom 0 (drop 2 s)) 4294967295) refl
   where
     first : getD s 0 0 ≡ 87
-    first = eqb-true (getD s 0 0) 87 (and-left (eqb (getD s 0 0) 87) (eqb (getD s 1 0) 9) (and-left (eqb (getD s 0 0) 87 && eqb (getD s 1 0) 9) (plain (drop 2 s)) h))
+    first = eqb-true (getD s 0 0) 87 (and-left (eqb (getD s 0 0) 87) (eqb (getD s 1 0) 9) (and-left (eqb (getD s 0 0) 87 && eqb (getD s 1 0) 9) (plainNumber (drop 2 s)) h))
 
-    go : (t : Bool) → (allDigits (drop 2 s) && leb (valueFrom 0 (drop 2 s)) 4294967295) ≡ t → Bad ≡ waitOf s
+    go : (t : Bool) → (allDigits (drop 2 s) && leb (valueFrom 0 (drop 2 s)) 4294967295) ≡ t → Bad ≡ otherLine s
     go true p =
         let q : leb (valueFrom 0 (drop 2 s)) 4294967295 ≡ true = and-right (allDigits (drop 2 s)) (leb (valueFrom 0 (drop 2 s)) 4294967295) p in
         let z : n ≡ valueFrom 0 (drop 2 s) = e ∙ rw p in
@@ -136,12 +136,12 @@ wait-out s n h e l = go (allDigits (drop 2 s) && leb (valueFrom 0 (drop 2 s)) 42
         absurd (omega arith)
     go false p = rw (h, p, first, and-false (eqb (length s) 1))
 
-pub power-in : (s : List ℕ) → waitHead s ≡ false → isPower s ≡ true → Power ≡ waitOf s
-unfolding waitOf isWait
+pub power-in : (s : List ℕ) → waitHead s ≡ false → isPower s ≡ true → Power ≡ otherLine s
+unfolding otherLine isWait
 power-in s h e = rw (h, e)
 
-pub power-out : (s : List ℕ) → waitHead s ≡ false → isPower s ≡ false → Bad ≡ waitOf s
-unfolding waitOf isWait
+pub power-out : (s : List ℕ) → waitHead s ≡ false → isPower s ≡ false → Bad ≡ otherLine s
+unfolding otherLine isWait
 power-out s h e = rw (h, e)
 
 pub too-long : (s : List ℕ) → 640 < length s → Bad ≡ lineOf s
@@ -152,6 +152,6 @@ pub frame-in : (s : List ℕ) (w t : ℕ) → length s ≤ 640 → isFrame s ≡
 unfolding lineOf
 frame-in s w t l h e f = rw (le-ltb 640 (length s) l, h, e, f)
 
-pub frame-out : (s : List ℕ) (r : Line) → length s ≤ 640 → isFrame s ≡ false → r ≡ waitOf s → r ≡ lineOf s
+pub frame-out : (s : List ℕ) (r : Line) → length s ≤ 640 → isFrame s ≡ false → r ≡ otherLine s → r ≡ lineOf s
 unfolding lineOf
 frame-out s r l h e = rw (le-ltb 640 (length s) l, h) e

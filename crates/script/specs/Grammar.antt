@@ -4,7 +4,8 @@ use mathlib.Core.List.{List, [], _∷_}
 use Prim.Native.Nat.{ℕ, _+_, _≤_}
 use Prim.Native.Char.{code}
 use lib.ListN.{length}
-use Rattle.text.specs.Text.{tab, hexText, decimalText, Bytes}
+use Rattle.parts.specs.Parts.{Bytes}
+use Rattle.text.specs.Text.{tab, hexText, decimalText}
 use Rattle.script.specs.declared.Line.{Line}
 use Rattle.script.specs.declared.Line.the-variants.{Frame, Wait, Power}
 
@@ -17,6 +18,13 @@ W = code "W"
 
 abbrev pub P : ℕ
 P = code "P"
+
+-- the most bytes of a frame, and of a line without its newline
+abbrev pub longestFrame : ℕ
+longestFrame = 300
+
+abbrev pub longestLine : ℕ
+longestLine = 640
 
 -- WP# low and high, as a digit
 abbrev pub levelOf : Bool → ℕ
@@ -35,8 +43,8 @@ waitText us = W ∷ tab ∷ decimalText us
 abbrev pub powerText : List ℕ
 powerText = P ∷ []
 
--- The lines, and what each says. No other line is well formed. The longest has 606 bytes, so that the limit of 640 shuts none of them out.
+-- The lines, and what each says. No other line is well formed. The longest has 606 bytes, so that `longestLine` shuts none of them out.
 pub data Says : List ℕ → Line → Type 0 where
-  frame : (wp : Bool) (tail : ℕ) (bytes : List ℕ) → tail ≤ 7 → length bytes ≤ 300 → Bytes bytes → Says (frameText wp tail bytes) (Frame wp tail (length bytes))
+  frame : (wp : Bool) (tail : ℕ) (bytes : List ℕ) → tail ≤ 7 → length bytes ≤ longestFrame → Bytes bytes → Says (frameText wp tail bytes) (Frame wp tail (length bytes))
   wait : (us : ℕ) → us ≤ 4294967295 → Says (waitText us) (Wait us)
   power : Says powerText Power

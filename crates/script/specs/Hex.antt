@@ -23,13 +23,17 @@ unfoldable pub nibbleOf : ℕ → ℕ
 nibbleOf b = cond (isDigit b) (b - code "0") (cond (isCapital b) (b - (code "A" - 10)) 0)
 
 -- the bytes that hex digits spell, two digits a byte
-abbrev pub bytesOf : List ℕ → List ℕ
-bytesOf [] = []
-bytesOf (a ∷ []) = []
-bytesOf (a ∷ b ∷ s) = (nibbleOf a * 16 + nibbleOf b) ∷ bytesOf s
+abbrev pub hexBytes : List ℕ → List ℕ
+hexBytes [] = []
+hexBytes (a ∷ []) = []
+hexBytes (a ∷ b ∷ s) = (nibbleOf a * 16 + nibbleOf b) ∷ hexBytes s
 
 -- the bytes of the digits stand at the start of d, as many as d has room for, and the rest is as it was, which makes it e; r is how many
 pub record Unhexed (digits d e : List ℕ) (r : ℕ) : Type 0 where
-  pub count : r ≡ length (take (length d) (bytesOf digits))
-  pub is : e ≡ take r (bytesOf digits) ++ drop r d
+  pub count : r ≡ length (take (length d) (hexBytes digits))
+  pub is : e ≡ take r (hexBytes digits) ++ drop r d
   pub within : r ≤ length e
+
+-- no second answer
+abbrev pub OneUnhexed : Type 0
+OneUnhexed = (digits d e e′ : List ℕ) (r r′ : ℕ) → Unhexed digits d e r → Unhexed digits d e′ r′ → (e ≡ e′) × (r ≡ r′)

@@ -1,4 +1,4 @@
--- How a line is told: the grammar as a test of its bytes. `at s i` is byte i of the line, 0 past its end. Assumes nothing.
+-- How a line is told: the grammar as a test of its bytes. `byteAt s i` is byte i of the line, 0 past its end. Assumes nothing.
 use mathlib.Core.Path.{_≡_}
 use mathlib.Core.Bool.{Bool, true, not, _&&_, _||_, cond}
 use mathlib.Core.List.{List, [], _∷_}
@@ -9,11 +9,11 @@ use lib.ListN.{length, getD, drop}
 use Rattle.text.specs.Text.{tab}
 use Rattle.script.specs.declared.Line.{Line}
 use Rattle.script.specs.declared.Line.the-variants.{Frame, Wait, Power, Bad}
-use Rattle.script.specs.Grammar.{F, W, P, Says}
+use Rattle.script.specs.Grammar.{F, W, P, longestLine, Says}
 use Rattle.script.specs.Hex.{isDigit, isHex}
 
-abbrev pub at : List ℕ → ℕ → ℕ
-at s i = getD s i 0
+abbrev pub byteAt : List ℕ → ℕ → ℕ
+byteAt s i = getD s i 0
 
 abbrev pub allHex : List ℕ → Bool
 allHex [] = true
@@ -29,35 +29,36 @@ valueFrom n [] = n
 valueFrom n (b ∷ s) = valueFrom (n * 10 + (b - code "0")) s
 
 -- at least one digit, and no leading zero
-unfoldable pub plain : List ℕ → Bool
-plain s = eqb (length s) 1 || (ltb 1 (length s) && not (eqb (at s 0) (code "0")))
+unfoldable pub plainNumber : List ℕ → Bool
+plainNumber s = eqb (length s) 1 || (ltb 1 (length s) && not (eqb (byteAt s 0) (code "0")))
 
 -- `F`, tab, `0` or `1`, tab, `0` to `7`, tab, and the digits of at most 300 bytes
 unfoldable pub frameHead : List ℕ → Bool
 frameHead s =
-    ((eqb (at s 0) F && eqb (at s 1) tab) && ((leb (code "0") (at s 2) && leb (at s 2) (code "1")) && eqb (at s 3) tab))
-    && (((leb (code "0") (at s 4) && leb (at s 4) (code "7")) && eqb (at s 5) tab) && (eqb (length s % 2) 0 && leb (length s) 606))
+    ((eqb (byteAt s 0) F && eqb (byteAt s 1) tab) && ((leb (code "0") (byteAt s 2) && leb (byteAt s 2) (code "1")) && eqb (byteAt s 3) tab))
+    && (((leb (code "0") (byteAt s 4) && leb (byteAt s 4) (code "7")) && eqb (byteAt s 5) tab) && (eqb (length s % 2) 0 && leb (length s) 606))
 
 unfoldable pub isFrame : List ℕ → Bool
 isFrame s = frameHead s && allHex (drop 6 s)
 
 -- `W`, tab, and a number of at most 4,294,967,295
 unfoldable pub waitHead : List ℕ → Bool
-waitHead s = (eqb (at s 0) W && eqb (at s 1) tab) && plain (drop 2 s)
+waitHead s = (eqb (byteAt s 0) W && eqb (byteAt s 1) tab) && plainNumber (drop 2 s)
 
 unfoldable pub isWait : List ℕ → Bool
 isWait s = waitHead s && (allDigits (drop 2 s) && leb (valueFrom 0 (drop 2 s)) 4294967295)
 
 -- `P`
 unfoldable pub isPower : List ℕ → Bool
-isPower s = eqb (length s) 1 && eqb (at s 0) P
+isPower s = eqb (length s) 1 && eqb (byteAt s 0) P
 
--- What a line says: `Bad`, which is answer 20, where it is over 640 bytes long or nothing of these.
-unfoldable pub waitOf : List ℕ → Line
-waitOf s = cond (isWait s) (Wait (valueFrom 0 (drop 2 s))) (cond (isPower s) Power Bad)
+-- What a line that is no frame says: `Bad`, which is answer 20, where it is nothing of these.
+unfoldable pub otherLine : List ℕ → Line
+otherLine s = cond (isWait s) (Wait (valueFrom 0 (drop 2 s))) (cond (isPower s) Power Bad)
 
+-- What a line says.
 unfoldable pub lineOf : List ℕ → Line
-lineOf s = cond (ltb 640 (length s)) Bad (cond (isFrame s) (Frame (eqb (at s 2) (code "1")) (at s 4 - code "0") ((length s - 6) / 2)) (waitOf s))
+lineOf s = cond (ltb longestLine (length s)) Bad (cond (isFrame s) (Frame (eqb (byteAt s 2) (code "1")) (byteAt s 4 - code "0") ((length s - 6) / 2)) (otherLine s))
 
 -- the value of digits after others that spell n; 4294967296 where a byte is no digit or the value is larger than a wait can be
 unfoldable pub numbered : ℕ → List ℕ → ℕ
@@ -68,3 +69,10 @@ pub record Reads (s : List ℕ) (r : Line) : Type 0 where
   pub is : r ≡ lineOf s
   pub written : (l : Line) → Says s l → r ≡ l
   pub nothing-else : (r ≡ Bad → ⊥) → Says s r
+
+-- no second answer; and the grammar alone decides, without `lineOf`
+abbrev pub OneReads : Type 0
+OneReads = (s : List ℕ) (r r′ : Line) → Reads s r → Reads s r′ → r ≡ r′
+
+abbrev pub GrammarDecides : Type 0
+GrammarDecides = (s : List ℕ) (r : Line) → ((l : Line) → Says s l → r ≡ l) → ((r ≡ Bad → ⊥) → Says s r) → r ≡ lineOf s

@@ -1,6 +1,6 @@
 // Hex digits, in capitals.
 ghost use mathlib.Core.Path.{_≡_};
-ghost use Prim.Native.Nat.{_<_, min};
+ghost use Prim.Native.Nat.{_<_};
 ghost use Rattle.script.specs.Hex.{isDigit, isCapital, isHex, nibbleOf, Unhexed};
 
 pub fn is_digit(b: u8) -> bool
@@ -34,17 +34,11 @@ fn nibble(b: u8) -> u8
     0
 }
 
-fn least(a: usize, b: usize) -> usize
-    ensures { λ r. ⌜ r ≡ min a b ⌝ }
-{
-    if a < b { a } else { b }
-}
-
 // The bytes of hex digits, at the start of out, as many as it has room for; and how many those are.
 pub fn unhex(digits: &[u8], out: &mut [u8]) -> usize
     ensures { λ r. ⌜ Unhexed (now (digits .entry)) (now (out .entry)) (now (out .exit)) r ⌝ }
 {
-    let n = least(digits.len() / 2, out.len());
+    let n = parts::least(digits.len() / 2, out.len());
     let mut k = 0;
     while k < n {
         let high = nibble(digits[2 * k]);

@@ -3,11 +3,12 @@ mod hex;
 
 pub use hex::unhex;
 ghost use mathlib.Core.Path.{_≡_};
-ghost use lib.ListN.{getD, drop};
+ghost use lib.ListN.{drop};
 ghost use Rattle.script.specs.Hex.{Unhexed};
-ghost use Rattle.script.specs.Reading.{numbered, allHex, plain, frameHead, isFrame, waitHead, isPower, waitOf, Reads};
+ghost use Rattle.script.specs.Reading.{numbered, allHex, plainNumber, frameHead, isFrame, waitHead, isPower, otherLine, Reads};
 use hex::is_digit;
 use hex::is_hex;
+use parts::byte_at;
 
 // What a line says. A bad line is answered 20.
 pub enum Line {
@@ -17,12 +18,6 @@ pub enum Line {
     Wait(u32),
     Power,
     Bad,
-}
-
-fn byte_at(s: &[u8], i: usize) -> u8
-    ensures { λ r. ⌜ r ≡ getD (now (s .entry)) i 0 ⌝ }
-{
-    if i < s.len() { s[i] } else { 0 }
 }
 
 // Whether every byte from `from` on is a hex digit.
@@ -79,7 +74,7 @@ fn is_frame(s: &[u8]) -> bool
 
 // Whether the digits from 2 on are at least one, and the first is no zero unless it is alone.
 fn is_plain(s: &[u8]) -> bool
-    ensures { λ r. ⌜ r ≡ plain (drop 2 (now (s .entry))) ⌝ }
+    ensures { λ r. ⌜ r ≡ plainNumber (drop 2 (now (s .entry))) ⌝ }
 {
     let n = s.len();
     (n == 3) | ((3 < n) & (byte_at(s, 2) != b'0'))
@@ -100,7 +95,7 @@ fn is_power(s: &[u8]) -> bool
 
 // What a line that is no frame says.
 fn read_wait(line: &[u8]) -> Line
-    ensures { λ r. ⌜ r ≡ waitOf (now (line .entry)) ⌝ }
+    ensures { λ r. ⌜ r ≡ otherLine (now (line .entry)) ⌝ }
 {
     if wait_head(line) {
         let n = number(line, 2);

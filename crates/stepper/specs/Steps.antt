@@ -1,20 +1,19 @@
--- What a step on a lent state has to be. Assumes nothing.
+-- What a line's step on a lent state has to be. Assumes nothing.
 use mathlib.Core.Path.{_≡_}
 use mathlib.Core.List.{List}
 use Prim.Native.Nat.{ℕ}
-use Rattle.rules.specs.declared.State.{State}
-use Rattle.chip.specs.declared.Reply.{Reply}
-use Rattle.chip.specs.declared.After.{After}
-use Rattle.chip.specs.Effects.{Effect}
+use Rattle.states.specs.declared.State.{State}
+use Rattle.play.specs.declared.Played.{Played}
+use Rattle.play.specs.Play.{Turn}
 
--- a frame: the result, and the lent state and the two lent buffers at exit
-pub record Steps (e : Effect) (r : Reply) (s : State) (xs os : List ℕ) : Type 0 where
-  pub reply : r ≡ e .reply
-  pub state : s ≡ e .reply .state
-  pub cells : xs ≡ e .cells
-  pub out : os ≡ e .out
+-- the result, and the lent state and the two lent buffers at exit
+pub record Steps (t : Turn) (r : Played) (s : State) (xs os : List ℕ) : Type 0 where
+  pub played : r ≡ t .played
+  pub state : s ≡ t .played .state
+  pub cells : xs ≡ t .cells
+  pub shown : os ≡ t .shown
 
--- a wait or a power cycle: the result, and the lent state at exit
-pub record Passes (e : After) (r : After) (s : State) : Type 0 where
-  pub reply : r ≡ e
-  pub state : s ≡ e .state
+-- no second answer
+abbrev pub OneSteps : Type 0
+OneSteps = (t : Turn) (r r′ : Played) (s s′ : State) (xs xs′ os os′ : List ℕ) → Steps t r s xs os → Steps t r′ s′ xs′ os′
+    → (r ≡ r′) × (s ≡ s′) × (xs ≡ xs′) × (os ≡ os′)

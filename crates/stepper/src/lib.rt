@@ -1,92 +1,64 @@
-// The chip's state as one record that is lent to each step and altered there: thin steps over the calls by value. Above each stands a
-// function with plain parameters, so that whoever calls that one needs no proof by hand.
+// One line's step: the chip's state is one record that is lent to the step and altered there. Above it stands a function with plain
+// parameters, so that whoever calls that one needs no proof by hand; and the line's row of the log.
 ghost use mathlib.Core.Path.{_≡_};
-ghost use Rattle.chip.specs.Effects.{Gives};
-ghost use Rattle.chip.specs.Frames.{frameOf};
-ghost use Rattle.chip.specs.Time.{waitOf, powerOf};
-ghost use Rattle.stepper.specs.Steps.{Steps, Passes};
-use chip::After;
-use chip::Reply;
-use rules::Record;
-use rules::State;
+ghost use Prim.Native.Nat.{_+_, _≤_};
+ghost use lib.ListN.{length};
+ghost use Rattle.chip.specs.Frames.{chipOf};
+ghost use Rattle.play.specs.Play.{Plays, playOf};
+ghost use Rattle.log.specs.Row.{longestRow};
+ghost use Rattle.stepper.specs.Steps.{Steps};
+ghost use Rattle.stepper.specs.Rows.{Logs};
+use play::Played;
+use states::Record;
+use states::State;
 
-// One frame: the state is altered where it lies.
-pub fn step(
-    st: &mut State,
-    rec: Record,
-    array: &mut [u8],
-    bytes: &[u8],
-    tail: u32,
-    wp: bool,
-    out: &mut [u8],
-) -> Reply
-    ensures { λ r. ⌜ Steps (frameOf rec (now (st .entry)) (now (array .entry)) (now (bytes .entry)) tail wp (now (out .entry))) r (now (st .exit)) (now (array .exit)) (now (out .exit)) ⌝ }
+// A line is played: the state is altered where it lies.
+pub fn step(st: &mut State, rec: Record, line: &[u8], array: &mut [u8], shown: &mut [u8]) -> Played
+    ensures { λ r. ⌜ Steps (playOf rec (chipOf (now (st .entry)) (now (array .entry))) (now (shown .entry)) (now (line .entry))) r (now (st .exit)) (now (array .exit)) (now (shown .exit)) ⌝ }
 {
-    let r = chip::frame(rec, *st, array, bytes, tail, wp, out);
-    *st = r.state;
-    r
+    let p = play::play(line, rec, *st, array, shown);
+    *st = p.state;
+    p
 }
 
 // The same with the state by value: it lies in a local that is lent to the step.
-pub fn stepped(
-    st: State,
+pub fn stepped(st: State, rec: Record, line: &[u8], array: &mut [u8], shown: &mut [u8]) -> Played
+    ensures { λ r. ⌜ Plays (playOf rec (chipOf st (now (array .entry))) (now (shown .entry)) (now (line .entry))) r (now (array .exit)) (now (shown .exit)) ⌝ }
+{
+    let mut s = st;
+    let p = step(&mut s, rec, line, array, shown);
+    Played {
+        answer: p.answer,
+        from: p.from,
+        count: p.count,
+        state: s,
+    }
+}
+
+// The place past the row, and the state after.
+pub struct Logged {
+    pub next: usize,
+    pub state: State,
+}
+
+// Plays a line and puts its row into the log from `at` on, which has room for the longest row.
+pub fn log_line(
+    number: u64,
+    line: &[u8],
     rec: Record,
+    st: State,
     array: &mut [u8],
-    bytes: &[u8],
-    tail: u32,
-    wp: bool,
-    out: &mut [u8],
-) -> Reply
-    ensures { λ r. ⌜ Gives (frameOf rec st (now (array .entry)) (now (bytes .entry)) tail wp (now (out .entry))) r (now (array .exit)) (now (out .exit)) ⌝ }
+    log: &mut [u8],
+    at: usize,
+) -> Logged
+    requires { ⌜ at + longestRow ≤ length (now log) ⌝ }
+    ensures { λ r. ⌜ Logs rec st (now (array .entry)) number (now (line .entry)) (now (log .entry)) at r (now (array .exit)) (now (log .exit)) ⌝ }
 {
-    let mut s = st;
-    let r = step(&mut s, rec, array, bytes, tail, wp, out);
-    Reply {
-        answer: r.answer,
-        from: r.from,
-        count: r.count,
-        state: s,
-    }
-}
-
-// Time passes: the state is altered where it lies.
-pub fn step_wait(st: &mut State, rec: Record, us: u32) -> After
-    ensures { λ r. ⌜ Passes (waitOf rec (now (st .entry)) us) r (now (st .exit)) ⌝ }
-{
-    let r = chip::wait(rec, *st, us);
-    *st = r.state;
-    r
-}
-
-// The same with the state by value.
-pub fn waited(st: State, rec: Record, us: u32) -> After
-    ensures { λ r. ⌜ r ≡ waitOf rec st us ⌝ }
-{
-    let mut s = st;
-    let r = step_wait(&mut s, rec, us);
-    After {
-        answer: r.answer,
-        state: s,
-    }
-}
-
-// A power cycle: the state is altered where it lies.
-pub fn step_cycle(st: &mut State, rec: Record) -> After
-    ensures { λ r. ⌜ Passes (powerOf rec (now (st .entry))) r (now (st .exit)) ⌝ }
-{
-    let r = chip::power_cycle(rec, *st);
-    *st = r.state;
-    r
-}
-
-// The same with the state by value.
-pub fn cycled(st: State, rec: Record) -> After
-    ensures { λ r. ⌜ r ≡ powerOf rec st ⌝ }
-{
-    let mut s = st;
-    let r = step_cycle(&mut s, rec);
-    After {
-        answer: r.answer,
-        state: s,
-    }
+    let mut shown = [0u8; 300];
+    let p = stepped(st, rec, line, array, &mut shown);
+    let from = p.from as usize;
+    let end = from + p.count as usize;
+    let next = log::put_row(number, p.answer, p.from, &shown[from..end], log, at);
+    let state = p.state;
+    Logged { next, state }
 }

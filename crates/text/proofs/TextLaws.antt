@@ -10,6 +10,7 @@ use lib.Dec.{ltb}
 use lib.ListN.{length, getD, take, drop, set, length-append, length-set, take-append-drop}
 use lib.Seq.{take-suc, drop-cons, set-at, length-take-le, append-snoc, take-at, getD-at, take-length, drop-length}
 use borrow.Author.Tests.{lt-ltb, le-ltb, ltb-true, ltb-false}
+use Rattle.parts.specs.Parts.{lay}
 use Rattle.text.specs.Text.{digitOf, hexText, decimalIn, decimalText}
 use Rattle.text.specs.Put.{Put}
 use Rattle.text.proofs.PutLaws.{put-one, put-then, put-as, put-to}
@@ -156,6 +157,7 @@ spelt-back {ds} {d} {at} {rest} {e} to p l m h =
 
 -- and all are
 pub spelt-all : {ds d : List ℕ} {at rest : ℕ} {e : List ℕ} (to : ℕ) → Spelt ds d at (to - at) rest e → to ≡ at → at + length ds ≤ length d → Put ds d at e (at + length ds)
+unfolding lay
 spelt-all {ds} {d} {at} {rest} {e} to p l h =
     let z : to - at ≡ 0 = omega arith in
     record { room = h; is = p .is ∙ ap (λ (j : ℕ). take (at + j) d ++ (drop j ds ++ drop (at + length ds) d)) z ∙ rw add-zero; next = refl }

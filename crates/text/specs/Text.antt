@@ -1,7 +1,7 @@
 -- Numbers and bytes as text, in ASCII. Assumes nothing.
 use mathlib.Core.Bool.{cond}
 use mathlib.Core.List.{List, [], _∷_, _++_}
-use Prim.Native.Nat.{ℕ, zero, suc, _+_, _-_, _/_, _%_, _<_}
+use Prim.Native.Nat.{ℕ, zero, suc, _+_, _-_, _/_, _%_}
 use Prim.Native.Char.{code}
 use Prim.Native.String.{String}
 use lib.Dec.{ltb}
@@ -35,8 +35,3 @@ decimalIn (suc more) n = cond (ltb n 10) ((code "0" + n) ∷ []) (decimalIn more
 -- twenty digits hold every 64-bit number
 unfoldable pub decimalText : ℕ → List ℕ
 decimalText n = decimalIn 20 n
-
--- a list of bytes
-abbrev pub Bytes : List ℕ → Type 0
-Bytes [] = Unit {0}
-Bytes (b ∷ s) = (b < 256) × Bytes s

@@ -21,12 +21,9 @@ pub fn put_all(text: &[u8], out: &mut [u8], at: usize) -> usize
     requires { ⌜ at + length (now text) ≤ length (now out) ⌝ }
     ensures { λ r. ⌜ Put (now (text .entry)) (now (out .entry)) at (now (out .exit)) r ⌝ }
 {
-    let mut i = 0;
-    while i < text.len() {
-        out[at + i] = text[i];
-        i += 1;
-    }
-    at + i
+    let next = at + text.len();
+    parts::copy(&mut out[at..next], text);
+    next
 }
 
 // How many decimal digits n has.

@@ -1,4 +1,2 @@
--- `Bools`: Bools taken apart. `Table`: a test that passes at every row passes at each. `Rules`: the statements of `specs/Rules.antt`, proved.
+-- `Bools`: Bools taken apart.
 pub mod Bools
-pub mod Table
-pub mod Rules

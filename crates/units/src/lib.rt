@@ -1,8 +1,7 @@
-// The numbers of the sheets as kinds of their own: addresses, sectors and blocks; the models as rows; the protected ranges as a table.
+// The numbers of the sheets as kinds of their own: addresses, sectors and blocks.
 ghost use mathlib.Core.Path.{_≡_};
 ghost use Prim.Native.Nat.{_<_};
 ghost use Rattle.units.specs.Kinds.{sectorOf, blockOf, pageStart, pageOffset, blockOfSector, sectorStart, blockStart};
-ghost use Rattle.units.specs.Models.{isModel, isLength, modelOf, addressOf, rangeOf, isProtected};
 
 // A byte address, a sector number and a block number: three kinds, so that none passes for another.
 pub struct Address(pub u32);
@@ -66,111 +65,4 @@ impl Block {
     {
         Address(self.0 * 65536)
     }
-}
-
-// A model's row: the array's length in bytes, sectors and blocks, the highest BP, the three identification bytes and the signature.
-pub struct Model {
-    pub length: u32,
-    pub sectors: u32,
-    pub blocks: u32,
-    pub highest_bp: u8,
-    pub maker: u8,
-    pub family: u8,
-    pub density: u8,
-    pub signature: u8,
-}
-
-// Protected blocks: the first, and how many.
-pub struct Range(pub u32, pub u32);
-
-// Whether a model has that number.
-pub fn is_model(number: u32) -> bool
-    ensures { λ r. ⌜ r ≡ isModel number ⌝ }
-{
-    (number == 1) | (number == 2)
-}
-
-// Whether some model's array is that long.
-pub fn is_length(bytes: usize) -> bool
-    ensures { λ r. ⌜ r ≡ isLength bytes ⌝ }
-{
-    (bytes == 65536) | (bytes == 262144)
-}
-
-// The row of the model of that number; of a number that no model has, the first row.
-pub fn model_of(number: u32) -> Model
-    ensures { λ r. ⌜ r ≡ modelOf number ⌝ }
-{
-    if number == 2 {
-        Model {
-            length: 262144,
-            sectors: 64,
-            blocks: 4,
-            highest_bp: 3,
-            maker: 0xC2,
-            family: 0x20,
-            density: 0x12,
-            signature: 0x11,
-        }
-    } else {
-        Model {
-            length: 65536,
-            sectors: 16,
-            blocks: 1,
-            highest_bp: 3,
-            maker: 0xC2,
-            family: 0x20,
-            density: 0x10,
-            signature: 0x05,
-        }
-    }
-}
-
-// The address of three bytes, high byte first, modulo the array's length.
-pub fn address_of(number: u32, high: u8, middle: u8, low: u8) -> Address
-    ensures { λ r. ⌜ r ≡ addressOf number high middle low ⌝ }
-{
-    let row = model_of(number);
-    Address((wide(high) * 65536 + (wide(middle) * 256 + wide(low))) % row.length)
-}
-
-fn wide(byte: u8) -> u32
-    ensures { λ r. ⌜ r ≡ byte ⌝ }
-{
-    byte as u32
-}
-
-// The protected ranges, (first block, blocks) by BP 0 to 3, model after model.
-const RANGES: [Range; 8] = [
-    Range(1, 0),
-    Range(0, 1),
-    Range(0, 1),
-    Range(0, 1),
-    Range(4, 0),
-    Range(3, 1),
-    Range(2, 2),
-    Range(0, 4),
-];
-
-// The protected range of a model at a BP; of a BP that it does not have, none.
-pub fn range_of(number: u32, bp: u8) -> Range
-    ensures { λ r. ⌜ r ≡ rangeOf number bp ⌝ }
-{
-    if bp > 3 {
-        return Range(0, 0);
-    }
-    if number == 2 {
-        let row = 4 + bp as usize;
-        return RANGES[row];
-    }
-    let row = bp as usize;
-    RANGES[row]
-}
-
-// Whether the block is in the protected range.
-pub fn is_protected(number: u32, bp: u8, block: Block) -> bool
-    ensures { λ r. ⌜ r ≡ isProtected number bp block ⌝ }
-{
-    let range = range_of(number, bp);
-    (range.0 <= block.0) & (block.0 < range.0 + range.1)
 }

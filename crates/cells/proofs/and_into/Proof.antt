@@ -7,7 +7,7 @@ use lib.ListN.{length, getD}
 use denote.Ref.{now}
 use borrow.Author.Needs.{needs}
 use Rattle.cells.specs.Cell.{anded}
-use Rattle.cells.proofs.Loop.{Done, done-none, done-step, done-all}
+use Rattle.parts.proofs.Loop.{Done, done-none, done-step, done-all}
 use Rattle.cells.proofs.and_into.Statement.{statement}
 use Rattle.cells.proofs.and_into.Tie as tie
 

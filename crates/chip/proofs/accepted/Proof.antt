@@ -1,11 +1,8 @@
 -- `chip::accepted` meets its contract. Assumes nothing.
-use mathlib.Core.Path.{_≡_, refl, ap, _∙_}
-use Prim.Native.Nat.{ℕ}
+use mathlib.Core.Path.{refl}
 use native.Mathlib.Omega.{arith}
-use Rattle.rules.specs.Commands.{traitsOf}
-use Rattle.rules.specs.declared.Answer.the-variants.{Done}
-use Rattle.chip.specs.Effects.{quiet, written}
-use Rattle.chip.specs.Frames.{acceptedOf}
+use Rattle.commands.specs.Commands.{traitsOf}
+use Rattle.chip.specs.Frames.{acceptedOf, chipOf}
 use Rattle.chip.proofs.Ready.{at-command, room-at}
 use borrow.Author.Needs.{needs}
 use Rattle.chip.proofs.accepted.Statement.{statement}
@@ -17,11 +14,11 @@ read-status-requires c κs = (omega (arith, c .before .before .before .before .b
 
 read-from-requires : tie.Need-read-from-requires
 unfolding traitsOf
-read-from-requires c κs = (omega (arith, c .before .before .before .before .before .before .before .pre .inside), room-at (c .before .before .enum-told5 .given .1) (c .before .before .before .before .before .before .before .pre .fits))
+read-from-requires c κs = (c .before .before .before .before .before .before .before .pre .inside, room-at (c .before .before .enum-told5 .given .1) (c .before .before .before .before .before .before .before .pre .fits))
 
 read-from-requires-2 : tie.Need-read-from-requires-2
 unfolding traitsOf
-read-from-requires-2 c κs = (omega (arith, c .before .before .before .before .before .before .before .pre .inside), room-at (c .before .before .enum-told6 .given .1) (c .before .before .before .before .before .before .before .pre .fits))
+read-from-requires-2 c κs = (c .before .before .before .before .before .before .before .pre .inside, room-at (c .before .before .enum-told6 .given .1) (c .before .before .before .before .before .before .before .pre .fits))
 
 program-page-requires : tie.Need-program-page-requires
 unfolding traitsOf
@@ -42,92 +39,107 @@ read-maker-requires c κs = room-at (c .before .enum-told13 .given .1) (c .befor
 returns : tie.Need-returns
 unfolding acceptedOf
 returns c =
-    at-command (c .before .before .before .before .before .before .before .args .rec) (c .before .before .before .before .before .before .before .args .st) (c .before .before .before .before .before .before .before .args .array .now) (c .before .before .before .before .before .before .before .args .at) (c .before .before .before .before .before .before .before .args .bytes .now) (c .before .before .before .before .before .before .before .args .out .now) (c .before .before .enum-told .given .1)
-    (record { reply = c .quiet .ensures ∙ ap (quiet Done) (c .before .latch .ensures); cells = refl; out = refl })
+    let a = c .before .before .before .before .before .before .args in
+    at-command (a .rec) (chipOf (a .st) (a .array .now)) (a .at) (a .bytes .now) (a .out .now) (c .before .enum-told .given .1)
+    (record { reply = c .write-enable .ensures; cells = refl; out = refl })
 
 returns-2 : tie.Need-returns-2
 unfolding acceptedOf
 returns-2 c =
-    at-command (c .before .before .before .before .before .before .before .args .rec) (c .before .before .before .before .before .before .before .args .st) (c .before .before .before .before .before .before .before .args .array .now) (c .before .before .before .before .before .before .before .args .at) (c .before .before .before .before .before .before .before .args .bytes .now) (c .before .before .before .before .before .before .before .args .out .now) (c .before .before .enum-told2 .given .1)
-    (record { reply = c .quiet2 .ensures ∙ ap (quiet Done) (c .before .latch2 .ensures); cells = refl; out = refl })
+    let a = c .before .before .before .before .before .before .args in
+    at-command (a .rec) (chipOf (a .st) (a .array .now)) (a .at) (a .bytes .now) (a .out .now) (c .before .enum-told2 .given .1)
+    (record { reply = c .write-disable .ensures; cells = refl; out = refl })
 
 returns-3 : tie.Need-returns-3
 unfolding acceptedOf
 returns-3 c =
-    at-command (c .before .before .before .before .before .before .before .before .before .args .rec) (c .before .before .before .before .before .before .before .before .before .args .st) (c .before .before .before .before .before .before .before .before .before .args .array .now) (c .before .before .before .before .before .before .before .before .before .args .at) (c .before .before .before .before .before .before .before .before .before .args .bytes .now) (c .before .before .before .before .before .before .before .before .before .args .out .now) (c .before .before .before .before .enum-told3 .given .1)
+    let a = c .before .before .before .before .before .before .before .before .before .args in
+    at-command (a .rec) (chipOf (a .st) (a .array .now)) (a .at) (a .bytes .now) (a .out .now) (c .before .before .before .before .enum-told3 .given .1)
     (record { reply = c .before .before .read-status .ensures .reply; cells = refl; out = c .before .before .read-status .ensures .out })
 
 returns-4 : tie.Need-returns-4
 unfolding acceptedOf
 returns-4 c =
-    at-command (c .before .before .before .before .before .before .before .before .args .rec) (c .before .before .before .before .before .before .before .before .args .st) (c .before .before .before .before .before .before .before .before .args .array .now) (c .before .before .before .before .before .before .before .before .args .at) (c .before .before .before .before .before .before .before .before .args .bytes .now) (c .before .before .before .before .before .before .before .before .args .out .now) (c .before .before .before .enum-told4 .given .1)
-    (record { reply = c .quiet3 .ensures ∙ ap (quiet Done) (c .before .write .ensures ∙ ap (λ (x : ℕ). written (c .before .before .before .before .before .before .before .before .args .st) x (c .before .before .before .before .before .before .before .before .args .rec .«status_write»)) (c .before .before .byte-at .ensures)); cells = refl; out = refl })
+    let a = c .before .before .before .before .before .before .args in
+    at-command (a .rec) (chipOf (a .st) (a .array .now)) (a .at) (a .bytes .now) (a .out .now) (c .before .enum-told4 .given .1)
+    (record { reply = c .write-status .ensures; cells = refl; out = refl })
 
 returns-5 : tie.Need-returns-5
 unfolding acceptedOf
 returns-5 c =
-    at-command (c .before .before .before .before .before .before .before .before .before .before .args .rec) (c .before .before .before .before .before .before .before .before .before .before .args .st) (c .before .before .before .before .before .before .before .before .before .before .args .array .now) (c .before .before .before .before .before .before .before .before .before .before .args .at) (c .before .before .before .before .before .before .before .before .before .before .args .bytes .now) (c .before .before .before .before .before .before .before .before .before .before .args .out .now) (c .before .before .before .before .before .enum-told5 .given .1)
+    let a = c .before .before .before .before .before .before .before .before .before .before .args in
+    at-command (a .rec) (chipOf (a .st) (a .array .now)) (a .at) (a .bytes .now) (a .out .now) (c .before .before .before .before .before .enum-told5 .given .1)
     (record { reply = c .before .before .read-from .ensures .reply; cells = refl; out = c .before .before .read-from .ensures .out })
 
 returns-6 : tie.Need-returns-6
 unfolding acceptedOf
 returns-6 c =
-    at-command (c .before .before .before .before .before .before .before .before .before .before .args .rec) (c .before .before .before .before .before .before .before .before .before .before .args .st) (c .before .before .before .before .before .before .before .before .before .before .args .array .now) (c .before .before .before .before .before .before .before .before .before .before .args .at) (c .before .before .before .before .before .before .before .before .before .before .args .bytes .now) (c .before .before .before .before .before .before .before .before .before .before .args .out .now) (c .before .before .before .before .before .enum-told6 .given .1)
+    let a = c .before .before .before .before .before .before .before .before .before .before .args in
+    at-command (a .rec) (chipOf (a .st) (a .array .now)) (a .at) (a .bytes .now) (a .out .now) (c .before .before .before .before .before .enum-told6 .given .1)
     (record { reply = c .before .before .read-from2 .ensures .reply; cells = refl; out = c .before .before .read-from2 .ensures .out })
 
 returns-7 : tie.Need-returns-7
 unfolding acceptedOf
 returns-7 c =
-    at-command (c .before .before .before .before .before .before .before .before .before .args .rec) (c .before .before .before .before .before .before .before .before .before .args .st) (c .before .before .before .before .before .before .before .before .before .args .array .now) (c .before .before .before .before .before .before .before .before .before .args .at) (c .before .before .before .before .before .before .before .before .before .args .bytes .now) (c .before .before .before .before .before .before .before .before .before .args .out .now) (c .before .before .before .before .enum-told7 .given .1)
+    let a = c .before .before .before .before .before .before .before .before .before .args in
+    at-command (a .rec) (chipOf (a .st) (a .array .now)) (a .at) (a .bytes .now) (a .out .now) (c .before .before .before .before .enum-told7 .given .1)
     (record { reply = c .before .before .erase-sector .ensures .reply; cells = c .before .before .erase-sector .ensures .cells; out = refl })
 
 returns-8 : tie.Need-returns-8
 unfolding acceptedOf
 returns-8 c =
-    at-command (c .before .before .before .before .before .before .before .before .before .args .rec) (c .before .before .before .before .before .before .before .before .before .args .st) (c .before .before .before .before .before .before .before .before .before .args .array .now) (c .before .before .before .before .before .before .before .before .before .args .at) (c .before .before .before .before .before .before .before .before .before .args .bytes .now) (c .before .before .before .before .before .before .before .before .before .args .out .now) (c .before .before .before .before .enum-told8 .given .1)
+    let a = c .before .before .before .before .before .before .before .before .before .args in
+    at-command (a .rec) (chipOf (a .st) (a .array .now)) (a .at) (a .bytes .now) (a .out .now) (c .before .before .before .before .enum-told8 .given .1)
     (record { reply = c .before .before .erase-block .ensures .reply; cells = c .before .before .erase-block .ensures .cells; out = refl })
 
 returns-9 : tie.Need-returns-9
 unfolding acceptedOf
 returns-9 c =
-    at-command (c .before .before .before .before .before .before .before .before .before .args .rec) (c .before .before .before .before .before .before .before .before .before .args .st) (c .before .before .before .before .before .before .before .before .before .args .array .now) (c .before .before .before .before .before .before .before .before .before .args .at) (c .before .before .before .before .before .before .before .before .before .args .bytes .now) (c .before .before .before .before .before .before .before .before .before .args .out .now) (c .before .before .before .before .enum-told9 .given .1)
+    let a = c .before .before .before .before .before .before .before .before .before .args in
+    at-command (a .rec) (chipOf (a .st) (a .array .now)) (a .at) (a .bytes .now) (a .out .now) (c .before .before .before .before .enum-told9 .given .1)
     (record { reply = c .before .before .erase-chip .ensures .reply; cells = c .before .before .erase-chip .ensures .cells; out = refl })
 
 returns-10 : tie.Need-returns-10
 unfolding acceptedOf
 returns-10 c =
-    at-command (c .before .before .before .before .before .before .before .before .before .args .rec) (c .before .before .before .before .before .before .before .before .before .args .st) (c .before .before .before .before .before .before .before .before .before .args .array .now) (c .before .before .before .before .before .before .before .before .before .args .at) (c .before .before .before .before .before .before .before .before .before .args .bytes .now) (c .before .before .before .before .before .before .before .before .before .args .out .now) (c .before .before .before .before .enum-told10 .given .1)
+    let a = c .before .before .before .before .before .before .before .before .before .args in
+    at-command (a .rec) (chipOf (a .st) (a .array .now)) (a .at) (a .bytes .now) (a .out .now) (c .before .before .before .before .enum-told10 .given .1)
     (record { reply = c .before .before .program-page .ensures .reply; cells = c .before .before .program-page .ensures .cells; out = refl })
 
 returns-11 : tie.Need-returns-11
 unfolding acceptedOf
 returns-11 c =
-    at-command (c .before .before .before .before .before .before .before .before .before .args .rec) (c .before .before .before .before .before .before .before .before .before .args .st) (c .before .before .before .before .before .before .before .before .before .args .array .now) (c .before .before .before .before .before .before .before .before .before .args .at) (c .before .before .before .before .before .before .before .before .before .args .bytes .now) (c .before .before .before .before .before .before .before .before .before .args .out .now) (c .before .before .before .before .enum-told11 .given .1)
+    let a = c .before .before .before .before .before .before .before .before .before .args in
+    at-command (a .rec) (chipOf (a .st) (a .array .now)) (a .at) (a .bytes .now) (a .out .now) (c .before .before .before .before .enum-told11 .given .1)
     (record { reply = c .before .before .read-id .ensures .reply; cells = refl; out = c .before .before .read-id .ensures .out })
 
 returns-12 : tie.Need-returns-12
 unfolding acceptedOf
 returns-12 c =
-    at-command (c .before .before .before .before .before .before .before .before .before .args .rec) (c .before .before .before .before .before .before .before .before .before .args .st) (c .before .before .before .before .before .before .before .before .before .args .array .now) (c .before .before .before .before .before .before .before .before .before .args .at) (c .before .before .before .before .before .before .before .before .before .args .bytes .now) (c .before .before .before .before .before .before .before .before .before .args .out .now) (c .before .before .before .before .enum-told12 .given .1)
+    let a = c .before .before .before .before .before .before .before .before .before .args in
+    at-command (a .rec) (chipOf (a .st) (a .array .now)) (a .at) (a .bytes .now) (a .out .now) (c .before .before .before .before .enum-told12 .given .1)
     (record { reply = c .before .before .wake .ensures .reply; cells = refl; out = c .before .before .wake .ensures .out })
 
 returns-13 : tie.Need-returns-13
 unfolding acceptedOf
 returns-13 c =
-    at-command (c .before .before .before .before .before .before .before .before .before .args .rec) (c .before .before .before .before .before .before .before .before .before .args .st) (c .before .before .before .before .before .before .before .before .before .args .array .now) (c .before .before .before .before .before .before .before .before .before .args .at) (c .before .before .before .before .before .before .before .before .before .args .bytes .now) (c .before .before .before .before .before .before .before .before .before .args .out .now) (c .before .before .before .before .enum-told13 .given .1)
+    let a = c .before .before .before .before .before .before .before .before .before .args in
+    at-command (a .rec) (chipOf (a .st) (a .array .now)) (a .at) (a .bytes .now) (a .out .now) (c .before .before .before .before .enum-told13 .given .1)
     (record { reply = c .before .before .read-maker .ensures .reply; cells = refl; out = c .before .before .read-maker .ensures .out })
 
 returns-14 : tie.Need-returns-14
 unfolding acceptedOf
 returns-14 c =
-    at-command (c .before .before .before .before .before .before .before .args .rec) (c .before .before .before .before .before .before .before .args .st) (c .before .before .before .before .before .before .before .args .array .now) (c .before .before .before .before .before .before .before .args .at) (c .before .before .before .before .before .before .before .args .bytes .now) (c .before .before .before .before .before .before .before .args .out .now) (c .before .before .enum-told14 .given .1)
-    (record { reply = c .quiet4 .ensures ∙ ap (quiet Done) (c .before .doze .ensures); cells = refl; out = refl })
+    let a = c .before .before .before .before .before .before .args in
+    at-command (a .rec) (chipOf (a .st) (a .array .now)) (a .at) (a .bytes .now) (a .out .now) (c .before .enum-told14 .given .1)
+    (record { reply = c .sleep .ensures; cells = refl; out = refl })
 
 returns-15 : tie.Need-returns-15
 unfolding acceptedOf
 returns-15 c =
-    at-command (c .before .before .before .before .before .before .args .rec) (c .before .before .before .before .before .before .args .st) (c .before .before .before .before .before .before .args .array .now) (c .before .before .before .before .before .before .args .at) (c .before .before .before .before .before .before .args .bytes .now) (c .before .before .before .before .before .before .args .out .now) (c .before .enum-told15 .given .1)
-    (record { reply = c .quiet5 .ensures; cells = refl; out = refl })
+    let a = c .before .before .before .before .before .before .args in
+    at-command (a .rec) (chipOf (a .st) (a .array .now)) (a .at) (a .bytes .now) (a .out .now) (c .before .enum-told15 .given .1)
+    (record { reply = c .quiet .ensures; cells = refl; out = refl })
 
 pub accepted-spec : {M : Type 1} → statement M
 accepted-spec =
@@ -135,15 +147,11 @@ accepted-spec =
     (tie.spec
     (λ c. search needs)
     (λ c κs. search needs)
-    (λ c κs. search needs)
     (λ c. search needs)
-    (λ c κs. search needs)
     (λ c κs. search needs)
     (λ c. search needs)
     read-status-requires
     (λ c. search needs)
-    (λ c κs. search needs)
-    (λ c κs. search needs)
     (λ c κs. search needs)
     (λ c. search needs)
     read-from-requires
@@ -164,7 +172,6 @@ accepted-spec =
     (λ c. search needs)
     read-maker-requires
     (λ c. search needs)
-    (λ c κs. search needs)
     (λ c κs. search needs)
     (λ c. search needs)
     (λ c κs. search needs)

@@ -1,17 +1,18 @@
 -- `feed::feed` meets its contract. Assumes nothing.
-use mathlib.Core.Path.{_≡_, refl, sym, _∙_}
+use mathlib.Core.Path.{_≡_, refl, _∙_}
 use mathlib.Core.Logic.{inl, inr}
-use Prim.Native.Nat.{_-_, _+_, _≤_, _<_}
+use Prim.Native.Nat.{_-_, _<_}
 use native.Mathlib.Omega.{arith}
 use lib.ListN.{length}
 use borrow.Author.Needs.{needs}
-use Rattle.feed.proofs.Feeds.{Going, going-none, going-ready, going-on, going-fed}
+use Rattle.feed.specs.Feed.{standing}
+use Rattle.feed.proofs.Feeds.{Feeding, feeding-none, feeding-ready, feeding-on, turn-on, feeding-fed}
 use Rattle.feed.proofs.feed.Statement.{statement}
 use Rattle.feed.proofs.feed.Tie as tie
 
 abbrev Inv-loop : tie.InvT-loop
 Inv-loop rec held₀ block array₀ log₀ run₀ at₀ held array log run at =
-    (at ≡ run .at) × (length array ≡ length array₀) × Going rec run₀ held₀ block array₀ log₀ run held array log
+    (at ≡ run .at) × (length array ≡ length array₀) × (length log ≡ length log₀) × Feeding rec block (standing run₀ held₀ array₀ log₀) (standing run held array log)
 
 abbrev μ-loop : tie.MeasureT-loop
 μ-loop rec held₀ block array₀ log₀ run₀ at₀ held array log run at = length block - at
@@ -20,35 +21,36 @@ loop-holds : tie.Need-loop-holds Inv-loop μ-loop
 loop-holds c =
     let s = c .before .before .before .before in
     let a = s .args in
-    (refl, refl, going-none (a .rec) (a .first) (a .held .now) (a .block .now) (a .array .now) (a .log .now) (s .pre))
+    (refl, refl, refl, feeding-none (a .rec) (a .first) (a .held .now) (a .block .now) (a .array .now) (a .log .now) (s .pre))
 
 sub-if1 : tie.Need-sub-if1 Inv-loop μ-loop
-sub-if1 c = omega (arith, c .before .loop .inv .2 .within, c .before .loop .inv .2 .same)
+sub-if1 c = c .before .loop .inv .3 .ready .within
 
 returns : tie.Need-returns Inv-loop μ-loop
-returns c = going-fed (c .before .before .loop .inv .2) (inr (omega arith))
+returns c = feeding-fed (c .before .before .loop .inv .3) (inr (omega arith))
 
 turn-requires : tie.Need-turn-requires Inv-loop μ-loop
 turn-requires c κs =
     let h = c .before .before .before .before .before .loop in
     let l : h .run .at < length (c .before .before .before .before .before .before .before .before .before .before .args .block .now) = omega (arith, h .inv .0) in
-    going-ready (h .inv .2) l (omega arith)
+    feeding-ready (h .inv .3) l (omega arith)
 
 loop-less : tie.Need-loop-less Inv-loop μ-loop
 loop-less c =
     let h = c .before .before .before .before .before .before .before .before .before .before .before .before .loop in
-    omega (arith, h .inv .0, c .before .before .before .before .before .before .turn .ensures .on)
+    let a = c .before .before .before .before .before .before .before .before .before .before .before .before .before .before .before .before .before .args in
+    let p = feeding-ready (h .inv .3) (omega (arith, h .inv .0)) (omega arith) in
+    omega (arith, h .inv .0, turn-on (a .rec) (a .block .now) (standing (h .run) (h .held) (h .array) (h .log)) p (c .before .before .before .before .before .before .turn .ensures))
 
 loop-again : tie.Need-loop-again Inv-loop μ-loop
 loop-again c =
     let h = c .before .before .before .before .before .before .before .before .before .before .before .before .loop in
     let t = c .before .before .before .before .before .before .turn in
-    let g = h .inv .2 in
-    let r : h .run .filled + 665 ≤ length (h .log) = omega (arith, g .within, g .same) in
-    (refl, t .kept .1 .1 .1 .1 .0 ∙ h .inv .1, going-on g r (t .kept .1 .1 .1 .1 .1 .0) (t .ensures))
+    let p = feeding-ready (h .inv .3) (omega (arith, h .inv .0)) (omega arith) in
+    (refl, t .kept .1 .1 .1 .1 .0 ∙ h .inv .1, t .kept .1 .1 .1 .1 .1 .0 ∙ h .inv .2, feeding-on (h .inv .3) p (t .ensures))
 
 returns-2 : tie.Need-returns-2 Inv-loop μ-loop
-returns-2 c = going-fed (c .before .loop .inv .2) (inl (omega (arith, c .before .loop .inv .0)))
+returns-2 c = feeding-fed (c .before .loop .inv .3) (inl (omega (arith, c .before .loop .inv .0)))
 
 pub feed-spec : {M : Type 1} → statement M
 feed-spec =

@@ -1,7 +1,6 @@
 -- `feed::finish` meets its contract. Assumes nothing.
-use native.Mathlib.Omega.{arith}
 use Rattle.feed.proofs.Turns.{front}
-use Rattle.feed.proofs.Feeds.{finished-none, finished-line}
+use Rattle.feed.proofs.Feeds.{ends-none, ends-line}
 use borrow.Author.Needs.{needs}
 use Rattle.feed.proofs.finish.Statement.{statement}
 use Rattle.feed.proofs.finish.Tie as tie
@@ -10,13 +9,13 @@ returns : tie.Need-returns
 returns c =
     let s = c .before .before .before .before .before in
     let a = s .args in
-    finished-none (a .rec) (a .run) (a .held .now) (a .array .now) (a .log .now) (s .pre .0) (c .if1 .taken) (omega (arith, s .pre .2))
+    ends-none (a .rec) (a .run) (a .held .now) (a .array .now) (a .log .now) (c .if1 .taken)
 
 returns-2 : tie.Need-returns-2
 returns-2 c =
     let s = c .before .before .before .before .before .before .before .before .before .before .before .before .before in
     let a = s .args in
-    finished-line (a .rec) (a .run) (a .held .now) (a .array .now) (a .log .now) (s .pre .0) (c .before .before .before .before .before .before .before .before .if1 .left) (front (a .run .used) (a .held .now)) (s .pre .2) (c .before .before .before .before .log-line .ensures)
+    ends-line (a .rec) (a .run) (a .held .now) (a .array .now) (a .log .now) (c .before .before .before .before .before .before .before .before .if1 .left) (front (a .run .used) (a .held .now)) (c .before .before .before .before .log-line .ensures)
 
 pub finish-spec : {M : Type 1} → statement M
 finish-spec =

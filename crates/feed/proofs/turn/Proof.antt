@@ -1,9 +1,9 @@
 -- `feed::turn` meets its contract. Assumes nothing.
-use mathlib.Core.Path.{_≡_, sym, _∙_}
+use mathlib.Core.Path.{_≡_, refl, sym, ap, _∙_}
 use native.Mathlib.Omega.{arith}
-use lib.ListN.{length}
+use lib.ListN.{length, take}
 use Rattle.lines.proofs.Says.{here-in, joined-in}
-use Rattle.feed.proofs.Turns.{front, turned-here, turned-joined, turned-open}
+use Rattle.feed.proofs.Turns.{front, line-done, at-cut}
 use borrow.Author.Needs.{needs}
 use Rattle.feed.proofs.turn.Statement.{statement}
 use Rattle.feed.proofs.turn.Tie as tie
@@ -53,21 +53,24 @@ add-line-done-2 c =
 
 returns : tie.Need-returns
 returns c =
-    let s = c .before .before .before .before .before .before .before .before .before .before .before .before .before .before .before .before .before .before .before .before .before in
-    let a = s .args in
-    turned-here (a .rec) (a .run) (a .held .now) (a .block .now) (a .array .now) (a .log .now) (s .pre) (c .before .before .before .before .before .before .before .before .before .before .before .before .before .before .cut-line .ensures) (c .before .before .before .before .before .before .before .before .before .before .cut .given .1) (c .before .before .before .before .before .before .before .before .before .before .before .before .before .before .cut-line .kept .0) (c .before .before .before .before .before .log-line .ensures) (c .line-done .ensures)
+    let a = c .before .before .before .before .before .before .before .before .before .before .before .before .before .before .before .before .before .before .before .before .before .args in
+    let cut = c .before .before .before .before .before .before .before .before .before .before .before .before .before .before .cut-line .ensures in
+    at-cut (a .rec) (a .run) (a .held .now) (a .block .now) (a .array .now) (a .log .now) cut (c .before .before .before .before .before .before .before .before .before .before .cut .given .1)
+    (line-done (a .rec) (a .run) (a .held .now) (a .array .now) (a .log .now) refl (cut .kept) (c .before .before .before .before .before .log-line .ensures) (c .line-done .ensures))
 
 returns-2 : tie.Need-returns-2
 returns-2 c =
-    let s = c .before .before .before .before .before .before .before .before .before .before .before .before .before .before .before .before .before .before .before .before .before .before in
-    let a = s .args in
-    turned-joined (a .rec) (a .run) (a .held .now) (a .block .now) (a .array .now) (a .log .now) (s .pre) (c .before .before .before .before .before .before .before .before .before .before .before .before .before .before .before .cut-line .ensures) (c .before .before .before .before .before .before .before .before .before .before .before .cut2 .given .1) (c .before .before .before .before .before .before .before .before .before .before .before .before .before .before .before .cut-line .kept .0) (front (c .before .before .before .before .before .before .before .before .before .before .before .cut2 .given .0 .0) (c .before .before .before .before .before .before .before .before .before .before .before .before .before .before .before .cut-line .last .0)) (c .before .before .before .before .before .log-line2 .ensures) (c .line-done2 .ensures)
+    let a = c .before .before .before .before .before .before .before .before .before .before .before .before .before .before .before .before .before .before .before .before .before .before .args in
+    let cut = c .before .before .before .before .before .before .before .before .before .before .before .before .before .before .before .cut-line .ensures in
+    let n = c .before .before .before .before .before .before .before .before .before .before .before .cut2 .given .0 .0 in
+    at-cut (a .rec) (a .run) (a .held .now) (a .block .now) (a .array .now) (a .log .now) cut (c .before .before .before .before .before .before .before .before .before .before .before .cut2 .given .1)
+    (line-done (a .rec) (a .run) (a .held .now) (a .array .now) (a .log .now) (front n (c .before .before .before .before .before .before .before .before .before .before .before .before .before .before .before .cut-line .last .0) ∙ ap (take n) (cut .kept)) (cut .kept) (c .before .before .before .before .before .log-line2 .ensures) (c .line-done2 .ensures))
 
 returns-3 : tie.Need-returns-3
 returns-3 c =
-    let s = c .before .before .before .before .before .before .before .before .before .before .before .before in
-    let a = s .args in
-    turned-open (a .rec) (a .run) (a .held .now) (a .block .now) (a .array .now) (a .log .now) (s .pre) (c .before .before .before .before .before .cut-line .ensures) (c .before .cut3 .given .1) (c .before .before .before .before .before .cut-line .kept .0)
+    let a = c .before .before .before .before .before .before .before .before .before .before .before .before .args in
+    let cut = c .before .before .before .before .before .cut-line .ensures in
+    at-cut (a .rec) (a .run) (a .held .now) (a .block .now) (a .array .now) (a .log .now) cut (c .before .cut3 .given .1) (record { run′ = refl; held′ = cut .kept; cells′ = refl; log′ = refl })
 
 pub turn-spec : {M : Type 1} → statement M
 turn-spec =

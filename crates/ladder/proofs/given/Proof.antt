@@ -1,20 +1,52 @@
--- `ladder::given` meets its contract. Assumes nothing.
-use Rattle.ladder.specs.Stages.{givenOf}
+-- `ladder::given` meets its contract: a fact a row passed, and a line a row that refuses. Assumes nothing.
+use mathlib.Core.Path.{_≡_, sym, ap, _∙_}
+use mathlib.Core.Bool.{true, false}
+use lib.Dec.{eqb}
 use borrow.Author.Needs.{needs}
+use borrow.Author.Tests.{not-true, not-false, eq-eqb, ne-eqb, lt-ltb, le-ltb}
+use Rattle.models.specs.Models.{modelOf}
+use Rattle.models.specs.declared.Model.{Model}
+use Rattle.states.specs.States.{recordOk, stateOk}
+use Rattle.ladder.specs.Stages.{givenOf}
 use Rattle.ladder.proofs.given.Statement.{statement}
 use Rattle.ladder.proofs.given.Tie as tie
 
+right : (c : tie.Else1) → recordOk (c .before .before .args .rec) ≡ true
+right c = sym (c .before .record-ok .ensures) ∙ not-false _ (c .if1 .left)
+
+whole : (c : tie.Else2) → eqb (c .before .before .before .before .before .before .args .head .cells) (modelOf (c .before .before .before .before .before .before .args .rec .model) .length) ≡ true
+whole c = eq-eqb _ _ (c .if2 .left ∙ ap (λ (m : Model). m .length) (c .before .before .before .model-of .ensures))
+
+valid : (c : tie.Else3) → stateOk (c .before .before .before .before .before .before .before .before .args .rec) (c .before .before .before .before .before .before .before .before .args .st) ≡ true
+valid c = sym (c .before .state-ok .ensures) ∙ not-false _ (c .if3 .left)
+
 returns : tie.Need-returns
 unfolding givenOf
-returns c = rw (c .given-rungs .ensures, c .before .before .before .before .record-ok .ensures, c .before .before .before .before .before .model-of .ensures, c .before .before .state-ok .ensures)
+returns c = let e : recordOk (c .before .before .args .rec) ≡ false = sym (c .before .record-ok .ensures) ∙ not-true _ (c .if1 .taken) in rw e
+
+returns-2 : tie.Need-returns-2
+unfolding givenOf
+returns-2 c = rw (right (c .before .before .before .before), ← (ap (λ (m : Model). m .length) (c .before .before .before .model-of .ensures)), ne-eqb _ _ (c .if2 .taken))
+
+returns-3 : tie.Need-returns-3
+unfolding givenOf
+returns-3 c =
+    let e = sym (c .before .state-ok .ensures) ∙ not-true _ (c .if3 .taken) in
+    rw (right (c .before .before .before .before .before .before), whole (c .before .before), e)
+
+returns-4 : tie.Need-returns-4
+unfolding givenOf
+returns-4 c = let l = c .before .before in rw (right (l .before .before .before .before .before .before), whole (l .before .before), valid l, c .if4 .taken)
+
+returns-5 : tie.Need-returns-5
+unfolding givenOf
+returns-5 c = let l = c .before .before .before .before in rw (right (l .before .before .before .before .before .before), whole (l .before .before), valid l, c .before .before .if4 .left, lt-ltb _ _ (c .if5 .taken))
+
+returns-6 : tie.Need-returns-6
+unfolding givenOf
+returns-6 c = let l = c .before .before .before .before in rw (right (l .before .before .before .before .before .before), whole (l .before .before), valid l, c .before .before .if4 .left, le-ltb _ _ (c .if5 .left))
 
 pub given-spec : {M : Type 1} → statement M
 given-spec =
     tie.close
-    (tie.spec
-    (λ c κs. search needs)
-    (λ c κs. search needs)
-    (λ c. search needs)
-    (λ c κs. search needs)
-    (λ c κs. search needs)
-    returns)
+    (tie.spec (λ c κs. search needs) returns (λ c κs. search needs) (λ c. search needs) returns-2 (λ c κs. search needs) returns-3 returns-4 returns-5 returns-6)

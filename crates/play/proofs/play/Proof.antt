@@ -3,6 +3,7 @@ use mathlib.Core.Path.{refl, ap, _∙_}
 use Rattle.play.specs.Play.{passedOf, turnOf}
 use Rattle.play.proofs.Laws.{at-line}
 use borrow.Author.Needs.{needs}
+use Rattle.chip.specs.Frames.{chipOf}
 use Rattle.play.proofs.play.Statement.{statement}
 use Rattle.play.proofs.play.Tie as tie
 
@@ -10,25 +11,25 @@ returns : tie.Need-returns
 unfolding turnOf
 returns c =
     let a = c .before .before .before .before .before .before .before .before .before .before .before .before .before .before .args in
-    at-line (a .rec) (a .st) (a .array .now) (a .shown .now) (a .line .now) (c .before .before .before .before .before .before .before .before .before .before .read-line .ensures .is) _ (c .before .before .before .before .before .before .before .before .said .given .1) (c .before .before .before .before .play-frame .ensures)
+    at-line (a .rec) (chipOf (a .st) (a .array .now)) (a .shown .now) (a .line .now) (c .before .before .before .before .before .before .before .before .before .before .read-line .ensures .is) _ (c .before .before .before .before .before .before .before .before .said .given .1) (c .before .before .before .before .play-frame .ensures)
 
 returns-2 : tie.Need-returns-2
 unfolding turnOf
 returns-2 c =
     let a = c .before .before .before .before .before .before .before .before .before .args in
-    at-line (a .rec) (a .st) (a .array .now) (a .shown .now) (a .line .now) (c .before .before .before .before .before .read-line .ensures .is) _ (c .before .before .before .said2 .given .1) (record { played = c .passed .ensures ∙ ap passedOf (c .before .waited .ensures); cells = refl; shown = refl })
+    at-line (a .rec) (chipOf (a .st) (a .array .now)) (a .shown .now) (a .line .now) (c .before .before .before .before .before .read-line .ensures .is) _ (c .before .before .before .said2 .given .1) (record { played = c .passed .ensures ∙ ap passedOf (c .before .wait .ensures); cells = refl; shown = refl })
 
 returns-3 : tie.Need-returns-3
 unfolding turnOf
 returns-3 c =
     let a = c .before .before .before .before .before .before .before .before .args in
-    at-line (a .rec) (a .st) (a .array .now) (a .shown .now) (a .line .now) (c .before .before .before .before .read-line .ensures .is) _ (c .before .before .enum-told .given .1) (record { played = c .passed2 .ensures ∙ ap passedOf (c .before .cycled .ensures); cells = refl; shown = refl })
+    at-line (a .rec) (chipOf (a .st) (a .array .now)) (a .shown .now) (a .line .now) (c .before .before .before .before .read-line .ensures .is) _ (c .before .before .enum-told .given .1) (record { played = c .passed2 .ensures ∙ ap passedOf (c .before .power-cycle .ensures); cells = refl; shown = refl })
 
 returns-4 : tie.Need-returns-4
 unfolding turnOf
 returns-4 c =
     let a = c .before .before .before .before .before .before .args in
-    at-line (a .rec) (a .st) (a .array .now) (a .shown .now) (a .line .now) (c .before .before .read-line .ensures .is) _ (c .enum-told2 .given .1) (record { played = refl; cells = refl; shown = refl })
+    at-line (a .rec) (chipOf (a .st) (a .array .now)) (a .shown .now) (a .line .now) (c .before .before .read-line .ensures .is) _ (c .enum-told2 .given .1) (record { played = refl; cells = refl; shown = refl })
 
 pub play-spec : {M : Type 1} → statement M
 play-spec =

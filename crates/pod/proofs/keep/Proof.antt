@@ -2,7 +2,7 @@
 use mathlib.Core.Path.{_≡_, sym, _∙_}
 use mathlib.Core.Bool.{true, false}
 use borrow.Author.Tests.{eq-eqb, ne-eqb}
-use Rattle.rules.specs.Answers.{isDone}
+use Rattle.answers.specs.Answers.{isDone}
 use Rattle.pod.specs.Calls.{keptOf}
 use borrow.Author.Needs.{needs}
 use Rattle.pod.proofs.keep.Statement.{statement}

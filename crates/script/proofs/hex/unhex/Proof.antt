@@ -6,14 +6,14 @@ use native.Mathlib.Omega.{arith}
 use denote.Ref.{now}
 use lib.ListN.{length, take, drop, getD, length-set}
 use borrow.Author.Needs.{needs}
-use Rattle.script.specs.Hex.{bytesOf, nibbleOf}
-use Rattle.script.proofs.HexLaws.{length-bytesOf, getD-bytesOf, front-more, unhexed-count}
+use Rattle.script.specs.Hex.{hexBytes, nibbleOf}
+use Rattle.script.proofs.HexLaws.{length-hexBytes, getD-hexBytes, front-more, unhexed-count}
 use Rattle.script.proofs.hex.unhex.Statement.{statement}
 use Rattle.script.proofs.hex.unhex.Tie as tie
 
 abbrev Inv-loop : tie.InvT-loop
 Inv-loop digits out₀ n k₀ out k =
-    (k ≤ n) × (n ≤ length digits / 2) × (n ≤ length out₀) × (length out ≡ length out₀) × (out ≡ take k (bytesOf digits) ++ drop k out₀)
+    (k ≤ n) × (n ≤ length digits / 2) × (n ≤ length out₀) × (length out ≡ length out₀) × (out ≡ take k (hexBytes digits) ++ drop k out₀)
 
 abbrev μ-loop : tie.MeasureT-loop
 μ-loop digits out₀ n k₀ out k = n - k
@@ -28,16 +28,16 @@ loop-again c =
     let g = a .before .before .before .before .args in
     let s = now (g .digits) in
     let k = a .loop .k in
-    let n = length-bytesOf s in
-    let l : k < length (bytesOf s) = omega arith in (
+    let n = length-hexBytes s in
+    let l : k < length (hexBytes s) = omega arith in (
       omega arith,
       h .1,
       h .2,
       simp length-set (h .3),
-      front-more (bytesOf s) (now (g .out)) (a .loop .out) k _ (h .4) l (omega arith)
+      front-more (hexBytes s) (now (g .out)) (a .loop .out) k _ (h .4) l (omega arith)
           (ap (λ (x : ℕ). x * 16 + c .nibble2 .result) (c .before .before .nibble .ensures .0)
           ∙ ap (λ (x : ℕ). nibbleOf (getD s (2 * k) 0) * 16 + x) (c .nibble2 .ensures .0)
-          ∙ getD-bytesOf s k l),
+          ∙ getD-hexBytes s k l),
     )
 
 returns : tie.Need-returns Inv-loop μ-loop
@@ -48,7 +48,7 @@ returns c =
     let k : a .loop .k ≡ r = omega arith in
     record {
       count = unhexed-count (now (g .digits)) (now (g .out)) r (a .before .least .ensures);
-      is = a .loop .inv .4 ∙ ap (λ (n : ℕ). take n (bytesOf (now (g .digits))) ++ drop n (now (g .out))) k;
+      is = a .loop .inv .4 ∙ ap (λ (n : ℕ). take n (hexBytes (now (g .digits))) ++ drop n (now (g .out))) k;
       within = omega arith;
     }
 

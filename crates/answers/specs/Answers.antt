@@ -1,0 +1,26 @@
+-- The answers and their numbers: 01, "Numbers returned, in order of checking". Assumes nothing.
+use mathlib.Core.Bool.{Bool}
+use Prim.Native.Nat.{ℕ}
+use lib.Dec.{eqb}
+use Rattle.answers.specs.declared.Answer.{Answer}
+use Rattle.answers.specs.declared.Answer.the-variants.{Done, BadRecord, BadArray, BadState, BadFrame, ShortOut, Empty, Busy, Asleep, NoCommand, BadLength, NotEnabled, Locked, Protected}
+
+abbrev pub numberOf : Answer → ℕ
+numberOf Done = 0
+numberOf BadRecord = 1
+numberOf BadArray = 2
+numberOf BadState = 3
+numberOf BadFrame = 4
+numberOf ShortOut = 5
+numberOf Empty = 10
+numberOf Busy = 11
+numberOf Asleep = 12
+numberOf NoCommand = 13
+numberOf BadLength = 14
+numberOf NotEnabled = 15
+numberOf Locked = 16
+numberOf Protected = 17
+
+-- nothing was refused
+abbrev pub isDone : Answer → Bool
+isDone a = eqb (numberOf a) 0

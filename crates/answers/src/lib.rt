@@ -1,0 +1,50 @@
+// What a call is answered, and the numbers of the answers.
+ghost use mathlib.Core.Path.{_≡_};
+ghost use Rattle.answers.specs.Answers.{numberOf, isDone};
+
+// What a call is answered: 0, or the first refusal that applies.
+pub enum Answer {
+    Done,
+    BadRecord,
+    BadArray,
+    BadState,
+    BadFrame,
+    ShortOut,
+    Empty,
+    Busy,
+    Asleep,
+    NoCommand,
+    BadLength,
+    NotEnabled,
+    Locked,
+    Protected,
+}
+
+// The answer's number in the table of refusals.
+pub fn number_of(a: Answer) -> u32
+    ensures { λ r. ⌜ r ≡ numberOf a ⌝ }
+{
+    match a {
+        Answer::Done => 0,
+        Answer::BadRecord => 1,
+        Answer::BadArray => 2,
+        Answer::BadState => 3,
+        Answer::BadFrame => 4,
+        Answer::ShortOut => 5,
+        Answer::Empty => 10,
+        Answer::Busy => 11,
+        Answer::Asleep => 12,
+        Answer::NoCommand => 13,
+        Answer::BadLength => 14,
+        Answer::NotEnabled => 15,
+        Answer::Locked => 16,
+        Answer::Protected => 17,
+    }
+}
+
+// Whether the call is not refused.
+pub fn is_done(a: Answer) -> bool
+    ensures { λ r. ⌜ r ≡ isDone a ⌝ }
+{
+    number_of(a) == 0
+}

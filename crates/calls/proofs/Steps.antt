@@ -1,0 +1,245 @@
+-- Laws of single calls of the model, and how calls compose. Assumes nothing.
+use mathlib.Core.Path.{_≡_, refl, ap, subst, _∙_}
+use mathlib.Core.Bool.{Bool, true, false, not, _&&_, _||_, and-false}
+use mathlib.Core.List.{List, [], _∷_, _++_}
+use Prim.Native.Nat.{ℕ, suc, _+_, _-_, _≤_, _<_}
+use native.Mathlib.Omega.{arith}
+use lib.Dec.{leb, ltb, lit≤, eqb·suc-zero}
+use lib.ListN.{length, getD, drop, replicate}
+use borrow.Author.Tests.{eq-eqb, ne-eqb, le-ltb, leb-true}
+use Rattle.units.specs.declared.Address.{Address}
+use Rattle.units.specs.declared.Block.{Block}
+use Rattle.units.specs.Kinds.{blockOf}
+use Rattle.models.specs.Models.{modelOf, addressOf, rangeOf, isProtected}
+use Rattle.models.proofs.Rules.{range-rules}
+use Rattle.parts.proofs.Lay.{lay-none}
+use Rattle.answers.specs.Answers.{isDone}
+use Rattle.commands.specs.Commands.{decodeOf, traitsOf, lengthOk}
+use Rattle.commands.specs.declared.Command.the-variants.{Read, Program}
+use Rattle.commands.proofs.Rows.{between, least-on}
+use Rattle.states.specs.States.{recordOk, stateOk}
+use Rattle.states.specs.declared.Record.{Record}
+use Rattle.states.specs.declared.State.{State}
+use Rattle.answers.specs.declared.Answer.{Answer}
+use Rattle.answers.specs.declared.Answer.the-variants.{Done, Busy}
+use Rattle.states.proofs.States.{sound, valid}
+use Rattle.ladder.specs.Ladder.{ladder, refusalOf}
+use Rattle.ladder.specs.declared.Head.{Head}
+use Rattle.ladder.proofs.Passed.{Clear, unrefused}
+use Rattle.time.specs.declared.After.{After}
+use Rattle.effects.specs.Effects.{Effect, stateOnly, changed, shown, drives, latched, dozing, written, writeEnable, writeStatus, eraseSector, eraseBlock, eraseChip, programPage, readFrom, wake}
+use Rattle.chip.specs.Frames.{Chip, Sent, chipOf, headFor, headOf, acceptedOf, refusedOf, frameOf}
+use Rattle.time.specs.Time.{later, ifValid, waitOf}
+use Rattle.calls.specs.Calls.{Call, sends, waits, cycles, ours, left, after, answer, run, answers, Bench, Roomy, frame}
+use Rattle.calls.proofs.Valid.{call-sound, call-length}
+
+-- ---- a frame on a bench
+module _ (rec : Record) (x : Chip) (b : Bench rec x) (f : Sent) where
+  abbrev h : Head
+  h = headOf rec x f
+
+  -- the first five rows of the table ask for a bench, a short enough frame and room; where the others stop nothing it is accepted
+  pub taken : length (f .bytes) ≤ 65541 → f .tail ≤ 7 → Roomy f → Clear (drop 5 (ladder rec (x .state) h (traitsOf (h .command))))
+      → frameOf rec x f ≡ acceptedOf rec x (h .command) (h .address) (f .bytes) (f .out)
+  unfolding frameOf refusalOf headFor
+  taken l t r c =
+      let long : (ltb 65541 (length (f .bytes)) || ltb 7 (f .tail)) ≡ false = rw (le-ltb 65541 (length (f .bytes)) l, le-ltb 7 (f .tail) t) in
+      rw (unrefused (ladder rec (x .state) h (traitsOf (h .command)))
+      (ap not (b .right), (ap not (eq-eqb (length (x .cells)) (modelOf (rec .model) .length) (b .whole)), (ap not (b .valid), (long, (le-ltb (length (f .out)) (length (f .bytes)) r, c))))))
+
+  -- on a busy chip it is answered 11, unless its command is taken while busy
+  busy-refusal : 0 < x .state .busy → 0 < length (f .bytes) → length (f .bytes) ≤ 65541 → f .tail ≤ 7 → Roomy f
+      → traitsOf (decodeOf (getD (f .bytes) 0 0)) .«while_busy» ≡ false → refusalOf rec (x .state) h ≡ Busy
+  unfolding refusalOf headFor
+  busy-refusal busy some l t r w =
+      rw (
+        b .right,
+        eq-eqb (length (x .cells)) (modelOf (rec .model) .length) (b .whole),
+        b .valid,
+        le-ltb 65541 (length (f .bytes)) l,
+        le-ltb 7 (f .tail) t,
+        le-ltb (length (f .out)) (length (f .bytes)) r,
+        ne-eqb (length (f .bytes)) 0 (λ z. omega arith),
+        ne-eqb (x .state .busy) 0 (λ z. omega arith),
+        w,
+      )
+
+-- a refused frame changes nothing
+pub refused-frame : (rec : Record) (x : Chip) (f : Sent) (a : Answer) → refusalOf rec (x .state) (headOf rec x f) ≡ a → isDone a ≡ false
+    → frameOf rec x f ≡ refusedOf a x f
+unfolding frameOf
+refused-frame rec x f a e d = rw (e, d)
+
+pub while-busy : (rec : Record) (x : Chip) (b : Bench rec x) (bytes out : List ℕ) → 0 < x .state .busy
+    → 0 < length bytes → length bytes ≤ 65541 → Roomy (frame bytes out) → traitsOf (decodeOf (getD bytes 0 0)) .«while_busy» ≡ false
+    → answer ours rec [] (sends (frame bytes out)) x ≡ Busy
+unfolding answer
+while-busy rec x b bytes out busy some l r w =
+    ap (λ (e : Effect). e .reply .answer)
+    (refused-frame rec x (frame bytes out) Busy (busy-refusal rec x b (frame bytes out) busy some l (lit≤ tt) r w) refl)
+
+-- at BP 0 no block is protected
+pub unprotected : (n : ℕ) (b : Block) → isProtected n 0 b ≡ false
+unfolding isProtected
+unprotected n b = go (leb (rangeOf n 0 .0) (b .0)) refl
+  where
+    none : rangeOf n 0 .1 ≡ 0
+    none = range-rules n 0 (omega arith) .none refl
+
+    go : (t : Bool) → leb (rangeOf n 0 .0) (b .0) ≡ t → (t && ltb (b .0) (rangeOf n 0 .0 + rangeOf n 0 .1)) ≡ false
+    go true e = le-ltb (b .0) (rangeOf n 0 .0 + rangeOf n 0 .1) (omega (arith, none, leb-true (rangeOf n 0 .0) (b .0) e))
+    go false e = refl
+
+-- the last eight tests of the table, by name
+pub tests : {a b c d e f g h : Bool} → a ≡ false → b ≡ false → c ≡ false → d ≡ false → e ≡ false → f ≡ false → g ≡ false → h ≡ false
+    → (a ≡ false) × ((b ≡ false) × ((c ≡ false) × ((d ≡ false) × ((e ≡ false) × ((f ≡ false) × ((g ≡ false) × ((h ≡ false) × Unit {0})))))))
+tests a b c d e f g h = (a, (b, (c, (d, (e, (f, (g, (h, tt))))))))
+
+-- ---- the frames of the list
+module _ (rec : Record) (x : Chip) (b : Bench rec x) (z : x .state .busy ≡ 0) (out : List ℕ) where
+  pub wake-taken : 1 ≤ length out → frameOf rec x (frame (0xAB ∷ []) out) ≡ stateOnly Done (dozing (x .state) false) (x .cells) out
+  unfolding acceptedOf decodeOf traitsOf headFor lengthOk wake drives
+  wake-taken r =
+      taken rec x b (frame (0xAB ∷ []) out) (lit≤ tt) (lit≤ tt) r
+      (tests refl (rw (eq-eqb (x .state .busy) 0 z)) (and-false (x .state .asleep)) refl refl refl refl refl)
+      ∙ rw (lay-none out 4)
+
+  pub enable-taken : x .state .asleep ≡ false → 1 ≤ length out
+      → frameOf rec x (frame (0x06 ∷ []) out) ≡ stateOnly Done (latched (x .state) true) (x .cells) out
+  unfolding acceptedOf writeEnable decodeOf traitsOf headFor lengthOk
+  enable-taken a r =
+      taken rec x b (frame (0x06 ∷ []) out) (lit≤ tt) (lit≤ tt) r
+      (tests refl (rw (eq-eqb (x .state .busy) 0 z)) (rw a) refl refl refl refl refl)
+
+  pub write-taken : (v : ℕ) → x .state .asleep ≡ false → x .state .wel ≡ true → 2 ≤ length out
+      → frameOf rec x (frame (0x01 ∷ v ∷ []) out) ≡ stateOnly Done (written (x .state) v (rec .«status_write»)) (x .cells) out
+  unfolding acceptedOf writeStatus decodeOf traitsOf headFor lengthOk
+  write-taken v a w r =
+      taken rec x b (frame (0x01 ∷ v ∷ []) out) (lit≤ tt) (lit≤ tt) r
+      (tests refl (rw (eq-eqb (x .state .busy) 0 z)) (rw a) refl refl (rw w) (and-false (x .state .srwd)) refl)
+
+  module _ (high middle low : ℕ) where
+    abbrev pub to : Address
+    to = addressOf (rec .model) high middle low
+
+    pub erase-taken : x .state .asleep ≡ false → x .state .wel ≡ true → x .state .bp ≡ 0 → 4 ≤ length out
+        → frameOf rec x (frame (0x20 ∷ high ∷ middle ∷ low ∷ []) out) ≡ changed out (eraseSector rec (x .state) (x .cells) to)
+    unfolding acceptedOf decodeOf traitsOf headFor lengthOk
+    erase-taken a w p r =
+        taken rec x b (frame (0x20 ∷ high ∷ middle ∷ low ∷ []) out) (lit≤ tt) (lit≤ tt) r
+        (tests refl (rw (eq-eqb (x .state .busy) 0 z)) (rw a) refl refl (rw w) refl (rw (p, unprotected (rec .model) (blockOf to))))
+
+    pub program-taken : (sent : List ℕ) → x .state .asleep ≡ false → x .state .wel ≡ true → x .state .bp ≡ 0
+        → 1 ≤ length sent → 4 + length sent ≤ 65541 → Roomy (frame (0x02 ∷ high ∷ middle ∷ low ∷ sent) out)
+        → frameOf rec x (frame (0x02 ∷ high ∷ middle ∷ low ∷ sent) out)
+        ≡ changed out (programPage rec (x .state) (x .cells) to (0x02 ∷ high ∷ middle ∷ low ∷ sent))
+    unfolding acceptedOf decodeOf traitsOf headFor lengthOk
+    program-taken sent a w p n l r =
+        taken rec x b (frame (0x02 ∷ high ∷ middle ∷ low ∷ sent) out) (omega arith) (lit≤ tt) r
+        (tests (eqb·suc-zero (suc (suc (suc (length sent))))) (rw (eq-eqb (x .state .busy) 0 z)) (rw a) refl (ap not (between (traitsOf Program) (suc (suc (suc (suc (length sent))))) (omega arith) (omega arith))) (rw w) refl
+        (rw (p, unprotected (rec .model) (blockOf to))))
+
+    pub read-taken : (more : List ℕ) → x .state .asleep ≡ false → 4 + length more ≤ 65541 → Roomy (frame (0x03 ∷ high ∷ middle ∷ low ∷ more) out)
+        → frameOf rec x (frame (0x03 ∷ high ∷ middle ∷ low ∷ more) out)
+        ≡ shown (x .cells) (readFrom 4 (x .state) (x .cells) to (0x03 ∷ high ∷ middle ∷ low ∷ more) out)
+    unfolding acceptedOf decodeOf traitsOf headFor lengthOk
+    read-taken more a l r =
+        taken rec x b (frame (0x03 ∷ high ∷ middle ∷ low ∷ more) out) (omega arith) (lit≤ tt) r
+        (tests (eqb·suc-zero (suc (suc (suc (length more))))) (rw (eq-eqb (x .state .busy) 0 z)) (rw a) refl (ap not (least-on (traitsOf Read) (suc (suc (suc (suc (length more))))) 0 (omega arith))) refl refl refl)
+
+    -- the other operations, for a chip that waits too short a time after them
+    pub block-taken : x .state .asleep ≡ false → x .state .wel ≡ true → x .state .bp ≡ 0 → 4 ≤ length out
+        → frameOf rec x (frame (0xD8 ∷ high ∷ middle ∷ low ∷ []) out) ≡ changed out (eraseBlock rec (x .state) (x .cells) to)
+    unfolding acceptedOf decodeOf traitsOf headFor lengthOk
+    block-taken a w p r =
+        taken rec x b (frame (0xD8 ∷ high ∷ middle ∷ low ∷ []) out) (lit≤ tt) (lit≤ tt) r
+        (tests refl (rw (eq-eqb (x .state .busy) 0 z)) (rw a) refl refl (rw w) refl (rw (p, unprotected (rec .model) (blockOf to))))
+
+  pub chip-taken : x .state .asleep ≡ false → x .state .wel ≡ true → x .state .bp ≡ 0 → 1 ≤ length out
+      → frameOf rec x (frame (0xC7 ∷ []) out) ≡ changed out (eraseChip rec (x .state) (x .cells))
+  unfolding acceptedOf decodeOf traitsOf headFor lengthOk
+  chip-taken a w p r =
+      taken rec x b (frame (0xC7 ∷ []) out) (lit≤ tt) (lit≤ tt) r
+      (tests refl (rw (eq-eqb (x .state .busy) 0 z)) (rw a) refl refl (rw w) refl (rw p))
+
+-- ---- one call
+-- our model does not look at the calls seen
+pub answer-any : (rec : Record) (seen : List Call) (c : Call) (x : Chip) → answer ours rec seen c x ≡ answer ours rec [] c x
+unfolding answer
+answer-any rec seen (sends f) x = refl
+answer-any rec seen (waits us) x = refl
+answer-any rec seen cycles x = refl
+
+pub after-any : (rec : Record) (seen : List Call) (c : Call) (x : Chip) → after ours rec seen c x ≡ after ours rec [] c x
+unfolding after
+after-any rec seen (sends f) x = refl
+after-any rec seen (waits us) x = refl
+after-any rec seen cycles x = refl
+
+-- a call on a bench, answered 0, that leaves a bench
+pub record Step (rec : Record) (c : Call) (x y : Chip) : Type 0 where
+  pub done : answer ours rec [] c x ≡ Done
+  pub leads : after ours rec [] c x ≡ y
+  pub bench : Bench rec y
+
+pub wait-taken : (rec : Record) (s : State) (us : ℕ) → recordOk rec ≡ true → stateOk rec s ≡ true
+    → waitOf rec s us ≡ record { answer = Done; state = later s us }
+unfolding waitOf ifValid
+wait-taken rec s us a b = rw (a, b)
+
+module _ (rec : Record) (x : Chip) (b : Bench rec x) where
+  -- a bench stays one
+  bench-next : (c : Call) (y : Chip) → after ours rec [] c x ≡ y → Bench rec y
+  bench-next c y e =
+      subst (Bench rec) e
+      (record {
+        right = b .right;
+        whole = call-length rec [] c x ∙ b .whole;
+        valid = valid rec _ (call-sound rec [] c x (sound rec (x .state) (b .valid)));
+      })
+
+  step : (c : Call) (y : Chip) → answer ours rec [] c x ≡ Done → after ours rec [] c x ≡ y → Step rec c x y
+  step c y d e = record { done = d; leads = e; bench = bench-next c y e }
+
+  pub sends-to : (f : Sent) (e : Effect) → frameOf rec x f ≡ e → e .reply .answer ≡ Done → Step rec (sends f) x (left e)
+  unfolding answer after
+  sends-to f e p d = step (sends f) (left e) (ap (λ (g : Effect). g .reply .answer) p ∙ d) (ap left p)
+
+  -- to a state that the wait is known to lead to
+  pub waits-to : (us : ℕ) (s : State) → later (x .state) us ≡ s → Step rec (waits us) x (chipOf s (x .cells))
+  unfolding answer after
+  waits-to us s e =
+      let k = wait-taken rec (x .state) us (b .right) (b .valid) in
+      step (waits us) (chipOf s (x .cells)) (ap (λ (f : After). f .answer) k)
+      (ap (λ (f : After). chipOf (f .state) (x .cells)) k ∙ ap (λ (t : State). chipOf t (x .cells)) e)
+
+-- ---- calls one after the other
+-- a list of calls, each answered 0, and where it leads
+pub data Goes (rec : Record) : List Call → Chip → Chip → Type 0 where
+  ends : {x : Chip} → Goes rec [] x x
+  goes : {c : Call} {cs : List Call} {x y w : Chip} → Step rec c x y → Goes rec cs y w → Goes rec (c ∷ cs) x w
+
+pub goes-on : {rec : Record} {cs ds : List Call} {x y w : Chip} → Goes rec cs x y → Goes rec ds y w → Goes rec (cs ++ ds) x w
+goes-on ends h = h
+goes-on (goes a g) h = goes a (goes-on g h)
+
+pub goes-run : {rec : Record} {cs : List Call} {x w : Chip} (seen : List Call) → Goes rec cs x w → run ours rec seen cs x ≡ w
+goes-run seen ends = refl
+goes-run {rec} seen (goes {c} {cs} {x} a g) = ap (run ours rec (c ∷ seen) cs) (after-any rec seen c x ∙ a .leads) ∙ goes-run (c ∷ seen) g
+
+-- the answers of the calls, and of one more
+pub goes-then : {rec : Record} {cs : List Call} {x w : Chip} (seen : List Call) (k : Call) → Goes rec cs x w
+    → answers ours rec seen (cs ++ (k ∷ [])) x ≡ replicate (length cs) Done ++ (answer ours rec [] k w ∷ [])
+goes-then {rec} seen k (ends {x}) = ap (λ (a : Answer). a ∷ []) (answer-any rec seen k x)
+goes-then {rec} seen k (goes {c} {cs} {x} a g) =
+    ap (λ (b : Answer). b ∷ answers ours rec (c ∷ seen) (cs ++ (k ∷ [])) (after ours rec seen c x)) (answer-any rec seen c x ∙ a .done)
+    ∙ ap (λ (y : Chip). Done ∷ answers ours rec (c ∷ seen) (cs ++ (k ∷ [])) y) (after-any rec seen c x ∙ a .leads)
+    ∙ ap (λ (ds : List Answer). Done ∷ ds) (goes-then (c ∷ seen) k g)
+
+pub goes-answers : {rec : Record} {cs : List Call} {x w : Chip} (seen : List Call) → Goes rec cs x w
+    → answers ours rec seen cs x ≡ replicate (length cs) Done
+goes-answers seen ends = refl
+goes-answers {rec} seen (goes {c} {cs} {x} a g) =
+    ap (λ (d : Answer). d ∷ answers ours rec (c ∷ seen) cs (after ours rec seen c x)) (answer-any rec seen c x ∙ a .done)
+    ∙ ap (λ (y : Chip). Done ∷ answers ours rec (c ∷ seen) cs y) (after-any rec seen c x ∙ a .leads)
+    ∙ ap (λ (ds : List Answer). Done ∷ ds) (goes-answers (c ∷ seen) g)

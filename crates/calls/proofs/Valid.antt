@@ -1,0 +1,117 @@
+-- Every call leaves a valid state valid and the array as long as it was. Assumes nothing.
+use mathlib.Core.Path.{_≡_, refl}
+use mathlib.Core.Bool.{Bool, true, false, _&&_, _||_, cond, or-true}
+use mathlib.Core.List.{List}
+use mathlib.Core.Logic.{⊎-elim, _⊎_, inl, inr}
+use Prim.Native.Nat.{ℕ, _≤_, _-_, _/_}
+use native.Mathlib.Nat.{mod-lt}
+use native.Mathlib.Omega.{arith}
+use lib.Dec.{eqb, leb, ltb, lit<}
+use lib.ListN.{length}
+use borrow.Author.Tests.{leb-true, ltb-false}
+use Rattle.models.proofs.Table.{found}
+use Rattle.models.specs.Models.{Part, partOf, modelOf, models, kh25l512}
+use Rattle.states.specs.States.{recordOk, stateOk, longestOf, powerOn}
+use Rattle.states.specs.declared.Record.{Record}
+use Rattle.states.specs.declared.State.{State}
+use Rattle.answers.specs.declared.Answer.the-variants.{Done, BadState, BadRecord}
+use Rattle.states.proofs.States.{Sound}
+use Rattle.time.specs.declared.After.{After}
+use Rattle.effects.specs.Effects.{Effect, latched, dozing, working, written}
+use Rattle.chip.specs.Frames.{Chip, Sent, frameOf}
+use Rattle.chip.proofs.Sorts.{Move, stays, latches, dozes, works, writes, moves, changes-only}
+use Rattle.time.specs.Time.{later, cycled, ifValid, waitOf, powerOf}
+use Rattle.calls.specs.Calls.{Call, sends, waits, cycles, ours, after}
+use Rattle.chip.proofs.Cases.{frame-cases, sort, shown-ready, shown-asked}
+
+-- a status write gives a BP that every model has
+bpOfTwoBits : Part → Bool
+bpOfTwoBits p = leb 3 (p .row .«highest_bp»)
+
+two-bits : (n : ℕ) → 3 ≤ modelOf n .«highest_bp»
+unfolding partOf bpOfTwoBits
+two-bits n = leb-true 3 _ (found bpOfTwoBits n kh25l512 models refl refl)
+
+module _ (rec : Record) (s : State) (p : Sound rec s) where
+  -- the state of an idle chip may change its latch and fall asleep or wake
+  latched-sound : (b : Bool) → s .busy ≡ 0 → Sound rec (latched s b)
+  unfolding latched
+  latched-sound b z = record { level = p .level; time = p .time; mood = inl z }
+
+  dozing-sound : (b : Bool) → s .busy ≡ 0 → Sound rec (dozing s b)
+  unfolding dozing
+  dozing-sound b z = record { level = p .level; time = p .time; mood = inl z }
+
+  -- an operation starts: the latch is set, and the chip is awake
+  working-sound : (t : ℕ) → t ≤ longestOf rec → s .wel ≡ true → s .asleep ≡ false → Sound rec (working s t)
+  unfolding working
+  working-sound t l w d = record { level = p .level; time = l; mood = inr (w, d) }
+
+  written-sound : (b t : ℕ) → t ≤ longestOf rec → s .wel ≡ true → s .asleep ≡ false → Sound rec (written s b t)
+  unfolding written
+  written-sound b t l w d =
+      record { level = omega (arith, mod-lt (b / 4) {m = 4} (lit< tt), two-bits (rec .model)); time = l; mood = inr (w, d) }
+
+  pub later-sound : (us : ℕ) → Sound rec (later s us)
+  unfolding later
+  later-sound us =
+      record {
+        level = p .level;
+        time = omega (arith, p .time);
+        mood = ⊎-elim (λ z. inl (omega arith)) (λ q. go (ltb us (s .busy)) refl q) (p .mood);
+      }
+    where
+      go : (b : Bool) → ltb us (s .busy) ≡ b → (s .wel ≡ true) × (s .asleep ≡ false)
+          → (s .busy - us ≡ 0) ⊎ (((s .wel && (eqb (s .busy) 0 || ltb us (s .busy))) ≡ true) × (s .asleep ≡ false))
+      go true e q = inr (rw (q .0, e) (or-true (eqb (s .busy) 0)), q .1)
+      go false e q = inl (omega (arith, ltb-false us (s .busy) e))
+
+  cycled-sound : Sound rec (cycled s)
+  unfolding cycled
+  cycled-sound = record { level = p .level; time = omega arith; mood = inl refl }
+
+-- however an accepted command moves the state
+moved-sound : (rec : Record) (s : State) (p : Sound rec s) {t : State} → Move rec s t → Sound rec t
+moved-sound rec s p stays = p
+moved-sound rec s p (latches b z) = latched-sound rec s p b z
+moved-sound rec s p (dozes b z) = dozing-sound rec s p b z
+moved-sound rec s p (works t l w a) = working-sound rec s p t l w a
+moved-sound rec s p (writes b t l w a) = written-sound rec s p b t l w a
+
+-- a frame, whatever it is given
+module _ (rec : Record) (x : Chip) (f : Sent) where
+  frame-sound : Sound rec (x .state) → Sound rec (frameOf rec x f .reply .state)
+  frame-sound p =
+      frame-cases rec x f (λ (e : Effect). Sound rec (e .reply .state))
+      (λ d. moved-sound rec (x .state) p (moves (sort rec x f) (shown-asked rec x f d))) (λ d. p)
+
+  frame-length : length (frameOf rec x f .cells) ≡ length (x .cells)
+  frame-length =
+      frame-cases rec x f (λ (e : Effect). length (e .cells) ≡ length (x .cells))
+      (λ d. let r = shown-ready rec x f d in changes-only (sort rec x f) (r .inside) (r .whole) .long) (λ d. refl)
+
+if-valid-sound : (rec : Record) (s next : State) → Sound rec s → Sound rec next → Sound rec (ifValid rec s next .state)
+unfolding ifValid
+if-valid-sound rec s next p q = go (recordOk rec) (stateOk rec s)
+  where
+    go : (a b : Bool) → Sound rec (cond {A = After} a (cond b (record { answer = Done; state = next }) (record { answer = BadState; state = s })) (record { answer = BadRecord; state = s }) .state)
+    go true true = q
+    go true false = p
+    go false b = p
+
+-- any call
+module _ (rec : Record) (seen : List Call) where
+  pub call-sound : (c : Call) (x : Chip) → Sound rec (x .state) → Sound rec (after ours rec seen c x .state)
+  unfolding after waitOf powerOf
+  call-sound (sends f) x p = frame-sound rec x f p
+  call-sound (waits us) x p = if-valid-sound rec (x .state) (later (x .state) us) p (later-sound rec (x .state) p us)
+  call-sound cycles x p = if-valid-sound rec (x .state) (cycled (x .state)) p (cycled-sound rec (x .state) p)
+
+  pub call-length : (c : Call) (x : Chip) → length (after ours rec seen c x .cells) ≡ length (x .cells)
+  unfolding after
+  call-length (sends f) x = frame-length rec x f
+  call-length (waits us) x = refl
+  call-length cycles x = refl
+
+pub power-on-sound : (rec : Record) → Sound rec powerOn
+power-on-sound rec = record { level = omega arith; time = omega arith; mood = inl refl }

@@ -1,0 +1,80 @@
+-- Calls, pods, and what a list of calls does. Assumes nothing.
+use mathlib.Core.Path.{_≡_}
+use mathlib.Core.Bool.{true}
+use mathlib.Core.List.{List, [], _∷_}
+use Prim.Native.Nat.{ℕ, _≤_}
+use lib.ListN.{length}
+use Rattle.models.specs.Models.{modelOf}
+use Rattle.states.specs.States.{recordOk, stateOk}
+use Rattle.states.specs.declared.Record.{Record}
+use Rattle.states.specs.declared.State.{State}
+use Rattle.answers.specs.declared.Answer.{Answer}
+use Rattle.time.specs.declared.After.{After}
+use Rattle.effects.specs.Effects.{Effect}
+use Rattle.chip.specs.Frames.{Chip, Sent, chipOf, sentOf, frameOf}
+use Rattle.time.specs.Time.{waitOf, powerOf}
+
+-- a frame; a wait of so many microseconds; a power cycle
+pub data Call : Type 0 where
+  sends : Sent → Call
+  waits : ℕ → Call
+  cycles : Call
+
+-- what a pod answers in the place of a chip; it may remember the calls made of it, the latest first
+pub record Pod : Type 0 where
+  pub frame : List Call → Record → Chip → Sent → Effect
+  pub wait : List Call → Record → State → ℕ → After
+  pub power : List Call → Record → State → After
+
+-- our model, which remembers nothing
+abbrev pub ours : Pod
+ours = record { frame = λ seen. frameOf; wait = λ seen. waitOf; power = λ seen. powerOf }
+
+-- the chip that a frame leaves
+abbrev pub left : Effect → Chip
+left e = chipOf (e .reply .state) (e .cells)
+
+-- the calls seen, the latest first, after a list of calls more
+abbrev pub saw : List Call → List Call → List Call
+saw seen [] = seen
+saw seen (c ∷ cs) = saw (c ∷ seen) cs
+
+module _ (p : Pod) (rec : Record) where
+  -- the chip after a call, and the call's answer
+  unfoldable pub after : List Call → Call → Chip → Chip
+  after seen (sends f) x = left (p .frame seen rec x f)
+  after seen (waits us) x = chipOf (p .wait seen rec (x .state) us .state) (x .cells)
+  after seen cycles x = chipOf (p .power seen rec (x .state) .state) (x .cells)
+
+  unfoldable pub answer : List Call → Call → Chip → Answer
+  answer seen (sends f) x = p .frame seen rec x f .reply .answer
+  answer seen (waits us) x = p .wait seen rec (x .state) us .answer
+  answer seen cycles x = p .power seen rec (x .state) .answer
+
+  -- where a list of calls leads, and the answers it gives
+  abbrev pub run : List Call → List Call → Chip → Chip
+  run seen [] x = x
+  run seen (c ∷ cs) x = run (c ∷ seen) cs (after seen c x)
+
+  abbrev pub answers : List Call → List Call → Chip → List Answer
+  answers seen [] x = []
+  answers seen (c ∷ cs) x = answer seen c x ∷ answers (c ∷ seen) cs (after seen c x)
+
+  -- what a frame does that is sent after a list of calls
+  abbrev pub effectAfter : List Call → Chip → Sent → Effect
+  effectAfter cs x f = p .frame (saw [] cs) rec (run [] cs x) f
+
+-- ---- the calls of a bench
+-- a frame with WP# high and no tail bits
+abbrev pub frame : List ℕ → List ℕ → Sent
+frame bytes out = sentOf bytes 0 true out
+
+-- an output at least as long as its frame
+abbrev pub Roomy : Sent → Type 0
+Roomy f = length (f .bytes) ≤ length (f .out)
+
+-- valid record, right array length, valid state
+pub record Bench (rec : Record) (x : Chip) : Type 0 where
+  pub right : recordOk rec ≡ true
+  pub whole : length (x .cells) ≡ modelOf (rec .model) .length
+  pub valid : stateOk rec (x .state) ≡ true

@@ -1,0 +1,1 @@
+// What calls do, one after the other: definitions, and laws of single calls; no code.

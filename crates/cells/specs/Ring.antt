@@ -1,9 +1,0 @@
--- A read that goes on at address 0 after the last one (01, "Commands", 03; 000 L301). Assumes nothing.
-use mathlib.Core.List.{List, [], _∷_}
-use Prim.Native.Nat.{ℕ, zero, suc, _%_}
-use lib.ListN.{length, getD}
-
--- the n bytes of xs from address at on: byte i is the one at (at + i) mod the length of xs
-unfoldable pub ring : List ℕ → ℕ → ℕ → List ℕ
-ring xs at zero = []
-ring xs at (suc n) = getD xs (at % length xs) 0 ∷ ring xs (suc at) n

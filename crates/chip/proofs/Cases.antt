@@ -1,0 +1,51 @@
+-- What holds of an accepted frame and of a refused one holds of every frame. Assumes nothing.
+use mathlib.Core.Path.{_≡_, refl}
+use mathlib.Core.Bool.{Bool, true, false, cond}
+use Prim.Native.Nat.{_+_, _≤_}
+use native.Mathlib.Omega.{arith}
+use lib.ListN.{length}
+use Rattle.answers.specs.Answers.{isDone}
+use Rattle.answers.specs.declared.Answer.{Answer}
+use Rattle.states.specs.declared.Record.{Record}
+use Rattle.ladder.specs.Ladder.{refusalOf}
+use Rattle.ladder.specs.declared.Head.{Head}
+use Rattle.ladder.proofs.Passed.{passed}
+use Rattle.effects.specs.Effects.{Effect}
+use Rattle.chip.specs.Frames.{Chip, Sent, Ready, headOf, acceptedOf, refusedOf, frameOf}
+use Rattle.chip.specs.Units.{unitOf, drivenBytes}
+use Rattle.chip.proofs.Ready.{arrived}
+use Rattle.chip.proofs.Sorts.{Asked, Kind, kind, within}
+
+module _ (rec : Record) (x : Chip) (f : Sent) where
+  abbrev pub head : Head
+  head = headOf rec x f
+
+  abbrev pub refusal : Answer
+  refusal = refusalOf rec (x .state) head
+
+  abbrev pub accepted : Effect
+  accepted = acceptedOf rec x (head .command) (head .address) (f .bytes) (f .out)
+
+  pub frame-cases : (P : Effect → Type 0) → (isDone refusal ≡ true → P accepted) → (isDone refusal ≡ false → P (refusedOf refusal x f)) → P (frameOf rec x f)
+  unfolding frameOf
+  frame-cases P taken stopped = go (isDone refusal) refl
+    where
+      go : (b : Bool) → isDone refusal ≡ b → P (cond b accepted (refusedOf refusal x f))
+      go true e = taken e
+      go false e = stopped e
+
+  -- the sort of an accepted frame, and what the refusals have shown of it
+  pub sort : Kind rec x (head .command) (head .address) (f .bytes) (f .out) (unitOf (head .command) (head .address) (length (x .cells))) (drivenBytes (head .command) (length (f .bytes))) accepted
+  sort = kind rec x (head .address) (f .bytes) (f .out) (head .command)
+
+  pub shown-ready : isDone refusal ≡ true → Ready rec x (head .command) (head .address) (f .bytes) (f .out)
+  shown-ready e = arrived rec x f (passed rec (x .state) head e)
+
+  pub shown-asked : isDone refusal ≡ true → Asked (x .state) (head .command)
+  shown-asked e =
+      let q = passed rec (x .state) head e in
+      record { listens = q .listens; awake = q .awake; enabled = q .enabled }
+
+  -- what is driven lies in the frame
+  pub frame-within : frameOf rec x f .reply .from + frameOf rec x f .reply .count ≤ length (f .bytes)
+  frame-within = frame-cases (λ (e : Effect). e .reply .from + e .reply .count ≤ length (f .bytes)) (λ e. within sort) (λ e. omega arith)

@@ -1,0 +1,154 @@
+-- Each command is of one of three kinds, in one clause of `kind`; what holds of every accepted frame is shown of the kinds. Assumes nothing.
+use mathlib.Core.Path.{_≡_, refl}
+use mathlib.Core.Bool.{Bool, true, false, not, _&&_, cond}
+use mathlib.Core.List.{List}
+use mathlib.Core.Logic.{_⊎_, ⊎-elim}
+use Prim.Native.Nat.{ℕ, _+_, _-_, _≤_, _<_}
+use native.Mathlib.Omega.{arith}
+use lib.Dec.{eqb, ltb}
+use lib.ListN.{length, getD, drop, replicate}
+use borrow.Author.Tests.{eqb-true, not-false, ltb-true, ltb-false}
+use Rattle.units.specs.declared.Address.{Address}
+use Rattle.units.specs.Kinds.{sectorOf, blockOf, pageStart}
+use Rattle.models.specs.Models.{modelOf}
+use Rattle.units.proofs.Bools.{unless, only-if}
+use Rattle.parts.specs.Parts.{lay}
+use Rattle.rings.specs.Ring.{ring}
+use Rattle.flash.specs.Arrays.{sectorErased, blockErased, allErased, programmed}
+use Rattle.flash.specs.Sheet.{ErasesOnly}
+use Rattle.flash.proofs.Arrays.{length-sectorErased, length-blockErased, length-allErased, length-programmed, sector-erase, block-erase, chip-erase, outside-stays}
+use Rattle.answers.specs.Answers.{isDone}
+use Rattle.commands.specs.Commands.{traitsOf}
+use Rattle.states.specs.States.{statusOf, longestOf}
+use Rattle.states.specs.declared.Record.{Record}
+use Rattle.states.specs.declared.State.{State}
+use Rattle.answers.specs.declared.Answer.the-variants.{Done}
+use Rattle.commands.specs.declared.Command.{Command}
+use Rattle.commands.specs.declared.Command.the-variants.{WriteEnable, WriteDisable, ReadStatus, WriteStatus, Read, FastRead, EraseSector, EraseBlock, EraseChip, Program, ReadId, Wake, ReadMaker, Sleep, Unknown}
+use Rattle.states.proofs.States.{status-write-le, page-le, sector-le, block-le, chip-le}
+use Rattle.effects.specs.Effects.{Effect, stateOnly, quiet, drives, latched, dozing, working, written, writeEnable, writeDisable, writeStatus, sleep, idBytes, makerBytes, readStatus, readFrom, eraseSector, eraseBlock, eraseChip, programPage, readId, wake, readMaker}
+use Rattle.chip.specs.Frames.{Chip, acceptedOf}
+use Rattle.chip.specs.Units.{Extent, extent, unitOf, drivenBytes}
+use Rattle.changes.proofs.Fits.{page-fits, sector-fits, block-fits}
+
+-- ---- how the state moves, and what a command that moves it so has been asked
+pub data Move (rec : Record) (s : State) : State → Type 0 where
+  stays : Move rec s s
+  latches : (b : Bool) → s .busy ≡ 0 → Move rec s (latched s b)
+  dozes : (b : Bool) → s .busy ≡ 0 → Move rec s (dozing s b)
+  works : (t : ℕ) → t ≤ longestOf rec → s .wel ≡ true → s .asleep ≡ false → Move rec s (working s t)
+  writes : (b t : ℕ) → t ≤ longestOf rec → s .wel ≡ true → s .asleep ≡ false → Move rec s (written s b t)
+
+-- what the refusals 11, 12 and 15 have shown
+pub record Asked (s : State) (c : Command) : Type 0 where
+  pub listens : (not (eqb (s .busy) 0) && not (traitsOf c .«while_busy»)) ≡ false
+  pub awake : (s .asleep && not (traitsOf c .«while_asleep»)) ≡ false
+  pub enabled : (traitsOf c .latch && not (s .wel)) ≡ false
+
+-- ---- what changes of the array
+pub record Only (u : Extent) (xs ys : List ℕ) : Type 0 where
+  pub long : length ys ≡ length xs
+  pub rest : (k : ℕ) → (k < u .start) ⊎ (u .start + u .size ≤ k) → getD ys k 0 ≡ getD xs k 0
+
+erased-only : {start size : ℕ} {xs ys : List ℕ} → length ys ≡ length xs → ErasesOnly start size xs ys → Only (extent start size) xs ys
+erased-only l e = record { long = l; rest = λ k o. ⊎-elim (λ a. e .before k a) (λ a. e .behind k a) o }
+
+page-only : (cells : List ℕ) (at : Address) (sent : List ℕ) → pageStart at + 256 ≤ length cells → Only (extent (pageStart at) 256) cells (programmed cells at sent)
+page-only cells at sent h =
+    record {
+      long = length-programmed cells at sent h;
+      rest = λ k o. outside-stays cells at sent k h (λ e. ⊎-elim (λ l. omega arith) (λ l. omega arith) o);
+    }
+
+-- ---- the kinds: the state only; bytes driven from a position on; cells changed
+pub data Kind (rec : Record) (x : Chip) (c : Command) (at : Address) (bytes out : List ℕ) : Extent → ℕ → Effect → Type 0 where
+  turns : {u : Extent} (t : State) → (Asked (x .state) c → Move rec (x .state) t) → Kind rec x c at bytes out u 0 (stateOnly Done t (x .cells) out)
+  drove : {u : Extent} (t : State) (from : ℕ) (ys : List ℕ) → (Asked (x .state) c → Move rec (x .state) t)
+      → Kind rec x c at bytes out u (length bytes - from) (record { reply = drives t from (length bytes); cells = x .cells; out = lay out from ys })
+  alters : {u : Extent} (t : State) (xs : List ℕ) → (Asked (x .state) c → Move rec (x .state) t)
+      → (at .0 < length (x .cells) → length (x .cells) ≡ modelOf (rec .model) .length → Only u (x .cells) xs)
+      → Kind rec x c at bytes out u 0 (record { reply = quiet Done t; cells = xs; out = out })
+
+-- the test for 11 fails at a command that is not taken while busy: the chip is idle
+idle : (busy : ℕ) → (not (eqb busy 0) && not false) ≡ false → busy ≡ 0
+idle busy i = eqb-true busy 0 (not-false _ (only-if (not (eqb busy 0)) false i refl))
+
+-- one clause a command
+module _ (rec : Record) (x : Chip) (at : Address) (bytes out : List ℕ) where
+  abbrev s : State
+  s = x .state
+
+  abbrev cells : List ℕ
+  cells = x .cells
+
+  pub kind : (c : Command) → Kind rec x c at bytes out (unitOf c at (length cells)) (drivenBytes c (length bytes)) (acceptedOf rec x c at bytes out)
+  unfolding acceptedOf writeEnable writeDisable writeStatus sleep traitsOf unitOf drivenBytes readStatus readFrom eraseSector eraseBlock eraseChip programPage readId wake readMaker
+  kind WriteEnable = turns (latched s true) (λ q. latches true (idle (s .busy) (q .listens)))
+  kind WriteDisable = turns (latched s false) (λ q. latches false (idle (s .busy) (q .listens)))
+  kind ReadStatus = drove s 1 (replicate (length bytes - 1) (statusOf s)) (λ q. stays)
+  kind WriteStatus = turns (written s (getD bytes 1 0) (rec .«status_write»)) (λ q. writes (getD bytes 1 0) (rec .«status_write») (status-write-le rec) (unless true (s .wel) (q .enabled) refl) (only-if (s .asleep) false (q .awake) refl))
+  kind Read = drove s 4 (ring cells (at .0) (length bytes - 4)) (λ q. stays)
+  kind FastRead = drove s 5 (ring cells (at .0) (length bytes - 5)) (λ q. stays)
+  kind EraseSector =
+      alters (working s (rec .sector)) (sectorErased cells (sectorOf at))
+      (λ q. works (rec .sector) (sector-le rec) (unless true (s .wel) (q .enabled) refl) (only-if (s .asleep) false (q .awake) refl))
+      (λ i w. let h = sector-fits rec cells at i w .1 in erased-only (length-sectorErased cells (sectorOf at) h) (sector-erase cells (sectorOf at) h))
+  kind EraseBlock =
+      alters (working s (rec .block)) (blockErased cells (blockOf at))
+      (λ q. works (rec .block) (block-le rec) (unless true (s .wel) (q .enabled) refl) (only-if (s .asleep) false (q .awake) refl))
+      (λ i w. let h = block-fits rec cells at i w .1 in erased-only (length-blockErased cells (blockOf at) h) (block-erase cells (blockOf at) h))
+  kind EraseChip =
+      alters (working s (rec .chip)) (allErased cells)
+      (λ q. works (rec .chip) (chip-le rec) (unless true (s .wel) (q .enabled) refl) (only-if (s .asleep) false (q .awake) refl))
+      (λ i w. erased-only (length-allErased cells) (chip-erase cells))
+  kind Program =
+      alters (working s (rec .page)) (programmed cells at (drop 4 bytes))
+      (λ q. works (rec .page) (page-le rec) (unless true (s .wel) (q .enabled) refl) (only-if (s .asleep) false (q .awake) refl))
+      (λ i w. page-only cells at (drop 4 bytes) (page-fits rec cells at i w))
+  kind ReadId = drove s 1 (ring (idBytes (modelOf (rec .model))) 0 (length bytes - 1)) (λ q. stays)
+  kind Wake = drove (dozing s false) 4 (replicate (length bytes - 4) (modelOf (rec .model) .signature)) (λ q. dozes false (idle (s .busy) (q .listens)))
+  kind ReadMaker = drove s 4 (ring (makerBytes (modelOf (rec .model)) (getD bytes 3 0)) 0 (length bytes - 4)) (λ q. stays)
+  kind Sleep = turns (dozing s true) (λ q. dozes true (idle (s .busy) (q .listens)))
+  kind Unknown = turns s (λ q. stays)
+
+-- ---- what holds of every kind
+drives-within : (t : State) (from n : ℕ) → drives t from n .from + drives t from n .count ≤ n
+unfolding drives
+drives-within t from n = go (ltb from n) refl
+  where
+    go : (b : Bool) → ltb from n ≡ b → cond b from 0 + (n - from) ≤ n
+    go true e =
+        let l : from < n = ltb-true from n e in
+        omega arith
+    go false e =
+        let l : n ≤ from = ltb-false from n e in
+        omega arith
+
+module _ {rec : Record} {x : Chip} {c : Command} {at : Address} {bytes out : List ℕ} where
+  pub is-done : {u : Extent} {n : ℕ} {e : Effect} → Kind rec x c at bytes out u n e → isDone (e .reply .answer) ≡ true
+  unfolding drives
+  is-done (turns t m) = refl
+  is-done (drove t from ys m) = refl
+  is-done (alters t xs m o) = refl
+
+  pub counts : {u : Extent} {n : ℕ} {e : Effect} → Kind rec x c at bytes out u n e → e .reply .count ≡ n
+  unfolding drives
+  counts (turns t m) = refl
+  counts (drove t from ys m) = refl
+  counts (alters t xs m o) = refl
+
+  pub within : {u : Extent} {n : ℕ} {e : Effect} → Kind rec x c at bytes out u n e → e .reply .from + e .reply .count ≤ length bytes
+  within (turns t m) = omega arith
+  within (drove t from ys m) = drives-within t from (length bytes)
+  within (alters t xs m o) = omega arith
+
+  pub changes-only : {u : Extent} {n : ℕ} {e : Effect} → Kind rec x c at bytes out u n e → at .0 < length (x .cells) → length (x .cells) ≡ modelOf (rec .model) .length → Only u (x .cells) (e .cells)
+  changes-only (turns t m) i w = record { long = refl; rest = λ k o. refl }
+  changes-only (drove t from ys m) i w = record { long = refl; rest = λ k o. refl }
+  changes-only (alters t xs m o) i w = o i w
+
+  pub moves : {u : Extent} {n : ℕ} {e : Effect} → Kind rec x c at bytes out u n e → Asked (x .state) c → Move rec (x .state) (e .reply .state)
+  unfolding drives
+  moves (turns t m) q = m q
+  moves (drove t from ys m) q = m q
+  moves (alters t xs m o) q = m q

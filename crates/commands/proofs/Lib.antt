@@ -1,0 +1,2 @@
+-- `Rows`: what holds of every command's row, and which lengths are allowed.
+pub mod Rows

@@ -1,0 +1,161 @@
+// The commands: what a byte means, and what the refusals ask of each command.
+ghost use mathlib.Core.Path.{_≡_};
+ghost use Rattle.commands.specs.Commands.{decodeOf, row as Commands·row, traitsOf, lengthOk};
+
+pub enum Command {
+    WriteEnable,
+    WriteDisable,
+    ReadStatus,
+    WriteStatus,
+    Read,
+    FastRead,
+    EraseSector,
+    EraseBlock,
+    EraseChip,
+    Program,
+    ReadId,
+    Wake,
+    ReadMaker,
+    Sleep,
+    Unknown,
+}
+
+// The command of a frame's first byte.
+pub fn decode(byte: u8) -> Command
+    ensures { λ r. ⌜ r ≡ decodeOf byte ⌝ }
+{
+    match byte {
+        0x06 => Command::WriteEnable,
+        0x04 => Command::WriteDisable,
+        0x05 => Command::ReadStatus,
+        0x01 => Command::WriteStatus,
+        0x03 => Command::Read,
+        0x0B => Command::FastRead,
+        0x20 => Command::EraseSector,
+        0x52 => Command::EraseBlock,
+        0xD8 => Command::EraseBlock,
+        0x60 => Command::EraseChip,
+        0xC7 => Command::EraseChip,
+        0x02 => Command::Program,
+        0x9F => Command::ReadId,
+        0xAB => Command::Wake,
+        0x90 => Command::ReadMaker,
+        0xB9 => Command::Sleep,
+        _ => Command::Unknown,
+    }
+}
+
+// What the refusals ask of a command: whether it is taken while busy and while asleep; whether it needs WEL, heeds SRWD, and changes
+// one unit or the whole chip; its frame: low to high bytes without tail, or least bytes and more with any tail.
+pub struct Traits {
+    pub known: bool,
+    pub while_busy: bool,
+    pub while_asleep: bool,
+    pub latch: bool,
+    pub lock: bool,
+    pub unit: bool,
+    pub whole: bool,
+    pub low: usize,
+    pub high: usize,
+    pub least: usize,
+}
+
+// The longest frame, and a length that no frame has.
+const MOST: usize = 65541;
+
+const NEVER: usize = 65542;
+
+// Yes and no, as the table has them.
+const Y: bool = true;
+
+const N: bool = false;
+
+fn row(
+    while_busy: bool,
+    while_asleep: bool,
+    latch: bool,
+    lock: bool,
+    unit: bool,
+    whole: bool,
+    low: usize,
+    high: usize,
+    least: usize,
+) -> Traits
+    ensures { λ r. ⌜ r ≡ Commands·row «while_busy» «while_asleep» latch lock unit whole low high least ⌝ }
+{
+    Traits {
+        known: true,
+        while_busy,
+        while_asleep,
+        latch,
+        lock,
+        unit,
+        whole,
+        low,
+        high,
+        least,
+    }
+}
+
+fn unknown() -> Traits
+    ensures { λ r. ⌜ r ≡ traitsOf Command.Unknown ⌝ }
+{
+    Traits {
+        known: false,
+        while_busy: false,
+        while_asleep: false,
+        latch: false,
+        lock: false,
+        unit: false,
+        whole: false,
+        low: 0,
+        high: 0,
+        least: 0,
+    }
+}
+
+// The command's row of the table.
+pub fn traits_of(c: Command) -> Traits
+    ensures { λ r. ⌜ r ≡ traitsOf c ⌝ }
+{
+    match c {
+        //      busy  latch unit  low, high, least
+        //         sleep lock  whole
+        Command::WriteEnable => // 06
+            row(N, N, N, N, N, N, 1, 1, NEVER),
+        Command::WriteDisable => // 04
+            row(N, N, N, N, N, N, 1, 1, NEVER),
+        Command::ReadStatus => // 05
+            row(Y, N, N, N, N, N, 1, 1, 1),
+        Command::WriteStatus => // 01
+            row(N, N, Y, Y, N, N, 2, 2, NEVER),
+        Command::Read => // 03
+            row(N, N, N, N, N, N, 4, 4, 4),
+        Command::FastRead => // 0B
+            row(N, N, N, N, N, N, 5, 5, 5),
+        Command::EraseSector => // 20
+            row(N, N, Y, N, Y, N, 4, 4, NEVER),
+        Command::EraseBlock => // 52, D8
+            row(N, N, Y, N, Y, N, 4, 4, NEVER),
+        Command::EraseChip => // 60, C7
+            row(N, N, Y, N, N, Y, 1, 1, NEVER),
+        Command::Program => // 02
+            row(N, N, Y, N, Y, N, 5, MOST, NEVER),
+        Command::ReadId => // 9F
+            row(N, N, N, N, N, N, 1, 1, 1),
+        Command::Wake => // AB
+            row(N, Y, N, N, N, N, 1, 1, 5),
+        Command::ReadMaker => // 90
+            row(N, N, N, N, N, N, 4, 4, 4),
+        Command::Sleep => // B9
+            row(N, N, N, N, N, N, 1, 1, NEVER),
+        Command::Unknown => unknown(),
+    }
+}
+
+// Whether the command takes a frame of n bytes and that tail.
+pub fn length_ok(t: Traits, n: usize, tail: u32) -> bool
+    ensures { λ r. ⌜ r ≡ lengthOk t n tail ⌝ }
+{
+    (((t.low <= n) & (n <= t.high)) & (tail == 0)) | (t.least <= n)
+}

@@ -1,0 +1,2 @@
+-- `Replies`: laws of replies and of what is driven.
+pub mod Replies

@@ -1,0 +1,163 @@
+-- What each command does once it is accepted, one definition a command in the order of 01's list. Assumes nothing.
+use mathlib.Core.Bool.{Bool, true, false, cond}
+use mathlib.Core.List.{List, [], _∷_}
+use mathlib.Core.Path.{_≡_}
+use Prim.Native.Nat.{ℕ, _-_, _/_, _%_, _≤_}
+use lib.Dec.{eqb, ltb, leb}
+use lib.ListN.{length, getD, drop, replicate}
+use Rattle.units.specs.declared.Address.{Address}
+use Rattle.models.specs.declared.Model.{Model}
+use Rattle.units.specs.Kinds.{sectorOf, blockOf}
+use Rattle.models.specs.Models.{modelOf}
+use Rattle.parts.specs.Parts.{lay}
+use Rattle.rings.specs.Ring.{ring}
+use Rattle.flash.specs.Arrays.{sectorErased, blockErased, allErased, programmed}
+use Rattle.states.specs.States.{statusOf}
+use Rattle.states.specs.declared.Record.{Record}
+use Rattle.states.specs.declared.State.{State}
+use Rattle.answers.specs.declared.Answer.{Answer}
+use Rattle.answers.specs.declared.Answer.the-variants.{Done}
+use Rattle.effects.specs.declared.Reply.{Reply}
+
+-- a whole call: the reply, the array after and the output after
+pub record Effect : Type 0 where
+  pub reply : Reply
+  pub cells : List ℕ
+  pub out : List ℕ
+
+-- what a command does that drives bytes out, and what one does that changes cells
+pub record Shown : Type 0 where
+  pub reply : Reply
+  pub out : List ℕ
+
+pub record Changed : Type 0 where
+  pub reply : Reply
+  pub cells : List ℕ
+
+-- the other buffer is as it was
+abbrev pub shown : List ℕ → Shown → Effect
+shown cells e = record { reply = e .reply; cells = cells; out = e .out }
+
+abbrev pub changed : List ℕ → Changed → Effect
+changed out e = record { reply = e .reply; cells = e .cells; out = out }
+
+-- what a function's result and its lent buffers at exit have to be
+pub record Gives (e : Effect) (r : Reply) (xs os : List ℕ) : Type 0 where
+  pub reply : r ≡ e .reply
+  pub cells : xs ≡ e .cells
+  pub out : os ≡ e .out
+
+pub record Shows (e : Shown) (r : Reply) (os : List ℕ) : Type 0 where
+  pub reply : r ≡ e .reply
+  pub out : os ≡ e .out
+
+pub record Changes (e : Changed) (r : Reply) (xs : List ℕ) : Type 0 where
+  pub reply : r ≡ e .reply
+  pub cells : xs ≡ e .cells
+
+-- ---- replies
+-- nothing is driven
+abbrev pub quiet : Answer → State → Reply
+quiet a s = record { answer = a; from = 0; count = 0; state = s }
+
+-- a frame of n bytes drives from position `from` to its end; both numbers are 0 when none is driven
+unfoldable pub drives : State → ℕ → ℕ → Reply
+drives s from n = record { answer = Done; from = cond (ltb from n) from 0; count = n - from; state = s }
+
+-- ---- states
+unfoldable pub latched : State → Bool → State
+latched s on = record { srwd = s .srwd; bp = s .bp; wel = on; asleep = s .asleep; busy = s .busy }
+
+unfoldable pub dozing : State → Bool → State
+dozing s on = record { srwd = s .srwd; bp = s .bp; wel = s .wel; asleep = on; busy = s .busy }
+
+-- an operation runs: WEL stays set until its time has run out (000 L110-117)
+unfoldable pub working : State → ℕ → State
+working s time = record { srwd = s .srwd; bp = s .bp; wel = s .wel; asleep = s .asleep; busy = time }
+
+-- SRWD, BP1 and BP0 from bits 7, 3 and 2; the rest is ignored (000 L264-268, 004 M289)
+unfoldable pub written : State → ℕ → ℕ → State
+written s b time = record { srwd = leb 128 b; bp = b / 4 % 4; wel = s .wel; asleep = s .asleep; busy = time }
+
+-- both buffers are as they were
+abbrev pub stateOnly : Answer → State → List ℕ → List ℕ → Effect
+stateOnly a s cells out = record { reply = quiet a s; cells = cells; out = out }
+
+abbrev pub turned : List ℕ → List ℕ → Reply → Effect
+turned cells out r = record { reply = r; cells = cells; out = out }
+
+-- ---- one definition a command
+-- 06 sets WEL, 04 clears it (000 L214-222)
+unfoldable pub writeEnable : State → Reply
+writeEnable s = quiet Done (latched s true)
+
+unfoldable pub writeDisable : State → Reply
+writeDisable s = quiet Done (latched s false)
+
+-- 05: the status from position 1 on (000 L236)
+unfoldable pub readStatus : State → List ℕ → List ℕ → Shown
+readStatus s bytes out =
+    record { reply = drives s 1 (length bytes); out = lay out 1 (replicate (length bytes - 1) (statusOf s)) }
+
+-- 01: the second byte is written (000 L264-268)
+unfoldable pub writeStatus : Record → State → List ℕ → Reply
+writeStatus rec s bytes = quiet Done (written s (getD bytes 1 0) (rec .«status_write»))
+
+-- 03: array bytes from position 4, address rising by one, from the last address to 0. 0B: the same from position 5 (000 L301, L307)
+unfoldable pub readFrom : ℕ → State → List ℕ → Address → List ℕ → List ℕ → Shown
+readFrom first s cells at bytes out =
+    record { reply = drives s first (length bytes); out = lay out first (ring cells (at .0) (length bytes - first)) }
+
+-- 20: the whole sector holding the address becomes FF (000 L315)
+unfoldable pub eraseSector : Record → State → List ℕ → Address → Changed
+eraseSector rec s cells at = record { reply = quiet Done (working s (rec .sector)); cells = sectorErased cells (sectorOf at) }
+
+-- 52 and D8: the whole block (000 L327)
+unfoldable pub eraseBlock : Record → State → List ℕ → Address → Changed
+eraseBlock rec s cells at = record { reply = quiet Done (working s (rec .block)); cells = blockErased cells (blockOf at) }
+
+-- 60 and C7: the chip (000 L335)
+unfoldable pub eraseChip : Record → State → List ℕ → Changed
+eraseChip rec s cells = record { reply = quiet Done (working s (rec .chip)); cells = allErased cells }
+
+-- 02: the bytes from position 4 on fold into the page (000 L343)
+unfoldable pub programPage : Record → State → List ℕ → Address → List ℕ → Changed
+programPage rec s cells at bytes = record { reply = quiet Done (working s (rec .page)); cells = programmed cells at (drop 4 bytes) }
+
+-- 9F: from position 1 the three identification bytes, repeated (000 L383-391, 002 L522-526)
+abbrev pub idBytes : Model → List ℕ
+idBytes m = m .maker ∷ m .family ∷ m .density ∷ []
+
+unfoldable pub readId : Record → State → List ℕ → List ℕ → Shown
+readId rec s bytes out =
+    record { reply = drives s 1 (length bytes); out = lay out 1 (ring (idBytes (modelOf (rec .model))) 0 (length bytes - 1)) }
+
+-- AB: leaves deep power-down; a long one drives the signature from position 4 on, over and over (000 L363-369, 002 L498)
+unfoldable pub wake : Record → State → List ℕ → List ℕ → Shown
+wake rec s bytes out =
+    record {
+      reply = drives (dozing s false) 4 (length bytes);
+      out = lay out 4 (replicate (length bytes - 4) (modelOf (rec .model) .signature));
+    }
+
+-- 90: from position 4 the maker and the signature by turns, the signature first when the fourth byte is odd (000 L383-391, 002 L510-516)
+unfoldable pub makerBytes : Model → ℕ → List ℕ
+makerBytes m fourth = cond (eqb (fourth % 2) 1) (m .signature ∷ m .maker ∷ []) (m .maker ∷ m .signature ∷ [])
+
+unfoldable pub readMaker : Record → State → List ℕ → List ℕ → Shown
+readMaker rec s bytes out =
+    record {
+      reply = drives s 4 (length bytes);
+      out = lay out 4 (ring (makerBytes (modelOf (rec .model)) (getD bytes 3 0)) 0 (length bytes - 4));
+    }
+
+-- B9: enters deep power-down (000 L359)
+unfoldable pub sleep : State → Reply
+sleep s = quiet Done (dozing s true)
+
+-- ---- what the functions ask of a frame
+-- a frame of at least `first` bytes, none longer than is allowed, and room for it in the output
+pub record Room (first : ℕ) (bytes out : List ℕ) : Type 0 where
+  pub long : first ≤ length bytes
+  pub short : length bytes ≤ 65541
+  pub room : length bytes ≤ length out

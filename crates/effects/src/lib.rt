@@ -1,0 +1,117 @@
+// What each command does, apart from the frame that carries it (specs/Effects.antt); here replies, and the commands that turn the state.
+ghost use mathlib.Core.Path.{_≡_};
+ghost use Prim.Native.Nat.{_-_};
+ghost use Rattle.effects.specs.Effects.{quiet as Effects·quiet, drives, latched, dozing, working, written, writeEnable, writeDisable, writeStatus, sleep as Effects·sleep};
+use answers::Answer;
+use states::Record;
+use states::State;
+
+// What a frame is answered: the answer, the first driven position and how many bytes are driven, and the state after.
+pub struct Reply {
+    pub answer: Answer,
+    pub from: u32,
+    pub count: u32,
+    pub state: State,
+}
+
+// ---- replies and states
+
+// An answer that drives nothing.
+pub fn quiet(answer: Answer, state: State) -> Reply
+    ensures { λ r. ⌜ r ≡ Effects·quiet answer state ⌝ }
+{
+    Reply {
+        answer,
+        from: 0,
+        count: 0,
+        state,
+    }
+}
+
+// A frame of n bytes drives from position from to its end.
+pub fn driven(state: State, from: u32, n: u32) -> Reply
+    ensures { λ r. ⌜ r ≡ drives state from n ⌝ }
+{
+    if from < n {
+        return Reply {
+            answer: Answer::Done,
+            from,
+            count: n - from,
+            state,
+        };
+    }
+    quiet(Answer::Done, state)
+}
+
+// WEL is set or cleared.
+fn latch(st: State, on: bool) -> State
+    ensures { λ r. ⌜ r ≡ latched st on ⌝ }
+{
+    let mut next = st;
+    next.wel = on;
+    next
+}
+
+// The chip falls asleep or wakes.
+pub fn doze(st: State, on: bool) -> State
+    ensures { λ r. ⌜ r ≡ dozing st on ⌝ }
+{
+    let mut next = st;
+    next.asleep = on;
+    next
+}
+
+// An operation runs for a time; WEL stays set.
+pub fn work(st: State, time: u32) -> State
+    ensures { λ r. ⌜ r ≡ working st time ⌝ }
+{
+    let mut next = st;
+    next.busy = time;
+    next
+}
+
+// A status byte is written, and the write runs for a time.
+fn write(st: State, byte: u8, time: u32) -> State
+    ensures { λ r. ⌜ r ≡ written st byte time ⌝ }
+{
+    State {
+        srwd: 128 <= byte,
+        bp: byte / 4 % 4,
+        wel: st.wel,
+        asleep: st.asleep,
+        busy: time,
+    }
+}
+
+// ---- commands that turn the state
+
+// 06
+pub fn write_enable(st: State) -> Reply
+    ensures { λ r. ⌜ r ≡ writeEnable st ⌝ }
+{
+    quiet(Answer::Done, latch(st, true))
+}
+
+// 04
+pub fn write_disable(st: State) -> Reply
+    ensures { λ r. ⌜ r ≡ writeDisable st ⌝ }
+{
+    quiet(Answer::Done, latch(st, false))
+}
+
+// 01
+pub fn write_status(rec: Record, st: State, bytes: &[u8]) -> Reply
+    ensures { λ r. ⌜ r ≡ writeStatus rec st (now (bytes .entry)) ⌝ }
+{
+    quiet(
+        Answer::Done,
+        write(st, parts::byte_at(bytes, 1), rec.status_write),
+    )
+}
+
+// B9
+pub fn sleep(st: State) -> Reply
+    ensures { λ r. ⌜ r ≡ Effects·sleep st ⌝ }
+{
+    quiet(Answer::Done, doze(st, true))
+}

@@ -1,0 +1,24 @@
+-- A part of a list, and a list with one part replaced. Every change of a lent slice is said by `lay`. Assumes nothing.
+use mathlib.Core.List.{List, [], _∷_, _++_}
+use Prim.Native.Nat.{ℕ, suc, _+_, _<_}
+use lib.ListN.{length, getD, take, drop}
+
+-- the n elements of xs from index at on
+abbrev pub part : List ℕ → ℕ → ℕ → List ℕ
+part xs at n = take n (drop at xs)
+
+-- xs with ys in place of what stood from index at on, and the rest as it was
+unfoldable pub lay : List ℕ → ℕ → List ℕ → List ℕ
+lay xs at ys = take at xs ++ (ys ++ drop (at + length ys) xs)
+
+-- each element x becomes f k x, k being its index, counted from 0
+abbrev pub mapFrom : (ℕ → ℕ → ℕ) → ℕ → List ℕ → List ℕ
+mapFrom f k [] = []
+mapFrom f k (x ∷ xs) = f k x ∷ mapFrom f (suc k) xs
+
+abbrev pub byIndex : (ℕ → ℕ → ℕ) → List ℕ → List ℕ
+byIndex f xs = mapFrom f 0 xs
+
+-- every element is a byte
+pub record Bytes (xs : List ℕ) : Type 0 where
+  pub below : (k : ℕ) → getD xs k 0 < 256

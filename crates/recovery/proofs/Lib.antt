@@ -1,0 +1,5 @@
+pub mod Recovery
+pub mod Histories
+pub mod Shorter
+pub mod Reached
+pub mod Pods

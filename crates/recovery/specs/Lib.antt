@@ -1,0 +1,4 @@
+pub mod Recovery
+pub mod Histories
+pub mod Shorter
+pub mod Pods

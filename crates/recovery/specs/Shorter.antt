@@ -1,0 +1,50 @@
+-- No wait of the list can be a microsecond shorter: 01, "The twelve calls". Assumes nothing.
+use mathlib.Core.Path.{_≡_}
+use mathlib.Core.Bool.{true}
+use mathlib.Core.List.{List, [], _∷_, _++_}
+use Prim.Native.Nat.{ℕ, _-_}
+use lib.ListN.{length, replicate}
+use Rattle.models.specs.Models.{modelOf}
+use Rattle.states.specs.States.{recordOk, stateOk, longestOf, powerOn}
+use Rattle.states.specs.declared.Record.{Record}
+use Rattle.states.specs.declared.State.{State}
+use Rattle.answers.specs.declared.Answer.the-variants.{Done, Busy}
+use Rattle.chip.specs.Frames.{Chip, Sent, chipOf}
+use Rattle.calls.specs.Calls.{Call, sends, waits, ours, run, answers, Bench}
+use Rattle.recovery.specs.Recovery.{Job, JobFits, toUnlock, toErase, toProgram, wakeUp, enableErase, enableProgram, readBack}
+
+-- the calls are answered 0, and the frame after them 11
+abbrev pub ThenBusy : Record → List Call → Sent → Chip → Type 0
+ThenBusy rec cs f x = answers ours rec [] (cs ++ (sends f ∷ [])) x ≡ replicate (length cs) Done ++ (Busy ∷ [])
+
+-- with the wait after an operation shortened by one, the next call is answered 11, for every record and state
+abbrev pub ShorterUnlock : Type 0
+ShorterUnlock =
+    (rec : Record) (j : Job) (x : Chip) → Bench rec x → JobFits j
+    → ThenBusy rec (toUnlock rec j ++ (waits (rec .«status_write» - 1) ∷ [])) (enableErase j) x
+
+abbrev pub ShorterErase : Type 0
+ShorterErase =
+    (rec : Record) (j : Job) (x : Chip) → Bench rec x → JobFits j
+    → ThenBusy rec (toErase rec j ++ (waits (rec .sector - 1) ∷ [])) (enableProgram j) x
+
+abbrev pub ShorterProgram : Type 0
+ShorterProgram =
+    (rec : Record) (j : Job) (x : Chip) → Bench rec x → JobFits j
+    → ThenBusy rec (toProgram rec j ++ (waits (rec .page - 1) ∷ [])) (readBack j) x
+
+-- with the first wait shortened by one, AB is answered 11 on some chip
+abbrev pub TooShort : Record → Job → Chip → Type 0
+TooShort rec j x = ThenBusy rec (waits (longestOf rec - 1) ∷ []) (wakeUp j) x
+
+-- there is a valid state for which it is
+abbrev pub ShorterFirst : Type 0
+ShorterFirst =
+    (rec : Record) (cells : List ℕ) (j : Job) → recordOk rec ≡ true → length cells ≡ modelOf (rec .model) .length → JobFits j
+    → (s : State) × (stateOk rec s ≡ true) × TooShort rec j (chipOf s cells)
+
+-- and calls from power-on on one array that lead to one, for every record
+abbrev pub ReachedFirst : Type 0
+ReachedFirst =
+    (rec : Record) (cells : List ℕ) (j : Job) → recordOk rec ≡ true → length cells ≡ modelOf (rec .model) .length → JobFits j
+    → (calls : List Call) × TooShort rec j (run ours rec [] calls (chipOf powerOn cells))

@@ -1,0 +1,1 @@
+// The calls that win a chip back: the theorem, its waits, and what no worthless pod can do; no code.

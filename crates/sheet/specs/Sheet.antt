@@ -1,0 +1,152 @@
+-- The bench sheet's cases marked ●: 01, "Bench sheet". One table, and one statement over it. Assumes nothing.
+use mathlib.Core.Path.{_≡_}
+use mathlib.Core.Bool.{Bool, true, false, cond}
+use mathlib.Core.List.{List, [], _∷_, _++_}
+use Prim.Native.Nat.{ℕ, _-_}
+use lib.Dec.{eqb}
+use lib.ListN.{length, getD, take, replicate}
+use Rattle.calls.specs.Calls.{frame}
+use Rattle.models.specs.Models.{modelOf}
+use Rattle.cells.specs.Cell.{erased}
+use Rattle.parts.specs.Parts.{part}
+use Rattle.answers.specs.Answers.{numberOf}
+use Rattle.states.specs.States.{statusOf, powerOn, benchKH25L512, benchKH25L2006E}
+use Rattle.states.specs.declared.Record.{Record}
+use Rattle.states.specs.declared.State.{State}
+use Rattle.effects.specs.Effects.{Effect}
+use Rattle.chip.specs.Frames.{Sent, chipOf, sentOf, frameOf}
+use Rattle.time.specs.Time.{later}
+
+-- what comes out: the answer, the first driven position, the driven bytes, the status byte after, the status byte after a wait, and
+-- the first cells of the array
+pub record Outcome : Type 0 where
+  pub answer : ℕ
+  pub from : ℕ
+  pub drives : List ℕ
+  pub status : ℕ
+  pub then : ℕ
+  pub cells : List ℕ
+
+-- what is given: model, state, the array's first cells (the others are any), the frame, a wait after it, and how many cells are
+-- looked at; what has to come out may speak of the array
+pub record Case : Type 0 where
+  pub model : ℕ
+  pub state : State
+  pub front : List ℕ
+  pub sent : Sent
+  pub wait : ℕ
+  pub look : ℕ
+  pub wants : List ℕ → Outcome
+
+abbrev pub bench : ℕ → Record
+bench m = cond (eqb m 2) benchKH25L2006E benchKH25L512
+
+abbrev pub comesOut : Case → List ℕ → Outcome
+comesOut c array =
+    let e : Effect = frameOf (bench (c .model)) (chipOf (c .state) array) (c .sent) in
+    record {
+      answer = numberOf (e .reply .answer);
+      from = e .reply .from;
+      drives = part (e .out) (e .reply .from) (e .reply .count);
+      status = statusOf (e .reply .state);
+      then = statusOf (later (e .reply .state) (c .wait));
+      cells = take (c .look) (e .cells);
+    }
+
+-- every case comes out as it should, whatever the rest of the array is
+abbrev pub AllRight : List Case → Type 0
+AllRight [] = Unit {0}
+AllRight (c ∷ cs) =
+    ((rest : List ℕ) → length rest ≡ modelOf (c .model) .length - length (c .front) → comesOut c (c .front ++ rest) ≡ c .wants (c .front ++ rest))
+    × AllRight cs
+
+-- states of the sheet: SRWD, BP and WEL of an idle chip that is awake; and one in deep power-down
+abbrev pub idle : Bool → ℕ → Bool → State
+idle srwd bp wel = record { srwd = srwd; bp = bp; wel = wel; asleep = false; busy = 0 }
+
+abbrev pub sleeping : State
+sleeping = record { srwd = false; bp = 0; wel = false; asleep = true; busy = 0 }
+
+-- an output of 300 bytes AA
+abbrev pub blank : List ℕ
+blank = replicate 300 0xAA
+
+-- a case with no wait that looks at no cell
+abbrev pub simple : ℕ → State → Sent → ℕ → ℕ → List ℕ → ℕ → Case
+simple model state sent answer from drives status =
+    record {
+      model = model;
+      state = state;
+      front = [];
+      sent = sent;
+      wait = 0;
+      look = 0;
+      wants = λ (array : List ℕ). record { answer = answer; from = from; drives = drives; status = status; then = status; cells = [] };
+    }
+
+-- model, state, frame: answer, first driven position, driven bytes, status after
+abbrev pub sheet : List Case
+sheet =
+    -- power-on, 05 00: drives 00
+    simple 1 powerOn (frame (0x05 ∷ 0x00 ∷ []) blank) 0 1 (0x00 ∷ []) 0x00
+    -- 06 with tail 1: 14, WEL 0
+    ∷ simple 1 powerOn (sentOf (0x06 ∷ []) 1 true blank) 14 0 [] 0x00
+    -- empty, tail 7: 10
+    ∷ simple 1 powerOn (sentOf [] 7 true blank) 10 0 [] 0x00
+    -- 02 with WEL 0 and BP 1: 15
+    ∷ simple 1 (idle false 1 false) (frame (0x02 ∷ 0 ∷ 0 ∷ 0 ∷ 0x11 ∷ []) blank) 15 0 [] 0x04
+    -- fresh page, 257 data bytes at 0, the first 11, the others 22: all 256 hold 22
+    ∷ record {
+      model = 1;
+      state = idle false 0 true;
+      front = erased 256;
+      sent = frame (0x02 ∷ 0 ∷ 0 ∷ 0 ∷ 0x11 ∷ replicate 256 0x22) blank;
+      wait = 5000;
+      look = 256;
+      wants = λ (array : List ℕ). record { answer = 0; from = 0; drives = []; status = 0x03; then = 0x00; cells = replicate 256 0x22 };
+    }
+    -- cell F0, data 3C: 30
+    ∷ record {
+      model = 1;
+      state = idle false 0 true;
+      front = 0xF0 ∷ [];
+      sent = frame (0x02 ∷ 0 ∷ 0 ∷ 0 ∷ 0x3C ∷ []) blank;
+      wait = 5000;
+      look = 1;
+      wants = λ (array : List ℕ). record { answer = 0; from = 0; drives = []; status = 0x03; then = 0x00; cells = 0x30 ∷ [] };
+    }
+    -- WEL 1, BP 1, 20 at 0: 17, WEL still 1
+    ∷ simple 1 (idle false 1 true) (frame (0x20 ∷ 0 ∷ 0 ∷ 0 ∷ []) blank) 17 0 [] 0x06
+    -- model 2, WEL 1, BP 1: 20 at 02FFFF is 0, at 030000 is 17
+    ∷ simple 2 (idle false 1 true) (frame (0x20 ∷ 0x02 ∷ 0xFF ∷ 0xFF ∷ []) blank) 0 0 [] 0x07
+    ∷ simple 2 (idle false 1 true) (frame (0x20 ∷ 0x03 ∷ 0x00 ∷ 0x00 ∷ []) blank) 17 0 [] 0x06
+    -- SRWD 1, WEL 1, 01 00: WP# low 16, high 0
+    ∷ simple 1 (idle true 0 true) (sentOf (0x01 ∷ 0x00 ∷ []) 0 false blank) 16 0 [] 0x82
+    ∷ simple 1 (idle true 0 true) (frame (0x01 ∷ 0x00 ∷ []) blank) 0 0 [] 0x03
+    -- 01 FF accepted: status 8F, after the wait 8C
+    ∷ record {
+      model = 1;
+      state = idle false 0 true;
+      front = [];
+      sent = frame (0x01 ∷ 0xFF ∷ []) blank;
+      wait = 15000;
+      look = 0;
+      wants = λ (array : List ℕ). record { answer = 0; from = 0; drives = []; status = 0x8F; then = 0x8C; cells = [] };
+    }
+    -- deep power-down: 05 00 is 12; AB and four bytes drives 05
+    ∷ simple 1 sleeping (frame (0x05 ∷ 0x00 ∷ []) blank) 12 0 [] 0x00
+    ∷ simple 1 sleeping (frame (0xAB ∷ 0 ∷ 0 ∷ 0 ∷ 0 ∷ []) blank) 0 4 (0x05 ∷ []) 0x00
+    -- 03 00FFFF and two bytes: the last cell, then the first
+    ∷ record {
+      model = 1;
+      state = powerOn;
+      front = [];
+      sent = frame (0x03 ∷ 0x00 ∷ 0xFF ∷ 0xFF ∷ 0 ∷ 0 ∷ []) blank;
+      wait = 0;
+      look = 0;
+      wants = λ (array : List ℕ). record { answer = 0; from = 4; drives = getD array 65535 0 ∷ getD array 0 0 ∷ []; status = 0x00; then = 0x00; cells = [] };
+    }
+    ∷ []
+
+abbrev pub BenchSheet : Type 0
+BenchSheet = AllRight sheet

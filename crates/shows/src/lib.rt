@@ -1,0 +1,88 @@
+// The commands that drive bytes out.
+ghost use mathlib.Core.Path.{_≡_};
+ghost use Prim.Native.Nat.{_≤_, _<_};
+ghost use lib.ListN.{length};
+ghost use Rattle.effects.specs.Effects.{Shows, Room, readStatus, readFrom, readId, wake as Effects·wake, makerBytes, readMaker};
+use answers::Answer;
+use effects::Reply;
+use models::Model;
+use states::Record;
+use states::State;
+use units::Address;
+
+// 05
+pub fn read_status(st: State, bytes: &[u8], out: &mut [u8]) -> Reply
+    requires { ⌜ (st .bp ≤ 15) × Room 1 (now bytes) (now out) ⌝ }
+    ensures { λ r. ⌜ Shows (readStatus st (now (bytes .entry)) (now (out .entry))) r (now (out .exit)) ⌝ }
+{
+    let n = bytes.len();
+    parts::fill_part(out, 1, n, states::status(st));
+    effects::driven(st, 1, n as u32)
+}
+
+// 03 from position 4, 0B from position 5
+pub fn read_from(
+    first: u32,
+    st: State,
+    array: &[u8],
+    at: Address,
+    bytes: &[u8],
+    out: &mut [u8],
+) -> Reply
+    requires { ⌜ (at .0 < length (now array)) × Room first (now bytes) (now out) ⌝ }
+    ensures { λ r. ⌜ Shows (readFrom first st (now (array .entry)) at (now (bytes .entry)) (now (out .entry))) r (now (out .exit)) ⌝ }
+{
+    let n = bytes.len();
+    flash::read_part(array, at, out, first as usize, n);
+    effects::driven(st, first, n as u32)
+}
+
+// 9F
+pub fn read_id(rec: Record, st: State, bytes: &[u8], out: &mut [u8]) -> Reply
+    requires { ⌜ Room 1 (now bytes) (now out) ⌝ }
+    ensures { λ r. ⌜ Shows (readId rec st (now (bytes .entry)) (now (out .entry))) r (now (out .exit)) ⌝ }
+{
+    let n = bytes.len();
+    let row = models::model_of(rec.model);
+    let id = [row.maker, row.family, row.density];
+    rings::repeat_part(out, 1, n, &id);
+    effects::driven(st, 1, n as u32)
+}
+
+// AB
+pub fn wake(rec: Record, st: State, bytes: &[u8], out: &mut [u8]) -> Reply
+    requires { ⌜ Room 1 (now bytes) (now out) ⌝ }
+    ensures { λ r. ⌜ Shows (Effects·wake rec st (now (bytes .entry)) (now (out .entry))) r (now (out .exit)) ⌝ }
+{
+    let n = bytes.len();
+    let awake = effects::doze(st, false);
+    if 4 < n {
+        let row = models::model_of(rec.model);
+        parts::fill_part(out, 4, n, row.signature);
+        return effects::driven(awake, 4, n as u32);
+    }
+    effects::quiet(Answer::Done, awake)
+}
+
+// The two bytes of 90 in their order.
+fn maker_bytes(row: Model, fourth: u8) -> [u8; 2]
+    ensures { λ r. ⌜ r ≡ makerBytes row fourth ⌝ }
+{
+    if fourth % 2 == 1 {
+        [row.signature, row.maker]
+    } else {
+        [row.maker, row.signature]
+    }
+}
+
+// 90
+pub fn read_maker(rec: Record, st: State, bytes: &[u8], out: &mut [u8]) -> Reply
+    requires { ⌜ Room 4 (now bytes) (now out) ⌝ }
+    ensures { λ r. ⌜ Shows (readMaker rec st (now (bytes .entry)) (now (out .entry))) r (now (out .exit)) ⌝ }
+{
+    let n = bytes.len();
+    let row = models::model_of(rec.model);
+    let pair = maker_bytes(row, parts::byte_at(bytes, 3));
+    rings::repeat_part(out, 4, n, &pair);
+    effects::driven(st, 4, n as u32)
+}

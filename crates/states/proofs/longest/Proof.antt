@@ -1,0 +1,17 @@
+-- `states::longest` meets its contract. Assumes nothing.
+use native.Mathlib.Nat.{max-zero}
+use Rattle.states.specs.States.{longestOf}
+use borrow.Author.Needs.{needs}
+use Rattle.states.proofs.longest.Statement.{statement}
+use Rattle.states.proofs.longest.Tie as tie
+
+returns : tie.Need-returns
+unfolding longestOf
+returns c =
+    let a = c .before .before .before in
+    rw (c .larger4 .ensures, c .before .larger3 .ensures, c .before .before .larger2 .ensures, a .larger .ensures, max-zero (a .before .args .rec .chip))
+
+pub longest-spec : {M : Type 1} → statement M
+longest-spec =
+    tie.close
+    (tie.spec (λ c κs. search needs) (λ c κs. search needs) (λ c κs. search needs) (λ c κs. search needs) returns)

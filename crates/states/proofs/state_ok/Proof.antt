@@ -1,0 +1,22 @@
+-- `states::state_ok` meets its contract. Assumes nothing.
+use mathlib.Core.Path.{sym, _∙_}
+use mathlib.Core.Bool.{and-true}
+use lib.Dec.{leb·zero}
+use borrow.Author.Tests.{ne-eqb}
+use Rattle.states.specs.States.{longestOf, stateOk}
+use borrow.Author.Needs.{needs}
+use Rattle.states.proofs.state_ok.Statement.{statement}
+use Rattle.states.proofs.state_ok.Tie as tie
+
+returns : tie.Need-returns
+unfolding stateOk
+returns c =
+    let a = c .before .before .before .before .before .args in
+    rw (c .if1 .taken, c .before .before .before .before .model-of .ensures, leb·zero (longestOf (a .rec))) (sym (and-true _ ∙ and-true _))
+
+returns-2 : tie.Need-returns-2
+unfolding stateOk
+returns-2 c = rw (ne-eqb _ _ (c .before .before .before .before .if1 .left), c .before .before .before .longest .ensures, c .before .before .before .before .before .before .before .before .model-of .ensures)
+
+pub state-ok-spec : {M : Type 1} → statement M
+state-ok-spec = tie.close (tie.spec (λ c κs. search needs) returns (λ c κs. search needs) returns-2)

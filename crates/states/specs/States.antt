@@ -1,0 +1,55 @@
+-- Records, states and the status byte: 01, "Record, state, frame". Assumes nothing.
+use mathlib.Core.Bool.{Bool, true, false, not, _&&_, _||_}
+use mathlib.Core.List.{List, [], _∷_}
+use Prim.Native.Nat.{ℕ, _+_, _*_, max}
+use lib.Dec.{eqb, leb}
+use Rattle.models.specs.Models.{isModel, modelOf}
+use Rattle.states.specs.declared.Record.{Record}
+use Rattle.states.specs.declared.State.{State}
+
+-- the busy times
+abbrev pub timesOf : Record → List ℕ
+timesOf r = r .«status_write» ∷ r .page ∷ r .sector ∷ r .block ∷ r .chip ∷ []
+
+-- each is 1 to 1,000,000,000 microseconds
+unfoldable pub inRange : ℕ → Bool
+inRange us = leb 1 us && leb us 1000000000
+
+abbrev pub all : (ℕ → Bool) → List ℕ → Bool
+all test [] = true
+all test (us ∷ more) = test us && all test more
+
+unfoldable pub recordOk : Record → Bool
+recordOk r = isModel (r .model) && all inRange (timesOf r)
+
+abbrev pub largest : List ℕ → ℕ
+largest [] = 0
+largest (us ∷ more) = max us (largest more)
+
+unfoldable pub longestOf : Record → ℕ
+longestOf r = largest (timesOf r)
+
+-- BP is in its range, the busy time is at most the longest, and a busy chip has WEL set and is not in deep power-down
+unfoldable pub stateOk : Record → State → Bool
+stateOk r s =
+    (leb (s .bp) (modelOf (r .model) .«highest_bp») && leb (s .busy) (longestOf r))
+    && (eqb (s .busy) 0 || (s .wel && not (s .asleep)))
+
+-- 128·SRWD + 4·BP + 2·WEL + WIP, and WIP is 1 exactly when busy time is left (000 L250-253, 004 M289)
+abbrev pub flag : Bool → ℕ → ℕ
+flag true value = value
+flag false value = 0
+
+unfoldable pub statusOf : State → ℕ
+statusOf s = flag (s .srwd) 128 + (4 * s .bp + (flag (s .wel) 2 + flag (not (eqb (s .busy) 0)) 1))
+
+-- power-on from the factory (000 L548)
+abbrev pub powerOn : State
+powerOn = record { srwd = false; bp = 0; wel = false; asleep = false; busy = 0 }
+
+-- the sheets' maxima: 000 L521-525; 002 L807-812
+abbrev pub benchKH25L512 : Record
+benchKH25L512 = record { model = 1; «status_write» = 15000; page = 5000; sector = 120000; block = 2000000; chip = 2000000 }
+
+abbrev pub benchKH25L2006E : Record
+benchKH25L2006E = record { model = 2; «status_write» = 40000; page = 3000; sector = 200000; block = 2000000; chip = 3800000 }

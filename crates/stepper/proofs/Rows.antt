@@ -1,0 +1,84 @@
+-- The row of a line that was played. Assumes nothing.
+use mathlib.Core.Path.{_≡_, refl, sym, ap, subst, _∙_}
+use mathlib.Core.Bool.{true}
+use mathlib.Core.List.{List}
+use Prim.Native.Nat.{ℕ, _+_, _-_, _≤_}
+use native.Mathlib.Omega.{arith}
+use lib.Dec.{leb}
+use lib.ListN.{length, take, drop, replicate, length-take, length-drop}
+use borrow.Author.Tests.{le-leb}
+use Rattle.parts.specs.Parts.{part}
+use Rattle.states.specs.declared.Record.{Record}
+use Rattle.states.specs.declared.State.{State}
+use Rattle.text.specs.Put.{Put}
+use Rattle.log.specs.Row.{logText, roomOf, Rowed, longestRow}
+use Rattle.log.proofs.Laws.{row-most}
+use Rattle.play.specs.declared.Played.{Played}
+use Rattle.play.specs.Play.{Turn, Plays}
+use Rattle.chip.specs.Frames.{chipOf}
+use Rattle.play.proofs.Laws.{played-within}
+use Rattle.stepper.specs.Steps.{OneSteps}
+use Rattle.stepper.specs.Rows.{lineTurn, rowText, Logs, OneLogs}
+
+pub row-logs : (rec : Record) (s : State) (cells : List ℕ) (number : ℕ) (line d : List ℕ) (at : ℕ) {r : Played} {next : ℕ} {xs os e : List ℕ} → at + longestRow ≤ length d
+    → Plays (lineTurn rec s cells line) r xs os → length os ≡ 300
+    → Rowed (roomOf (length (take (r .from + r .count - r .from) (drop (r .from) os)))) (logText number (r .answer) (r .from) (take (r .from + r .count - r .from) (drop (r .from) os))) d at e next
+    → Logs rec s cells number line d at (record { next = next; state = r .state }) xs e
+unfolding rowText
+row-logs rec s cells number line d at {r} {next} {xs} {os} {e} room p l w =
+    record {
+      row = subst (λ (z : List ℕ). Put z d at e next) text put;
+      most = omega (arith, put .next, few, long);
+      state = ap (λ (q : Played). q .state) (p .played);
+      cells′ = p .cells;
+    }
+  where
+    shown : List ℕ
+    shown = take (r .from + r .count - r .from) (drop (r .from) os)
+
+    within : r .from + r .count ≤ 300
+    within = played-within rec (chipOf s cells) (replicate 300 0) line (p .played)
+
+    long : length shown ≤ 300
+    long = omega (arith, length-take (r .from + r .count - r .from) (drop (r .from) os), length-drop (r .from) os)
+
+    few : length (logText number (r .answer) (r .from) shown) ≤ roomOf (length shown)
+    few = row-most number (r .answer) (r .from) shown
+
+    fits : leb (at + roomOf (length shown)) (length d) ≡ true
+    fits = le-leb (at + roomOf (length shown)) (length d) (omega (arith, long))
+
+    put : Put (logText number (r .answer) (r .from) shown) d at e next
+    put =
+        record {
+          room = omega (arith, few, long);
+          is = w .is ∙ rw fits;
+          next = w .next ∙ rw fits;
+        }
+
+    text : logText number (r .answer) (r .from) shown ≡ logText number (lineTurn rec s cells line .played .answer) (lineTurn rec s cells line .played .from) (part (lineTurn rec s cells line .shown) (lineTurn rec s cells line .played .from) (lineTurn rec s cells line .played .count))
+    text =
+        let k : r .from + r .count - r .from ≡ r .count = omega arith in
+        ap (λ (n : ℕ). logText number (r .answer) (r .from) (take n (drop (r .from) os))) k
+        ∙ ap (λ (z : List ℕ). logText number (r .answer) (r .from) (part z (r .from) (r .count))) (p .shown)
+        ∙ ap (λ (q : Played). logText number (q .answer) (q .from) (part (lineTurn rec s cells line .shown) (q .from) (q .count))) (p .played)
+
+-- no row of a line is longer than `longestRow`
+pub row-short : (rec : Record) (s : State) (cells : List ℕ) (number : ℕ) (line : List ℕ) → length (rowText rec s cells number line) ≤ longestRow
+unfolding rowText
+row-short rec s cells number line =
+    let t : Turn = lineTurn rec s cells line in
+    let within : t .played .from + t .played .count ≤ 300 = played-within rec (chipOf s cells) (replicate 300 0) line refl in
+    let few = row-most number (t .played .answer) (t .played .from) (part (t .shown) (t .played .from) (t .played .count)) in
+    let long : length (part (t .shown) (t .played .from) (t .played .count)) ≤ t .played .count = omega (arith, length-take (t .played .count) (drop (t .played .from) (t .shown))) in
+    omega (arith, few, long, within)
+
+-- ---- no second answer
+pub one-steps : OneSteps
+one-steps t r r′ s s′ xs xs′ os os′ p q = (p .played ∙ sym (q .played), p .state ∙ sym (q .state), p .cells ∙ sym (q .cells), p .shown ∙ sym (q .shown))
+
+pub one-logs : OneLogs
+one-logs rec s cells number line d at r r′ xs xs′ e e′ p q =
+    let n : r .next ≡ r′ .next = p .row .next ∙ sym (q .row .next) in
+    let t : r .state ≡ r′ .state = p .state ∙ sym (q .state) in
+    (ap (λ (k : ℕ). record { next = k; state = r .state }) n ∙ ap (λ (z : State). record { next = r′ .next; state = z }) t, p .cells′ ∙ sym (q .cells′), p .row .is ∙ sym (q .row .is))

@@ -1,0 +1,12 @@
+-- `time::rested` meets its contract. Assumes nothing.
+use Rattle.time.specs.Time.{later}
+use borrow.Author.Needs.{needs}
+use Rattle.time.proofs.rested.Statement.{statement}
+use Rattle.time.proofs.rested.Tie as tie
+
+returns : tie.Need-returns
+unfolding later
+returns c = rw (c .less .ensures)
+
+pub rested-spec : {M : Type 1} → statement M
+rested-spec = tie.close (tie.spec (λ c κs. search needs) returns)

@@ -1,0 +1,31 @@
+-- Waiting and power cycles: 01, "Commands", last paragraphs. Assumes nothing.
+use mathlib.Core.Bool.{false, _&&_, _||_, cond}
+use Prim.Native.Nat.{ℕ, _-_}
+use lib.Dec.{eqb, ltb}
+use Rattle.states.specs.States.{recordOk, stateOk}
+use Rattle.states.specs.declared.Record.{Record}
+use Rattle.states.specs.declared.State.{State}
+use Rattle.answers.specs.declared.Answer.the-variants.{Done, BadRecord, BadState}
+use Rattle.time.specs.declared.After.{After}
+
+-- the busy time falls, never below 0; when it goes from above 0 to 0, WEL clears
+unfoldable pub later : State → ℕ → State
+later s us =
+    record { srwd = s .srwd; bp = s .bp; wel = s .wel && (eqb (s .busy) 0 || ltb us (s .busy)); asleep = s .asleep; busy = s .busy - us }
+
+-- a power cycle keeps SRWD and BP and zeroes the rest, also while busy (000 L246-248, L399-400)
+unfoldable pub cycled : State → State
+cycled s = record { srwd = s .srwd; bp = s .bp; wel = false; asleep = false; busy = 0 }
+
+-- wait and power cycle take no array and no frame: only 1 and 3 apply
+unfoldable pub ifValid : Record → State → State → After
+ifValid rec s next =
+    cond (recordOk rec)
+    (cond (stateOk rec s) (record { answer = Done; state = next }) (record { answer = BadState; state = s }))
+    (record { answer = BadRecord; state = s })
+
+unfoldable pub waitOf : Record → State → ℕ → After
+waitOf rec s us = ifValid rec s (later s us)
+
+unfoldable pub powerOf : Record → State → After
+powerOf rec s = ifValid rec s (cycled s)

@@ -1,0 +1,76 @@
+// Waits and power cycles.
+ghost use mathlib.Core.Path.{_≡_};
+ghost use Prim.Native.Nat.{_-_};
+ghost use Rattle.time.specs.Time.{later, cycled, ifValid, waitOf, powerOf};
+use answers::Answer;
+use states::Record;
+use states::State;
+
+// What a wait or a power cycle is answered, and the state after.
+pub struct After {
+    pub answer: Answer,
+    pub state: State,
+}
+
+fn less(a: u32, b: u32) -> u32
+    ensures { λ r. ⌜ r ≡ a - b ⌝ }
+{
+    if b <= a { a - b } else { 0 }
+}
+
+fn rested(st: State, us: u32) -> State
+    ensures { λ r. ⌜ r ≡ later st us ⌝ }
+{
+    let mut next = st;
+    next.wel = st.wel & ((st.busy == 0) | (us < st.busy));
+    next.busy = less(st.busy, us);
+    next
+}
+
+fn cycle(st: State) -> State
+    ensures { λ r. ⌜ r ≡ cycled st ⌝ }
+{
+    State {
+        srwd: st.srwd,
+        bp: st.bp,
+        wel: false,
+        asleep: false,
+        busy: 0,
+    }
+}
+
+// The next state, where the record and the state given are valid.
+fn if_valid(rec: Record, st: State, next: State) -> After
+    ensures { λ r. ⌜ r ≡ ifValid rec st next ⌝ }
+{
+    if !states::record_ok(rec) {
+        return After {
+            answer: Answer::BadRecord,
+            state: st,
+        };
+    }
+    if !states::state_ok(rec, st) {
+        return After {
+            answer: Answer::BadState,
+            state: st,
+        };
+    }
+    After {
+        answer: Answer::Done,
+        state: next,
+    }
+}
+
+// Any wait, of any record and state.
+pub fn wait(rec: Record, st: State, us: u32) -> After
+    ensures { λ r. ⌜ r ≡ waitOf rec st us ⌝ }
+{
+    if_valid(rec, st, rested(st, us))
+}
+
+// Any power cycle.
+pub fn power_cycle(rec: Record, st: State) -> After
+    ensures { λ r. ⌜ r ≡ powerOf rec st ⌝ }
+{
+    if_valid(rec, st, cycle(st))
+}

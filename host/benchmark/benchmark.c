@@ -1,0 +1,237 @@
+/*
+ * The benchmark: each row is one call, made by the archive, by the independent model and, where the
+ * row moves bytes, by memcpy or memset of as many. Every call is made twice and the second
+ * is counted; the cost of calling, as counted for an empty function of the same form, is taken
+ * off by run.sh. Prints the rows; the counts come from the counter (mark.h).
+ *
+ * Stretch 10 * row + 0 is ours, + 1 the model's, + 2 memcpy's or memset's, + 3 the empty call's,
+ * + 4 the empty copy's.
+ */
+#include "gwo.h"
+#include "model.h"
+#include "mark.h"
+
+#include <stdio.h>
+#include <stdlib.h>
+#include <string.h>
+
+typedef uint32_t frame_call(uint32_t, uint32_t, uint32_t, uint32_t, uint32_t, uint32_t, uint8_t *, size_t,
+                            uint8_t *, size_t, const uint8_t *, size_t, uint32_t, uint32_t, uint8_t *, size_t,
+                            uint32_t *, uint32_t *);
+typedef uint32_t wait_call(uint32_t, uint32_t, uint32_t, uint32_t, uint32_t, uint32_t, uint8_t *, size_t, uint32_t);
+typedef uint32_t power_cycle_call(uint32_t, uint32_t, uint32_t, uint32_t, uint32_t, uint32_t, uint8_t *, size_t);
+typedef void *copy_call(void *, const void *, size_t);
+typedef void *set_call(void *, int, size_t);
+
+frame_call empty_frame;
+wait_call empty_wait;
+power_cycle_call empty_power_cycle;
+copy_call empty_copy;
+set_call empty_set;
+
+enum { OURS, MODEL, MEMORY, EMPTY, EMPTY_MEMORY };
+enum kind { FRAME, WAIT, POWER_CYCLE };
+enum memory { NONE, COPY, SET };
+
+/* SHORT rows have a limit of 300 instructions, FOLDED is held against the row before it. */
+enum { SHORT = 1, FOLDED = 2 };
+
+struct row {
+    const char *name;
+    uint32_t model;
+    unsigned status, asleep;
+    uint32_t busy_us;       /* the state: status byte, flag and time */
+    enum kind kind;
+    uint8_t head[5];        /* the frame's first bytes; the others are 5A */
+    size_t frame_len;
+    uint32_t tail, wp, answer;
+    enum memory memory;
+    size_t moved;
+    const char *memory_limit; /* at most this many times the memory function; "-" none */
+    int marks;
+};
+
+#define READ_64K 65536
+static const struct row rows[] = {
+    {"status, 2 bytes", 1, 0, 0, 0, FRAME, {0x05}, 2, 0, 1, 0, NONE, 0, "-", SHORT},
+    {"write enable", 1, 0, 0, 0, FRAME, {0x06}, 1, 0, 1, 0, NONE, 0, "-", SHORT},
+    {"read, 16 bytes", 1, 0, 0, 0, FRAME, {0x03, 0, 0x12, 0x34}, 4 + 16, 0, 1, 0, COPY, 16, "-", SHORT},
+    {"read, 64 KiB from 0", 1, 0, 0, 0, FRAME, {0x03, 0, 0, 0}, 4 + READ_64K, 0, 1, 0, COPY, READ_64K, "3", 0},
+    {"read, 64 KiB wrapping", 1, 0, 0, 0, FRAME, {0x03, 0, 0x80, 0x01}, 4 + READ_64K, 0, 1, 0, COPY, READ_64K, "3", 0},
+    {"read, 64 KiB, model 2", 2, 0, 0, 0, FRAME, {0x03, 3, 0x80, 0x01}, 4 + READ_64K, 0, 1, 0, COPY, READ_64K, "3", 0},
+    {"fast read, 64 KiB", 1, 0, 0, 0, FRAME, {0x0B, 0, 0x80, 0x01}, 5 + READ_64K, 0, 1, 0, COPY, READ_64K, "3", 0},
+    {"9F, 64 KiB", 1, 0, 0, 0, FRAME, {0x9F}, 1 + READ_64K, 0, 1, 0, COPY, READ_64K, "-", 0},
+    {"sector erase", 1, 2, 0, 0, FRAME, {0x20, 0, 0x12, 0x34}, 4, 0, 1, 0, SET, 4096, "-", 0},
+    {"block erase", 2, 2, 0, 0, FRAME, {0xD8, 1, 0x12, 0x34}, 4, 0, 1, 0, SET, 65536, "1.3", 0},
+    {"chip erase, model 1", 1, 2, 0, 0, FRAME, {0xC7}, 1, 0, 1, 0, SET, 65536, "1.3", 0},
+    {"chip erase, model 2", 2, 2, 0, 0, FRAME, {0x60}, 1, 0, 1, 0, SET, 262144, "1.3", 0},
+    {"program, 1 byte", 1, 2, 0, 0, FRAME, {0x02, 0, 0x12, 0x34}, 4 + 1, 0, 1, 0, NONE, 0, "-", SHORT},
+    {"program, 256 bytes", 1, 2, 0, 0, FRAME, {0x02, 0, 0x12, 0x34}, 4 + 256, 0, 1, 0, COPY, 256, "-", 0},
+    {"program, 65,537 bytes", 1, 2, 0, 0, FRAME, {0x02, 0, 0x12, 0x34}, 4 + 65537, 0, 1, 0, COPY, 256, "-", FOLDED},
+    {"wait", 1, 3, 0, 5000, WAIT, {0}, 0, 0, 0, 0, NONE, 0, "-", SHORT},
+    {"power cycle", 1, 3, 0, 5000, POWER_CYCLE, {0}, 0, 0, 0, 0, NONE, 0, "-", SHORT},
+    {"refused 1, record", 3, 0, 0, 0, FRAME, {0x06}, 1, 0, 1, 1, NONE, 0, "-", SHORT},
+    {"refused 3, state", 1, 0x10, 0, 0, FRAME, {0x06}, 1, 0, 1, 3, NONE, 0, "-", SHORT},
+    {"refused 4, tail", 1, 0, 0, 0, FRAME, {0x06}, 1, 8, 1, 4, NONE, 0, "-", SHORT},
+    {"refused 10, empty", 1, 0, 0, 0, FRAME, {0}, 0, 0, 1, 10, NONE, 0, "-", SHORT},
+    {"refused 11, busy", 1, 3, 0, 5000, FRAME, {0x03}, 4 + 16, 0, 1, 11, NONE, 0, "-", SHORT},
+    {"refused 12, asleep", 1, 0, 1, 0, FRAME, {0x03}, 4 + 16, 0, 1, 12, NONE, 0, "-", SHORT},
+    {"refused 13, unknown", 1, 0, 0, 0, FRAME, {0x5A}, 4 + 16, 0, 1, 13, NONE, 0, "-", SHORT},
+    {"refused 14, length", 1, 2, 0, 0, FRAME, {0x20}, 5, 0, 1, 14, NONE, 0, "-", SHORT},
+    {"refused 15, WEL 0", 1, 0, 0, 0, FRAME, {0x02}, 4 + 256, 0, 1, 15, NONE, 0, "-", SHORT},
+    {"refused 16, SRWD", 1, 0x82, 0, 0, FRAME, {0x01, 0}, 2, 0, 0, 16, NONE, 0, "-", SHORT},
+    {"refused 17, protected", 1, 6, 0, 0, FRAME, {0x20, 0, 0, 0}, 4, 0, 1, 17, NONE, 0, "-", SHORT},
+};
+enum { ROWS = sizeof rows / sizeof rows[0] };
+
+static uint8_t array[262144] __attribute__((aligned(4096)));
+static uint8_t other[262144 + 64] __attribute__((aligned(4096)));
+static uint8_t frame[65600] __attribute__((aligned(4096)));
+static uint8_t out[65600] __attribute__((aligned(4096)));
+static uint8_t state[GWO_STATE_LENGTH];
+static struct gwo_record record;
+static size_t array_len;
+static uint32_t from, count;
+
+static void prepare(const struct row *r)
+{
+    size_t i;
+
+    record = r->model == 2 ? gwo_bench_model_2 : gwo_bench_model_1;
+    record.model = r->model;
+    array_len = r->model == 2 ? 262144 : 65536;
+    memset(state, 0, sizeof state);
+    state[0] = (uint8_t)r->status;
+    state[1] = (uint8_t)r->asleep;
+    state[4] = (uint8_t)r->busy_us;
+    state[5] = (uint8_t)(r->busy_us >> 8);
+    for (i = 0; i < sizeof array; i++)
+        array[i] = (uint8_t)(i * 7);
+    memset(frame, 0x5A, sizeof frame);
+    memcpy(frame, r->head, sizeof r->head);
+}
+
+/* The stretches, each in a function of its own that no other is merged with. */
+#define STRETCH __attribute__((noinline, noclone))
+
+static STRETCH uint32_t count_frame(frame_call *f, const struct row *r, int stretch, const char *name)
+{
+    uint32_t answer;
+
+    (void)stretch, (void)name;
+    MARK_START(stretch);
+    answer = f(record.model, record.status_us, record.page_us, record.sector_us, record.block_us, record.chip_us,
+               state, sizeof state, array, array_len, frame, r->frame_len, r->tail, r->wp, out, r->frame_len,
+               &from, &count);
+    MARK_END(stretch, name);
+    return answer;
+}
+
+static STRETCH uint32_t count_wait(wait_call *f, int stretch, const char *name)
+{
+    uint32_t answer;
+
+    (void)stretch, (void)name;
+    MARK_START(stretch);
+    answer = f(record.model, record.status_us, record.page_us, record.sector_us, record.block_us, record.chip_us,
+               state, sizeof state, 4999);
+    MARK_END(stretch, name);
+    return answer;
+}
+
+static STRETCH uint32_t count_power_cycle(power_cycle_call *f, int stretch, const char *name)
+{
+    uint32_t answer;
+
+    (void)stretch, (void)name;
+    MARK_START(stretch);
+    answer = f(record.model, record.status_us, record.page_us, record.sector_us, record.block_us, record.chip_us,
+               state, sizeof state);
+    MARK_END(stretch, name);
+    return answer;
+}
+
+static STRETCH void count_copy(copy_call *f, size_t n, int stretch, const char *name)
+{
+    (void)stretch, (void)name;
+    MARK_START(stretch);
+    f(other + 4, array + 0x234, n);
+    MARK_END(stretch, name);
+}
+
+static STRETCH void count_set(set_call *f, size_t n, int stretch, const char *name)
+{
+    (void)stretch, (void)name;
+    MARK_START(stretch);
+    f(other, 0xFF, n);
+    MARK_END(stretch, name);
+}
+
+static uint32_t call_once(const struct row *r, int who, int stretch, const char *name)
+{
+    static frame_call *const frames[] = {gwo_frame, ref_frame, NULL, empty_frame};
+    static wait_call *const waits[] = {gwo_wait, ref_wait, NULL, empty_wait};
+    static power_cycle_call *const power_cycles[] = {gwo_power_cycle, ref_power_cycle, NULL, empty_power_cycle};
+
+    prepare(r);
+    switch (r->kind) {
+    case FRAME: return count_frame(frames[who], r, stretch, name);
+    case WAIT: return count_wait(waits[who], stretch, name);
+    default: return count_power_cycle(power_cycles[who], stretch, name);
+    }
+}
+
+/* Twice: the first call finds and maps what it needs, and its count is replaced by the second's. */
+static void measure(const struct row *r, int index, int who)
+{
+    char name[16];
+    int stretch = 10 * index + who, turn;
+
+    snprintf(name, sizeof name, "%d", stretch);
+    for (turn = 0; turn < 2; turn++) {
+        uint32_t answer = call_once(r, who, stretch, name);
+
+        if (who != EMPTY && answer != r->answer) {
+            printf("benchmark: %s is answered %lu, want %lu\n", r->name, (unsigned long)answer, (unsigned long)r->answer);
+            exit(1);
+        }
+    }
+}
+
+static void measure_memory(const struct row *r, int index, int who)
+{
+    char name[16];
+    int stretch = 10 * index + who, turn;
+
+    snprintf(name, sizeof name, "%d", stretch);
+    for (turn = 0; turn < 2; turn++) {
+        if (r->memory == COPY)
+            count_copy(who == MEMORY ? memcpy : empty_copy, r->moved, stretch, name);
+        else
+            count_set(who == MEMORY ? memset : empty_set, r->moved, stretch, name);
+    }
+}
+
+int main(int argc, char **argv)
+{
+    static const char *const memories[] = {"-", "memcpy", "memset"};
+    int i;
+
+    /* `rows` lists them; otherwise they are counted. */
+    if (argc > 1 && strcmp(argv[1], "rows") == 0) {
+        for (i = 0; i < ROWS; i++)
+            printf("%d\t%s\t%lu\t%s\t%s\t%d\n", i, rows[i].name, (unsigned long)rows[i].answer,
+                   memories[rows[i].memory], rows[i].memory_limit, rows[i].marks);
+        return 0;
+    }
+    for (i = 0; i < ROWS; i++) {
+        measure(&rows[i], i, OURS);
+        measure(&rows[i], i, MODEL);
+        measure(&rows[i], i, EMPTY);
+        if (rows[i].memory == NONE)
+            continue;
+        measure_memory(&rows[i], i, MEMORY);
+        measure_memory(&rows[i], i, EMPTY_MEMORY);
+    }
+    return 0;
+}

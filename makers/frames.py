@@ -1,0 +1,439 @@
+#!/usr/bin/env python3
+"""Writes the input and the expected output of crates/frames.
+
+The frames are made here, and what they come to is computed here, by a small model written from the scope and the data
+sheets and nothing else; no program of the project is asked. The line format is that of crates/cases. Run it from the
+project's root.
+"""
+import random
+
+SECTOR, BLOCK, PAGE = 4096, 65536, 256
+# status write, page program, sector, block, chip: 000 L521-525 and 002 L807-812
+TIMES = {1: (15000, 5000, 120000, 2000000, 2000000), 2: (40000, 3000, 200000, 2000000, 3800000)}
+BLOCKS = {1: 1, 2: 4}
+ID = {1: (0xC2, 0x20, 0x10), 2: (0xC2, 0x20, 0x12)}
+SIGNATURE = {1: 0x05, 2: 0x11}
+PROTECTED = {1: ((), (0,), (0,), (0,)), 2: ((), (3,), (2, 3), (0, 1, 2, 3))}
+EXACT = {0x06: 1, 0x04: 1, 0xB9: 1, 0x60: 1, 0xC7: 1, 0x01: 2, 0x20: 4, 0x52: 4, 0xD8: 4}  # and no tail
+LEAST = {0x05: 1, 0x03: 4, 0x0B: 5, 0x9F: 1, 0x90: 4}  # and any tail
+CHANGES = (0x01, 0x02, 0x20, 0x52, 0xD8, 0x60, 0xC7)
+COMMANDS = (0x06, 0x04, 0x05, 0x01, 0x03, 0x0B, 0x20, 0x52, 0xD8, 0x60, 0xC7, 0x02, 0x9F, 0xAB, 0x90, 0xB9)
+UNKNOWN = (0x00, 0x07, 0x3B, 0x5A, 0xFF)
+
+
+class Chip:
+    def __init__(self, model, blocks):
+        self.model = model
+        self.times = TIMES.get(model, TIMES[1])
+        self.cells = bytearray(b"\xff" * (BLOCK * blocks))
+        self.srwd, self.bp, self.wel, self.asleep, self.busy = 0, 0, 0, 0, 0
+
+    def status(self):
+        return 128 * self.srwd + 4 * self.bp + 2 * self.wel + (1 if self.busy else 0)
+
+    def bad(self):
+        """Refusals 1 and 3, which waits and power cycles have too."""
+        if self.model not in BLOCKS:
+            return 1
+        if self.bp > 3 or self.busy > max(self.times):
+            return 3
+        if self.busy and (not self.wel or self.asleep):
+            return 3
+        return 0
+
+    def wait(self, us):
+        if self.bad():
+            return self.bad()
+        if self.busy and us >= self.busy:
+            self.wel = 0
+        self.busy = max(0, self.busy - us)
+        return 0
+
+    def power_cycle(self):
+        if self.bad():
+            return self.bad()
+        self.wel = self.asleep = self.busy = 0
+        return 0
+
+    def length_ok(self, command, n, tail):
+        if command in EXACT:
+            return n == EXACT[command] and tail == 0
+        if command in LEAST:
+            return n >= LEAST[command]
+        if command == 0x02:
+            return n >= 5 and tail == 0
+        return n >= 5 or (n == 1 and tail == 0)  # AB
+
+    def refusal(self, sent, tail, wp, room):
+        if self.bad() == 1:
+            return 1
+        if len(self.cells) != BLOCK * BLOCKS[self.model]:
+            return 2
+        if self.bad():
+            return 3
+        if len(sent) > 65541 or tail > 7:
+            return 4
+        if room < len(sent):
+            return 5
+        if not sent:
+            return 10
+        command = sent[0]
+        if self.busy and command != 0x05:
+            return 11
+        if self.asleep and command != 0xAB:
+            return 12
+        if command not in COMMANDS:
+            return 13
+        if not self.length_ok(command, len(sent), tail):
+            return 14
+        if command in CHANGES and not self.wel:
+            return 15
+        if command == 0x01 and self.srwd and not wp:
+            return 16
+        if command in (0x60, 0xC7) and self.bp:
+            return 17
+        if command in (0x02, 0x20, 0x52, 0xD8) and self.address(sent) // BLOCK in PROTECTED[self.model][self.bp]:
+            return 17
+        return 0
+
+    def address(self, sent):
+        return int.from_bytes(sent[1:4], "big") % len(self.cells)
+
+    def erase(self, first, size):
+        self.cells[first:first + size] = b"\xff" * size
+
+    def frame(self, sent, tail, wp, room):
+        """The answer, the first driven position and the driven bytes."""
+        answer = self.refusal(sent, tail, wp, room)
+        if answer:
+            return answer, 0, b""
+        command, n = sent[0], len(sent)
+        first, driven = 0, b""
+        if command == 0x06:
+            self.wel = 1
+        elif command == 0x04:
+            self.wel = 0
+        elif command == 0xB9:
+            self.asleep = 1
+        elif command == 0x05:
+            first, driven = 1, bytes([self.status()]) * (n - 1)
+        elif command == 0x01:
+            self.srwd, self.bp, self.busy = sent[1] >> 7, sent[1] >> 2 & 3, self.times[0]
+        elif command in (0x03, 0x0B):
+            first, a = (4 if command == 0x03 else 5), self.address(sent)
+            driven = bytes(self.cells[(a + i) % len(self.cells)] for i in range(n - first))
+        elif command == 0x20:
+            self.erase(self.address(sent) // SECTOR * SECTOR, SECTOR)
+            self.busy = self.times[2]
+        elif command in (0x52, 0xD8):
+            self.erase(self.address(sent) // BLOCK * BLOCK, BLOCK)
+            self.busy = self.times[3]
+        elif command in (0x60, 0xC7):
+            self.erase(0, len(self.cells))
+            self.busy = self.times[4]
+        elif command == 0x02:
+            self.program(self.address(sent), sent[4:])
+        elif command == 0x9F:
+            first, driven = 1, bytes(ID[self.model][i % 3] for i in range(n - 1))
+        elif command == 0xAB:
+            self.asleep = 0
+            first, driven = 4, bytes([SIGNATURE[self.model]]) * (n - 4)
+        elif command == 0x90:
+            pair = (0xC2, SIGNATURE[self.model])
+            first, driven = 4, bytes(pair[(i + sent[3]) % 2] for i in range(n - 4))
+        return 0, first, driven
+
+    def program(self, a, sent):
+        last = {}
+        for i, byte in enumerate(sent):
+            last[(a + i) % PAGE] = byte
+        for offset, byte in last.items():
+            self.cells[a // PAGE * PAGE + offset] &= byte
+        self.busy = self.times[1]
+
+
+class Cases:
+    """Writes the lines, and the rows that they come to."""
+
+    def __init__(self):
+        self.lines, self.rows, self.seen = [], [], {}
+
+    def say(self, letter, hexed):
+        assert len(hexed) % 2 == 0 and len(hexed) <= 32
+        self.lines.append("%s\t%s" % (letter, hexed.upper()))
+
+    def fresh(self, model, blocks=None):
+        self.model = model
+        blocks = BLOCKS[model] if blocks is None else blocks
+        self.say("M", "%02x%02x" % (model, blocks))
+        self.chip, self.at = Chip(model, blocks), 0
+
+    def state(self, srwd=0, bp=0, wel=0, asleep=0, busy=0):
+        c = self.chip
+        c.srwd, c.bp, c.wel, c.asleep, c.busy = srwd, bp, wel, asleep, busy
+        self.say("S", "%02x%02x%06x" % (128 * srwd + 4 * bp + 2 * wel, asleep, busy))
+
+    def cells(self, at, eight):
+        assert len(eight) == 8 and at + 8 <= len(self.chip.cells)
+        self.chip.cells[at:at + 8] = eight
+        self.say("C", "%06x%s" % (at, eight.hex()))
+
+    def look(self, at):
+        self.at = at
+        self.say("L", "%06x" % at)
+
+    def before(self):
+        """The note of a row: the model and the state before."""
+        c = self.chip
+        return "%d, %02X%s" % (self.model, c.status(), ", asleep" if c.asleep else "")
+
+    def row(self, line, note, answer, first, driven):
+        c = self.chip
+        shown = driven if len(driven) <= 300 else driven[-16:]
+        fields = ("%d\t%d\t%s" % (first, len(driven), shown.hex().upper())) if driven else "-\t-\t-"
+        n = len(c.cells)
+        eight = bytes(c.cells[(self.at + i) % n] for i in range(8)) if n else b""
+        self.lines.append("%s|%s" % (line, note))
+        self.rows.append("%s|%s|%d\t%s\t%02X\t%d\t%d\t%s" % (
+            line, note, answer, fields, c.status(), c.asleep, c.busy, eight.hex().upper()))
+
+    def frame(self, sent, tail=0, wp=1):
+        assert len(sent) <= 300
+        key = (self.model, sent[0] if sent else -1)
+        self.seen[key] = self.seen.get(key, 0) + 1
+        line = "F\t%d\t%d\t%s" % (wp, tail, sent.hex().upper())
+        self.row(line, self.before(), *self.chip.frame(sent, tail, wp, 65600))
+
+    def long(self, start, fill, count, room=None, tail=0):
+        room = count if room is None else room
+        start = (start + bytes([fill]) * 8)[:8]
+        line = "X\t%06X%06X%02X%02X%s" % (count, room, tail, fill, start.hex().upper())
+        sent = (start + bytes([fill]) * count)[:count]
+        self.row(line, self.before(), *self.chip.frame(sent, tail, 1, room))
+
+    def wait(self, us):
+        self.row("W\t%d" % us, self.before(), self.chip.wait(us), 0, b"")
+
+    def power(self):
+        self.row("P", self.before(), self.chip.power_cycle(), 0, b"")
+
+    def bad_line(self, line):
+        self.row(line, self.before(), 20, 0, b"")
+
+
+def shortest(command, address=0x000100):
+    """A well-formed frame of the command."""
+    a = address.to_bytes(3, "big")
+    if command in (0x03, 0x90):
+        return bytes([command]) + a + b"\0\0"
+    if command == 0x0B:
+        return bytes([command]) + a + b"\0\0\0"
+    if command == 0x02:
+        return bytes([command]) + a + b"\xA5\x5A"
+    if command in (0x20, 0x52, 0xD8):
+        return bytes([command]) + a
+    if command == 0x01:
+        return b"\x01\x88"
+    return bytes([command]) + {0x05: b"\0\0", 0x9F: b"\0\0\0\0"}.get(command, b"")
+
+
+def states(b, command):
+    """The command in every kind of state, and with every kind of length, tail and WP#."""
+    longest = max(TIMES[b.model])
+    sent = shortest(command)
+    for srwd in (0, 1):
+        for bp in (0, 1, 2, 3):
+            b.state(srwd, bp, wel=1)
+            b.frame(sent, wp=0)
+            b.state(srwd, bp, wel=1)
+            b.frame(sent, wp=1)
+    for extra in (dict(), dict(asleep=1), dict(wel=1, asleep=1), dict(wel=1, busy=1), dict(srwd=1, bp=2, wel=1, busy=longest)):
+        b.state(**extra)
+        b.frame(sent)
+    for tail in range(1, 8):
+        b.state(wel=1)
+        b.frame(sent, tail)
+    for n in (1, 2, 3, 4, 5, 6, 7, 9):
+        for tail in (0, 5):
+            b.state(wel=1, asleep=1 if command == 0xAB else 0)
+            b.frame((sent + b"\x11\x22\x33\x44\x55\x66\x77\x88")[:n], tail)
+    for bad in (dict(bp=4, wel=1), dict(busy=1), dict(wel=1, asleep=1, busy=1), dict(wel=1, busy=longest + 1)):
+        b.state(**bad)
+        b.frame(sent)
+
+
+def edges(model):
+    """Addresses at the ends of pages, sectors, blocks and the array, and past the array's end."""
+    size = BLOCK * BLOCKS[model]
+    inside = {0, 0xFF, 0x100, 0xFFF, 0x1000, 0x1001, 0x7FFF, 0x8000, size - 0x1001, size - 0x1000, size - 2, size - 1}
+    if model == 2:
+        inside |= {0xFFFF, 0x10000, 0x1FFFF, 0x20000, 0x2FFFF, 0x30000}
+    return sorted(inside) + [size, size + 0x1234, 2 * size - 1, 0x070000, 0x800000, 0xFFFFFF]
+
+
+def reads(b, command):
+    size = len(b.chip.cells)
+    for a in (0, 0xF8, 0x100, 0xFF8, 0x1000, size - 8):
+        b.cells(a, bytes((a // 8 + 31 * i + 1) % 256 for i in range(8)))
+    b.state()
+    for a in edges(b.model):
+        b.look(a)
+        for n in (0, 1, 3):
+            b.frame(bytes([command]) + a.to_bytes(3, "big") + bytes(n + (command == 0x0B)), n)
+    b.frame(bytes([command]) + (size - 100).to_bytes(3, "big") + bytes(296))
+
+
+def erases(b, command):
+    """Cells on both sides of the unit's ends: those inside become FF, those outside stay."""
+    unit = SECTOR if command == 0x20 else BLOCK
+    size = len(b.chip.cells)
+    for a in edges(b.model):
+        first = a % size // unit * unit
+        around = sorted({max(0, first - 4), min(first + unit - 4, size - 8)})
+        for bp in (0, 1, 2) if b.model == 2 else (0,):
+            for at in around:
+                b.cells(at, bytes(range(0x10, 0x18)))
+            b.state(bp=bp, wel=1)
+            b.look(around[0])
+            b.frame(bytes([command]) + a.to_bytes(3, "big"))
+            b.look(around[-1])
+            b.wait(b.chip.busy)
+
+
+def whole(b, command):
+    size = len(b.chip.cells)
+    for at in (0, size // 2 - 4, size - 8):
+        for wel in (0, 1):
+            b.cells(at, bytes(8))
+            b.look(at)
+            b.state(wel=wel)
+            b.frame(bytes([command]))
+            b.wait(b.chip.busy)
+
+
+def programs(b, command):
+    """Different bytes, so that it shows where each goes and which one counts."""
+    size = len(b.chip.cells)
+    for a in edges(b.model):
+        for n in (1, 2, 255, 256, 257, 295) if a in (0, 0xFF) else (9,):
+            page = a % size // PAGE * PAGE
+            b.state(wel=1)
+            b.frame(b"\x20" + page.to_bytes(3, "big"))
+            b.wait(b.chip.busy)
+            b.cells(page, bytes((0xF0, 0x0F, 0xFF, 0x3C, 0x81, 0x00, 0x55, 0xAA)))
+            b.state(wel=1)
+            b.look(a % size // 8 * 8)
+            b.frame(bytes([command]) + a.to_bytes(3, "big") + bytes((7 * i + n) % 256 for i in range(n)))
+            b.look(page)
+            b.wait(b.chip.busy - 1)
+            b.wait(1)
+            b.look((page + PAGE) % size)
+            b.long(b"\x03" + page.to_bytes(3, "big"), 0, 4 + PAGE)
+
+
+def writes(b, command):
+    for byte in (0x00, 0x04, 0x08, 0x0C, 0x80, 0x8C, 0x73, 0x7F, 0xFF, 0x02, 0x01):
+        for wp in (0, 1):
+            b.state(wel=1)
+            b.frame(bytes([command, byte]), wp=wp)
+            b.frame(b"\x05\0\0")
+            b.wait(b.chip.busy - 1)
+            b.frame(b"\x05\0")
+            b.wait(1)
+            b.frame(b"\x06")
+            b.frame(bytes([command, 0]), wp=wp)
+            b.power()
+
+
+def makers(b, command):
+    b.state()
+    for fourth in (0, 1, 2, 3, 0x7E, 0xFF):
+        for n in (0, 1, 2, 7):
+            b.frame(bytes([command, 0x12, 0x34, fourth]) + bytes(n), n)
+
+
+MORE = {0x03: reads, 0x0B: reads, 0x20: erases, 0x52: erases, 0xD8: erases, 0x60: whole, 0xC7: whole,
+        0x02: programs, 0x01: writes, 0x90: makers}
+
+
+def long_frames(b):
+    for command in COMMANDS + UNKNOWN:
+        for count, room, tail in ((65541, None, 0), (65541, 65540, 0), (65542, None, 0), (65542, 1, 0), (9, 9, 8), (9, 8, 7), (9, 600, 7)):
+            b.state(wel=1)
+            b.long(bytes([command]) + b"\x00\xff\xfe\x11", 0x22, count, room, tail)
+    b.state()
+    for n in (96, 97, 98, 299, 300, 301, 302, 303, 304, 305, 1000):
+        for command in (0x05, 0x9F, 0x90, 0xAB, 0x03, 0x0B):
+            b.long(bytes([command]), 0, n)
+
+
+def wrong_setups(b):
+    for model, blocks in ((0, 1), (3, 1), (3, 4), (1, 0), (1, 2), (1, 4), (2, 1), (2, 3), (2, 0)):
+        b.fresh(model, blocks)
+        for sent in (b"", b"\x06", b"\x05\0", b"\x03\0\0\0\0", b"\xff"):
+            b.frame(sent)
+        b.wait(1)
+        b.power()
+
+
+def history(b, rng, steps):
+    """A long run from power-on, with frames near each other, so that they meet."""
+    for _ in range(steps):
+        kind = rng.random()
+        place = (rng.choice((0, 0xFC, 0xFFC, 0xFFFC, 0x2FFFC, 0x3FFFC, 0xFFFFFC)) + rng.randrange(8)) % 0x1000000
+        b.look(place)
+        a = place.to_bytes(3, "big")
+        if kind < 0.30:
+            b.wait(rng.choice((0, 1, 2999, 3000, 4999, 5000, 15000, 120000, 200000, 3800000, 4294967295)))
+        elif kind < 0.33:
+            b.power()
+        elif kind < 0.55:
+            b.frame(b"\x06")
+        elif kind < 0.65:
+            b.frame(b"\x02" + a + bytes(rng.randrange(256) for _ in range(rng.choice((1, 2, 9, 20)))))
+        elif kind < 0.75:
+            b.frame(b"\x03" + a + bytes(rng.randrange(12)))
+        elif kind < 0.80:
+            b.frame(bytes([0x01, rng.choice((0, 0, 0, 4, 8, 12, 0x80, 0x84))]), wp=rng.randrange(2))
+        elif kind < 0.85:
+            b.frame(b"\xAB" + bytes(rng.choice((0, 0, 4, 5))))
+        else:
+            sent = shortest(rng.choice(COMMANDS + UNKNOWN), place)
+            b.frame(sent, rng.choice((0, 0, 0, 1)), rng.randrange(2))
+
+
+def main():
+    b = Cases()
+    for model in (1, 2):
+        for command in COMMANDS + UNKNOWN:
+            b.fresh(model)
+            b.cells(0x100, bytes(range(0xE8, 0xF0)))
+            b.look(0x100)
+            states(b, command)
+            MORE.get(command, lambda b, command: None)(b, command)
+        b.fresh(model)
+        for tail in range(8):
+            b.state(wel=tail % 2)
+            b.frame(b"", tail)
+        long_frames(b)
+        b.fresh(model)
+        history(b, random.Random(model), 500)
+    wrong_setups(b)
+    b.fresh(1)
+    for line in ("", "F", "F\t1\t8\t06", "F\t1\t0\t6", "W\t01", "P\t", "f\t1\t0\t06"):
+        b.bad_line(line)
+    for model in (1, 2):
+        for command in COMMANDS:
+            assert b.seen[model, command] >= 12, (model, command)
+        assert sum(b.seen[model, u] for u in UNKNOWN) >= 12
+    text = "\n".join(b.lines) + "\n"
+    assert len(text) < 262144, len(text)
+    with open("crates/frames/stdin", "w", newline="") as f:
+        f.write(text)
+    with open("crates/frames/stdout", "w", newline="") as f:
+        f.write("step|model, status before|answer\tfrom\tcount\tbytes\tstatus\tasleep\tbusy\tcells\n")
+        f.write("\n".join(b.rows) + "\n")
+
+
+if __name__ == "__main__":
+    main()
