@@ -18,7 +18,6 @@ use parts::wide;
 use play::Played;
 use states::Record;
 use states::State;
-use units::Address;
 
 // The chip that is worked: its model, the length of its array, the first of the cells that are looked at, and what the last step came to.
 struct Setup {
