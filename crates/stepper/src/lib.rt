@@ -1,6 +1,5 @@
 // One line's step: the chip's state is one record that is lent to the step and altered there. Above it stands a function with plain
 // parameters, so that whoever calls that one needs no proof by hand; and the line's row of the log.
-ghost use mathlib.Core.Path.{_≡_};
 ghost use Prim.Native.Nat.{_+_, _≤_};
 ghost use lib.ListN.{length};
 ghost use Rattle.chip.specs.Frames.{chipOf};

@@ -1,8 +1,8 @@
--- `cases::say_cells` is safe: the place lies in the array. Assumes nothing.
+-- `rows::say_cells` is safe: the place lies in the array. Assumes nothing.
 use native.Mathlib.Nat.{mod-lt}
 use borrow.Author.Needs.{needs}
-use Rattle.cases.proofs.say_cells.Statement.{statement}
-use Rattle.cases.proofs.say_cells.Tie as tie
+use Rattle.rows.proofs.say_cells.Statement.{statement}
+use Rattle.rows.proofs.say_cells.Tie as tie
 
 read-ring-requires : tie.Need-read-ring-requires
 read-ring-requires c κs = (mod-lt _ (search needs), search needs, search needs)

@@ -1,0 +1,160 @@
+// The steps of a case: a fresh chip, its state and cells set, frames, waits and power cycles. `cases` says what each line looks like.
+ghost use Prim.Native.Nat.{_<_};
+use parts::wide;
+use play::Played;
+use states::Record;
+use states::State;
+
+// The chip that is worked: its model, the length of its array, the first of the cells that are looked at, and what the last step came to.
+pub struct Setup {
+    pub model: u8,
+    pub size: usize,
+    pub look: u32,
+    pub last: Played,
+}
+
+// The number of three bytes.
+fn number(high: u8, middle: u8, low: u8) -> u32
+    ensures { λ r. ⌜ r < 16777216 ⌝ }
+{
+    wide(high) * 65536 + (wide(middle) * 256 + wide(low))
+}
+
+// The bench record of the model; of a number that no model has, one with that number.
+fn record_of(model: u8) -> Record {
+    if model == 2 {
+        return states::bench_kh25l2006e();
+    }
+    let mut rec = states::bench_kh25l512();
+    rec.model = wide(model);
+    rec
+}
+
+// What a step came to that sends nothing.
+fn set_to(state: State) -> Played {
+    Played {
+        answer: 0,
+        from: 0,
+        count: 0,
+        state,
+    }
+}
+
+pub fn fresh(model: u8, blocks: u8, array: &mut [u8]) -> Setup {
+    flash::erase_all(array);
+    let last = set_to(states::power_on());
+    Setup {
+        model,
+        size: 65536 * wide(blocks) as usize,
+        look: 0,
+        last,
+    }
+}
+
+fn state_of(status: u8, asleep: u8, busy: u32) -> State {
+    State {
+        srwd: 128 <= status,
+        bp: status / 4 % 32,
+        wel: status / 2 % 2 == 1,
+        asleep: asleep != 0,
+        busy,
+    }
+}
+
+// Eight bytes become the cells from an address on, where they fit.
+fn set_cells(says: &[u8; 16], array: &mut [u8]) {
+    let at = number(says[0], says[1], says[2]) as usize;
+    let all = &says[..];
+    if at + 8 <= array.len() {
+        text::put_all(&all[3..11], array, at);
+    }
+}
+
+// A frame of any length, tail and room.
+fn send(
+    rec: Record,
+    st: State,
+    array: &mut [u8],
+    frame: &[u8],
+    tail: u8,
+    out: &mut [u8],
+) -> Played {
+    let r = chip::frame(rec, st, array, frame, wide(tail), true, out);
+    let answer = r.answer;
+    let state = r.state;
+    Played {
+        answer: answers::number_of(answer),
+        from: r.from,
+        count: r.count,
+        state,
+    }
+}
+
+// Eight bytes, and then one byte over and over.
+fn long_frame(says: &[u8; 16]) -> [u8; 65600] {
+    let mut frame = [0u8; 65600];
+    parts::fill(&mut frame, says[7]);
+    let all = &says[..];
+    text::put_all(&all[8..16], &mut frame, 0);
+    frame
+}
+
+fn send_long(rec: Record, st: State, says: &[u8; 16], array: &mut [u8], out: &mut [u8]) -> Played {
+    let count = number(says[0], says[1], says[2]) as usize;
+    let room = number(says[3], says[4], says[5]) as usize;
+    if 65600 < count {
+        return set_to(st);
+    }
+    if out.len() < room {
+        return set_to(st);
+    }
+    let frame = long_frame(says);
+    send(rec, st, array, &frame[0..count], says[6], &mut out[0..room])
+}
+
+// The bytes that a line has in hex after its letter and tab; 0 where it has none.
+pub fn read(line: &[u8]) -> [u8; 16] {
+    let mut says = [0u8; 16];
+    if 2 <= line.len() {
+        script::unhex(&line[2..], &mut says);
+    }
+    says
+}
+
+pub fn letter(line: &[u8]) -> u8 {
+    if 0 < line.len() { line[0] } else { 0 }
+}
+
+fn with_last(setup: Setup, last: Played) -> Setup {
+    let mut next = setup;
+    next.last = last;
+    next
+}
+
+fn with_look(setup: Setup, look: u32) -> Setup {
+    let mut next = setup;
+    next.look = look;
+    next
+}
+
+pub fn step(setup: Setup, line: &[u8], array: &mut [u8], out: &mut [u8; 65600]) -> Setup {
+    let rec = record_of(setup.model);
+    let last = setup.last;
+    let st = last.state;
+    let says = read(line);
+    match letter(line) {
+        b'S' => with_last(
+            setup,
+            set_to(state_of(says[0], says[1], number(says[2], says[3], says[4]))),
+        ),
+        b'C' => {
+            set_cells(&says, array);
+            setup
+        }
+        b'L' => with_look(setup, number(says[0], says[1], says[2])),
+        b'X' => with_last(setup, send_long(rec, st, &says, array, out)),
+        _ => with_last(setup, play::play(line, rec, st, array, out)),
+    }
+}
+
+// ---- lines

@@ -1,0 +1,80 @@
+// What the programs `frames` and `bench_sheet` write of a case: its row.
+use libc::STDOUT_FILENO;
+use play::Played;
+use states::State;
+
+// The bytes of a text.
+pub fn say(text: &[u8]) {
+    io::write_all(STDOUT_FILENO, text);
+}
+
+// A number, and a tab.
+fn say_number(n: u64) {
+    io::print_decimal(STDOUT_FILENO, n);
+    say(b"\t");
+}
+
+// At most 300 bytes in hex.
+fn say_hex(bytes: &[u8]) {
+    let mut digits = [0u8; 600];
+    if bytes.len() <= 300 {
+        let n = text::put_hex(bytes, &mut digits, 0);
+        if n <= 600 {
+            say(&digits[0..n]);
+        }
+    }
+}
+
+// The first driven position, how many, and the bytes; of over 300 the last 16.
+fn say_driven(from: u32, count: u32, out: &[u8]) {
+    if count == 0 {
+        say(b"-\t-\t-");
+        return;
+    }
+    say_number(from as u64);
+    say_number(count as u64);
+    let first = from as usize;
+    let end = first + count as usize;
+    if out.len() < end {
+        return;
+    }
+    if count <= 300 {
+        say_hex(&out[first..end]);
+    } else {
+        let near = end - 16;
+        say_hex(&out[near..end]);
+    }
+}
+
+// The status byte, the deep power-down flag and the busy time.
+fn say_state(st: State) {
+    if st.bp < 32 {
+        let byte = [states::status(st)];
+        say_hex(&byte);
+    }
+    say(b"\t");
+    say_number(st.asleep as u64);
+    say_number(st.busy as u64);
+}
+
+// Eight cells from an address on, after the last one those from 0 on; none of an empty array.
+fn say_cells(array: &[u8], look: u32) {
+    if 0 < array.len() {
+        let mut seen = [0u8; 8];
+        rings::read_ring(array, look as usize % array.len(), &mut seen, 0, 8);
+        say_hex(&seen);
+    }
+}
+
+// The row of a line: the line, what it came to, and the eight cells from `look` on.
+pub fn say_row(line: &[u8], last: Played, look: u32, array: &[u8], out: &[u8]) {
+    let st = last.state;
+    say(line);
+    say(b"|");
+    say_number(last.answer as u64);
+    say_driven(last.from, last.count, out);
+    say(b"\t");
+    say_state(st);
+    say_cells(array, look);
+    say(b"\n");
+}
