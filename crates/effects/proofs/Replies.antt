@@ -1,16 +1,22 @@
 -- Laws of replies and of what is driven. Assumes nothing.
 use mathlib.Core.Path.{_≡_}
+use mathlib.Core.Bool.{Bool, true, false, _||_, and-false}
 use mathlib.Core.List.{List}
-use Prim.Native.Nat.{ℕ, _-_, _≤_}
+use Prim.Native.Nat.{ℕ, _+_, _-_, _*_, _/_, _%_, _≤_, _<_}
 use native.Mathlib.Omega.{arith}
+use lib.Dec.{eqb}
 use lib.ListN.{length, take, drop, replicate, length-drop}
 use lib.Seq.{take-all}
 use borrow.Author.Tests.{le-ltb}
 use Rattle.parts.specs.Parts.{lay}
 use Rattle.parts.proofs.Lay.{lay-none}
 use Rattle.states.specs.declared.State.{State}
+use Rattle.models.specs.Models.{modelOf}
+use Rattle.answers.specs.Answers.{saysProtected}
+use Rattle.answers.specs.declared.Answer.{Answer}
 use Rattle.answers.specs.declared.Answer.the-variants.{Done}
-use Rattle.effects.specs.Effects.{drives, quiet}
+use Rattle.states.specs.States.{flag}
+use Rattle.effects.specs.Effects.{drives, quiet, refusalLeaves, configWritten, latched}
 
 -- a frame that ends before its first data position drives nothing
 pub drives-none : (s : State) (from n : ℕ) → n ≤ from → drives s from n ≡ quiet Done s
@@ -28,3 +34,32 @@ drives-nothing out from n byte h =
 -- a part to the end is what is left after the first k
 pub tail-drop : (k : ℕ) (xs : List ℕ) → take (length xs - k) (drop k xs) ≡ drop k xs
 tail-drop k xs = take-all (length xs - k) (drop k xs) (omega (arith, length-drop k xs))
+
+-- ---- what a refusal leaves
+-- all of the state where it is not for a protected unit
+pub leaves-all : (n : ℕ) (a : Answer) (s : State) → saysProtected a ≡ false → refusalLeaves n a s ≡ s
+unfolding refusalLeaves
+leaves-all n a s e = rw (e, and-false (modelOf n .«latch_falls»))
+
+-- and on a model where WEL does not fall
+pub leaves-latch : (n : ℕ) (a : Answer) (s : State) → modelOf n .«latch_falls» ≡ false → refusalLeaves n a s ≡ s
+unfolding refusalLeaves
+leaves-latch n a s e = rw e
+
+-- where it falls, a protected unit clears it
+pub clears-latch : (n : ℕ) (a : Answer) (s : State) → modelOf n .«latch_falls» ≡ true → saysProtected a ≡ true → refusalLeaves n a s ≡ latched s false
+unfolding refusalLeaves
+clears-latch n a s e p = rw (e, p)
+
+-- ---- the register after a status write
+-- a byte's two reserved bits are 0, and its TB bit is what it was or what was written
+config-written : (old b : ℕ) → b < 256
+    → (configWritten old b / 32 % 2 ≡ 0) × (configWritten old b / 4 % 2 ≡ 0) × (configWritten old b / 8 % 2 ≡ flag (eqb (old / 8 % 2) 1 || eqb (b / 8 % 2) 1) 1)
+unfolding configWritten
+config-written old b h = go (eqb (b / 16 % 2) 1) (eqb (old / 8 % 2) 1 || eqb (b / 8 % 2) 1)
+  where
+    go : (p t : Bool) → (let v = b / 64 * 64 + (flag p 16 + (flag t 8 + b % 4)) in (v / 32 % 2 ≡ 0) × (v / 4 % 2 ≡ 0) × (v / 8 % 2 ≡ flag t 1))
+    go true true = (omega arith, omega arith, omega arith)
+    go true false = (omega arith, omega arith, omega arith)
+    go false true = (omega arith, omega arith, omega arith)
+    go false false = (omega arith, omega arith, omega arith)
