@@ -58,7 +58,8 @@ cxx() {
         exec g++ "$@"
     fi
     need x86_64-linux-gnu-g++ g++-x86-64-linux-gnu libc6-dev-amd64-cross
-    exec x86_64-linux-gnu-g++ -static "$@"
+    # Debian's cross libm.a names files where the cross compiler does not keep them: link without it.
+    exec x86_64-linux-gnu-g++ -static "$@" -nodefaultlibs -Wl,--start-group -lstdc++ -lgcc -lgcc_eh -lc -Wl,--end-group
 }
 
 run() {
