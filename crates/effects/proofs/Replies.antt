@@ -1,10 +1,9 @@
 -- Laws of replies and of what is driven. Assumes nothing.
 use mathlib.Core.Path.{_≡_}
-use mathlib.Core.Bool.{Bool, true, false, _||_, and-false}
+use mathlib.Core.Bool.{true, false, and-false}
 use mathlib.Core.List.{List}
-use Prim.Native.Nat.{ℕ, _+_, _-_, _*_, _/_, _%_, _≤_, _<_}
+use Prim.Native.Nat.{ℕ, _-_, _≤_}
 use native.Mathlib.Omega.{arith}
-use lib.Dec.{eqb}
 use lib.ListN.{length, take, drop, replicate, length-drop}
 use lib.Seq.{take-all}
 use borrow.Author.Tests.{le-ltb}
@@ -15,8 +14,7 @@ use Rattle.models.specs.Models.{modelOf}
 use Rattle.answers.specs.Answers.{saysProtected}
 use Rattle.answers.specs.declared.Answer.{Answer}
 use Rattle.answers.specs.declared.Answer.the-variants.{Done}
-use Rattle.states.specs.States.{flag}
-use Rattle.effects.specs.Effects.{drives, quiet, refusalLeaves, configWritten, latched}
+use Rattle.effects.specs.Effects.{drives, quiet, refusalLeaves, latched}
 
 -- a frame that ends before its first data position drives nothing
 pub drives-none : (s : State) (from n : ℕ) → n ≤ from → drives s from n ≡ quiet Done s
@@ -50,16 +48,3 @@ leaves-latch n a s e = rw e
 pub clears-latch : (n : ℕ) (a : Answer) (s : State) → modelOf n .«latch_falls» ≡ true → saysProtected a ≡ true → refusalLeaves n a s ≡ latched s false
 unfolding refusalLeaves
 clears-latch n a s e p = rw (e, p)
-
--- ---- the register after a status write
--- a byte's two reserved bits are 0, and its TB bit is what it was or what was written
-config-written : (old b : ℕ) → b < 256
-    → (configWritten old b / 32 % 2 ≡ 0) × (configWritten old b / 4 % 2 ≡ 0) × (configWritten old b / 8 % 2 ≡ flag (eqb (old / 8 % 2) 1 || eqb (b / 8 % 2) 1) 1)
-unfolding configWritten
-config-written old b h = go (eqb (b / 16 % 2) 1) (eqb (old / 8 % 2) 1 || eqb (b / 8 % 2) 1)
-  where
-    go : (p t : Bool) → (let v = b / 64 * 64 + (flag p 16 + (flag t 8 + b % 4)) in (v / 32 % 2 ≡ 0) × (v / 4 % 2 ≡ 0) × (v / 8 % 2 ≡ flag t 1))
-    go true true = (omega arith, omega arith, omega arith)
-    go true false = (omega arith, omega arith, omega arith)
-    go false true = (omega arith, omega arith, omega arith)
-    go false false = (omega arith, omega arith, omega arith)

@@ -8,7 +8,7 @@ use native.Mathlib.Nat.{not-suc-le-zero, le-of-suc-le-suc}
 use native.Mathlib.Omega.{arith}
 use lib.Dec.{eqb, leb, ltb}
 use lib.ListN.{length, getD, List·getD-eq-default}
-use borrow.Author.Tests.{eqb-true, leb-true, ltb-true, ltb-false, eq-eqb, ne-eqb, lt-ltb, le-ltb, not-true}
+use borrow.Author.Tests.{eqb-true, eqb-false, leb-true, ltb-true, ltb-false, eq-eqb, ne-eqb, lt-ltb, le-ltb, not-true}
 use Rattle.units.specs.declared.Sector.{Sector}
 use Rattle.units.specs.declared.HalfBlock.{HalfBlock}
 use Rattle.models.specs.declared.Range.{Range}
@@ -232,6 +232,15 @@ module _ (n : ℕ) (tb : Bool) where
         let s : blocks ≡ rangeOf n tb bp .1 = e ∙ eqb-true _ _ (b .1) in
         ap (λ (k : ℕ). range k blocks) f ∙ ap (range (rangeOf n tb bp .0)) s
 
+-- at BP 0 nothing is protected, whatever TB is
+pub range-none : (n : ℕ) (tb : Bool) → rangeOf n tb 0 .1 ≡ 0
+range-none n tb = go tb (modelOf n .register) refl
+  where
+    go : (tb r : Bool) → modelOf n .register ≡ r → rangeOf n tb 0 .1 ≡ 0
+    go false r e = range-rules n false 0 (omega arith) (λ t. absurd (false≢true t)) .none refl
+    go true true e = range-rules n true 0 (omega arith) (λ t. e) .none refl
+    go true false e = sym (ap (λ (x : Range). x .1) (no-range n true 0 (rw e (omega arith))))
+
 -- the code's test for no range at all
 pub out-of-range : (n : ℕ) (tb : Bool) (bp : ℕ) → (ltb (modelOf n .«highest_bp») bp || (tb && not (modelOf n .register))) ≡ true → levels (partOf n) tb ≤ bp
 out-of-range n tb bp e = ⊎-elim (λ l. above tb (ltb-true _ bp l)) (λ b. without tb (both tb _ b)) (either (ltb (modelOf n .«highest_bp») bp) _ e)
@@ -261,3 +270,27 @@ lowTest p = leb (p .row .«highest_bp») 15
 pub highest-bp : (n : ℕ) → modelOf n .«highest_bp» ≤ 15
 unfolding partOf lowTest
 highest-bp n = leb-true _ _ (found lowTest n kh25l512 models refl refl)
+
+-- only model 3 has the erase of a half block
+pub half-erase-model : (n : ℕ) → modelOf n .«half_erase» ≡ true → n ≡ 3
+half-erase-model n e = go (eqb n 3) refl
+  where
+    go : (b : Bool) → eqb n 3 ≡ b → n ≡ 3
+    go true t = eqb-true n 3 t
+    go false t = absurd (false≢true (sym (none (eqb n 2) refl) ∙ e))
+      where
+        none : (b : Bool) → eqb n 2 ≡ b → modelOf n .«half_erase» ≡ false
+        none true u = ap (λ (p : Part). p .row .«half_erase») (second-part n (eqb-true n 2 u))
+        none false u = ap (λ (p : Part). p .row .«half_erase») (first-part n (eqb-false n 2 u) (eqb-false n 3 t))
+
+-- and on it alone WEL falls at a protected unit
+pub latch-falls-model : (n : ℕ) → modelOf n .«latch_falls» ≡ eqb n 3
+latch-falls-model n = go (eqb n 3) refl
+  where
+    go : (b : Bool) → eqb n 3 ≡ b → modelOf n .«latch_falls» ≡ b
+    go true t = ap (λ (p : Part). p .row .«latch_falls») (third-part n (eqb-true n 3 t))
+    go false t = none (eqb n 2) refl
+      where
+        none : (b : Bool) → eqb n 2 ≡ b → modelOf n .«latch_falls» ≡ false
+        none true u = ap (λ (p : Part). p .row .«latch_falls») (second-part n (eqb-true n 2 u))
+        none false u = ap (λ (p : Part). p .row .«latch_falls») (first-part n (eqb-false n 2 u) (eqb-false n 3 t))

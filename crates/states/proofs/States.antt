@@ -3,7 +3,7 @@ use mathlib.Core.Path.{_≡_, refl, _∙_}
 use mathlib.Core.Bool.{Bool, true, false, not, _&&_, _||_, cond, or-true}
 use mathlib.Core.Logic.{_⊎_, inl, inr, ⊎-elim}
 use mathlib.Core.List.{List, [], _∷_, _++_}
-use Prim.Native.Nat.{ℕ, zero, suc, _≤_, _<_}
+use Prim.Native.Nat.{ℕ, zero, suc, _*_, _/_, _%_, _≤_, _<_}
 use native.Mathlib.Nat.{le-trans, le-of-lt, le-max-left, le-max-right, max-le, max-eq-left, max-eq-right, not-suc-le-zero, le-of-suc-le-suc}
 use native.Mathlib.Omega.{arith}
 use lib.Dec.{eqb, leb, lit≤}
@@ -47,6 +47,21 @@ unfolding stateOk
 valid rec s p =
     rw (le-leb (s .bp) (modelOf (rec .model) .«highest_bp») (p .level), p .register, le-leb (s .busy) (longestOf rec) (p .time))
     (⊎-elim (λ e. rw (eq-eqb (s .busy) 0 e)) (λ e. rw (e .0, e .1) (or-true (eqb (s .busy) 0))) (p .mood))
+
+-- ---- the register
+pub config-0-ok : (r : Bool) → configOk r 0 ≡ true
+unfolding configOk
+config-0-ok true = refl
+config-0-ok false = refl
+
+-- with all of it cleared but TB it is still in its range
+pub only-tb-ok : (r : Bool) (c : ℕ) → configOk r c ≡ true → configOk r (c / 8 % 2 * 8) ≡ true
+unfolding configOk
+only-tb-ok true c h =
+    let a : c / 8 % 2 * 8 / 32 % 2 ≡ 0 = omega arith in
+    let b : c / 8 % 2 * 8 / 4 % 2 ≡ 0 = omega arith in
+    rw (a, b)
+only-tb-ok false c h = let z = eqb-true c 0 h in eq-eqb (c / 8 % 2 * 8) 0 (omega arith)
 
 -- ---- the times
 -- every time is at most the longest
