@@ -55,6 +55,7 @@ fn state_of(status: u8, asleep: u8, busy: u32) -> State {
     State {
         srwd: 128 <= status,
         bp: status / 4 % 32,
+        config: 0,
         wel: status / 2 % 2 == 1,
         asleep: asleep != 0,
         busy,

@@ -15,13 +15,13 @@ use Rattle.effects.specs.Effects.{Effect, Gives}
 use Rattle.chip.specs.Frames.{Sent, chipOf, frameOf}
 use Rattle.time.specs.Time.{later, cycled, ifValid, waitOf, powerOf}
 use Rattle.pod.specs.Packing.{unpackOf}
-use Rattle.pod.specs.Calls.{keptOf, answeredOf, calledFrame, calledWait, calledCycle, Leaves, Answers, Packs}
+use Rattle.pod.specs.Calls.{mayMove, keptOf, answeredOf, calledFrame, calledWait, calledCycle, Leaves, Answers, Packs}
 use Rattle.pod.proofs.Packing.{Small, packing-length}
 use Rattle.pod.proofs.Valid.{valid-packing, valid-small, timely, later-small, cycled-small, Taken, taken}
 
 -- what is packed fits eight bytes
 fits : (rec : Record) (xs : List ℕ) (a : Answer) (next : State)
-    → (isDone a ≡ true → stateOk rec (unpackOf xs) ≡ true) → (isDone a ≡ true → Small next) → Packs a next xs
+    → (mayMove a ≡ true → stateOk rec (unpackOf xs) ≡ true) → (mayMove a ≡ true → Small next) → Packs a next xs
 fits rec xs a next v h = record { room = λ d. packing-length xs (valid-packing rec xs (v d)); level = λ d. h d .level }
 
 -- ---- frames
@@ -29,11 +29,11 @@ module _ (rec : Record) (xs cells : List ℕ) (f : Sent) where
   abbrev E : Effect
   E = frameOf rec (chipOf (unpackOf xs) cells) f
 
-  pub frame-taken : isDone (E .reply .answer) ≡ true → Taken rec (chipOf (unpackOf xs) cells) E
+  pub frame-taken : mayMove (E .reply .answer) ≡ true → Taken rec (chipOf (unpackOf xs) cells) E
   frame-taken d = taken rec (chipOf (unpackOf xs) cells) f d
 
   frame-fits : Packs (E .reply .answer) (E .reply .state) xs
-  frame-fits = fits rec xs (E .reply .answer) (E .reply .state) (λ d. frame-taken d .valid) (λ d. frame-taken d .replied .small)
+  frame-fits = fits rec xs (E .reply .answer) (E .reply .state) (λ d. frame-taken d .valid) (λ d. frame-taken d .small)
 
   module _ {r : Record} {s : State} {reply : Reply} {cells′ out′ : List ℕ} (re : r ≡ rec) (se : s ≡ unpackOf xs) (g : Gives (frameOf r (chipOf s cells) f) reply cells′ out′) where
     given : Gives E reply cells′ out′
@@ -64,7 +64,7 @@ bad-record rec xs cells f {r} e b =
 
 -- ---- waits and power cycles
 module _ (rec : Record) (xs : List ℕ) (next : State) (h : Small (unpackOf xs) → Small next) where
-  pub time-small : isDone (ifValid rec (unpackOf xs) next .answer) ≡ true → Small (ifValid rec (unpackOf xs) next .state)
+  pub time-small : mayMove (ifValid rec (unpackOf xs) next .answer) ≡ true → Small (ifValid rec (unpackOf xs) next .state)
   time-small d =
       let t = timely rec (unpackOf xs) next d in
       rw (t .after) (h (valid-small rec (unpackOf xs) (t .right) (t .valid)))

@@ -8,6 +8,7 @@ use lib.Dec.{eqb, leb}
 use lib.ListN.{length, getD, drop, drop-of-length-le}
 use lib.Seq.{sets, sets-eq}
 use mir.Val.{boolByte}
+use borrow.Author.Tests.{eq-eqb}
 use Rattle.states.specs.States.{flag, statusOf}
 use Rattle.states.specs.declared.State.{State}
 use Rattle.pod.specs.Packing.{bytesOf, spelt, packOf, readOf, isPacking, noState, unpackOf}
@@ -29,7 +30,7 @@ read-pack s h =
 -- the code's eight bytes, stored one after the other
 abbrev stores : State → ℕ → List ℕ
 stores s status =
-    status ∷ boolByte (s .asleep) ∷ 0 ∷ 0 ∷ s .busy % 256 ∷ s .busy / 256 % 256 ∷ s .busy / 65536 % 256 ∷ s .busy / 16777216 % 256 ∷ []
+    status ∷ boolByte (s .asleep) ∷ s .config ∷ 0 ∷ s .busy % 256 ∷ s .busy / 256 % 256 ∷ s .busy / 65536 % 256 ∷ s .busy / 16777216 % 256 ∷ []
 
 pub stored : (s : State) (xs : List ℕ) {status : ℕ} → length xs ≡ 8 → status ≡ statusOf s → sets xs 0 (stores s status) ≡ packOf s
 unfolding packOf
@@ -74,11 +75,11 @@ wrong-length xs n = go (isPacking xs) refl
     go true e = absurd (n (packing-length xs e))
     go false e = unpack-none xs e
 
--- bit 6, WIP, the flag and the two zeros
+-- bit 6, WIP, the flag and the zero
 abbrev tests : List ℕ → ℕ → Bool
 tests xs wip =
     eqb (getD xs 0 0 / 64 % 2) 0
-    && (eqb (getD xs 0 0 % 2) wip && (leb (getD xs 1 0) 1 && (eqb (getD xs 2 0) 0 && eqb (getD xs 3 0) 0)))
+    && (eqb (getD xs 0 0 % 2) wip && (leb (getD xs 1 0) 1 && eqb (getD xs 3 0) 0))
 
 tests-right : (xs : List ℕ) → length xs ≡ 8 → ((i : ℕ) → getD xs i 0 < 256) → isPacking xs ≡ tests xs (flag (not (eqb (spelt (drop 4 xs)) 0)) 1)
 unfolding isPacking packOf readOf statusOf
@@ -89,12 +90,12 @@ tests-right (a ∷ b ∷ c ∷ []) n h = absurd (omega arith)
 tests-right (a ∷ b ∷ c ∷ d ∷ ts) n h =
     let four : length ts ≡ 4 = omega arith in
     let e : bytesOf 4 (spelt ts) ≡ ts = rw four at (bytes-spelt ts (λ (i : ℕ). h (suc (suc (suc (suc i)))))) in
-    rw (e, same-refl ts, flag-test b, status-test a (h 0) (not (eqb (spelt ts) 0)), and-true, and-assoc)
+    rw (e, same-refl ts, flag-test b, eq-eqb c c refl, status-test a (h 0) (not (eqb (spelt ts) 0)), and-true, and-assoc)
 
 module _ (xs : List ℕ) (n : length xs ≡ 8) (h : (i : ℕ) → getD xs i 0 < 256) where
   pub tested : {time : ℕ} {b : Bool} → time ≡ spelt (getD xs 4 0 ∷ getD xs 5 0 ∷ getD xs 6 0 ∷ getD xs 7 0 ∷ [])
       → tests xs (boolByte (not (eqb time 0))) ≡ b
-      → cond b (record { srwd = leb 128 (getD xs 0 0); bp = getD xs 0 0 / 4 % 16; wel = eqb (getD xs 0 0 / 2 % 2) 1; asleep = eqb (getD xs 1 0) 1; busy = time }) noState
+      → cond b (record { srwd = leb 128 (getD xs 0 0); bp = getD xs 0 0 / 4 % 16; config = getD xs 2 0; wel = eqb (getD xs 0 0 / 2 % 2) 1; asleep = eqb (getD xs 1 0) 1; busy = time }) noState
       ≡ unpackOf xs
   unfolding unpackOf readOf
   tested {time} {b} e f =

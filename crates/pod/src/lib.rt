@@ -20,6 +20,7 @@ fn no_state() -> State
     State {
         srwd: false,
         bp: 255,
+        config: 0,
         wel: false,
         asleep: false,
         busy: 0,
@@ -42,14 +43,16 @@ fn unpack(state: &[u8]) -> State
     }
     let status = state[0];
     let flag = state[1];
+    let config = state[2];
     let busy = time_of(state[4], state[5], state[6], state[7]);
     let wip = (busy != 0) as u8;
     if (status / 64 % 2 == 0)
-        & ((status % 2 == wip) & ((flag <= 1) & ((state[2] == 0) & (state[3] == 0))))
+        & ((status % 2 == wip) & ((flag <= 1) & (state[3] == 0)))
     {
         return State {
             srwd: 128 <= status,
             bp: status / 4 % 16,
+            config,
             wel: status / 2 % 2 == 1,
             asleep: flag == 1,
             busy,
@@ -66,7 +69,7 @@ fn pack(st: State, state: &mut [u8])
     let busy = st.busy;
     state[0] = states::status(st);
     state[1] = st.asleep as u8;
-    state[2] = 0;
+    state[2] = st.config;
     state[3] = 0;
     state[4] = (busy % 256) as u8;
     state[5] = (busy / 256 % 256) as u8;
@@ -74,13 +77,13 @@ fn pack(st: State, state: &mut [u8])
     state[7] = (busy / 16777216 % 256) as u8;
 }
 
-// The answer's number. The state after is packed where nothing was refused; otherwise the lent bytes stay.
+// The answer's number. The state after is packed where it may differ: where nothing was refused, and at 17; otherwise the lent bytes stay.
 fn keep(answer: Answer, next: State, state: &mut [u8]) -> u32
     requires { ⌜ Packs answer next (now state) ⌝ }
     ensures { λ r. ⌜ (r ≡ numberOf answer) × (now (state .exit) ≡ keptOf answer next (now (state .entry))) ⌝ }
 {
     let number = answers::number_of(answer);
-    if number == 0 {
+    if (number == 0) | (number == 17) {
         pack(next, state);
     }
     number
@@ -95,8 +98,9 @@ fn record_of(
     sector_us: u32,
     block_us: u32,
     chip_us: u32,
+    half_us: u32,
 ) -> Record
-    ensures { λ r. ⌜ r ≡ recordOf model «status_us» «page_us» «sector_us» «block_us» «chip_us» ⌝ }
+    ensures { λ r. ⌜ r ≡ recordOf model «status_us» «page_us» «sector_us» «block_us» «chip_us» «half_us» ⌝ }
 {
     Record {
         model,
@@ -105,6 +109,7 @@ fn record_of(
         sector: sector_us,
         block: block_us,
         chip: chip_us,
+        half: half_us,
     }
 }
 
@@ -117,6 +122,7 @@ pub extern "C" fn gwo_frame(
     sector_us: u32,
     block_us: u32,
     chip_us: u32,
+    half_us: u32,
     state: &mut [u8],
     array: &mut [u8],
     frame: &[u8],
@@ -126,9 +132,9 @@ pub extern "C" fn gwo_frame(
     from: &mut u32,
     count: &mut u32,
 ) -> u32
-    ensures { λ r. ⌜ Leaves (calledFrame (recordOf model «status_us» «page_us» «sector_us» «block_us» «chip_us») (now (state .entry)) (now (array .entry)) (sentBy (now (frame .entry)) tail wp (now (out .entry)))) r (now (state .exit)) (now (array .exit)) (now (out .exit)) (now (from .exit)) (now (count .exit)) ⌝ }
+    ensures { λ r. ⌜ Leaves (calledFrame (recordOf model «status_us» «page_us» «sector_us» «block_us» «chip_us» «half_us») (now (state .entry)) (now (array .entry)) (sentBy (now (frame .entry)) tail wp (now (out .entry)))) r (now (state .exit)) (now (array .exit)) (now (out .exit)) (now (from .exit)) (now (count .exit)) ⌝ }
 {
-    let rec = record_of(model, status_us, page_us, sector_us, block_us, chip_us);
+    let rec = record_of(model, status_us, page_us, sector_us, block_us, chip_us, half_us);
     if !states::record_ok(rec) {
         *from = 0;
         *count = 0;
@@ -152,12 +158,13 @@ pub extern "C" fn gwo_wait(
     sector_us: u32,
     block_us: u32,
     chip_us: u32,
+    half_us: u32,
     state: &mut [u8],
     us: u32,
 ) -> u32
-    ensures { λ r. ⌜ Answers (calledWait (recordOf model «status_us» «page_us» «sector_us» «block_us» «chip_us») (now (state .entry)) us) r (now (state .exit)) ⌝ }
+    ensures { λ r. ⌜ Answers (calledWait (recordOf model «status_us» «page_us» «sector_us» «block_us» «chip_us» «half_us») (now (state .entry)) us) r (now (state .exit)) ⌝ }
 {
-    let rec = record_of(model, status_us, page_us, sector_us, block_us, chip_us);
+    let rec = record_of(model, status_us, page_us, sector_us, block_us, chip_us, half_us);
     let st = unpack(state);
     let waited = time::wait(rec, st, us);
     let answer = waited.answer;
@@ -174,11 +181,12 @@ pub extern "C" fn gwo_power_cycle(
     sector_us: u32,
     block_us: u32,
     chip_us: u32,
+    half_us: u32,
     state: &mut [u8],
 ) -> u32
-    ensures { λ r. ⌜ Answers (calledCycle (recordOf model «status_us» «page_us» «sector_us» «block_us» «chip_us») (now (state .entry))) r (now (state .exit)) ⌝ }
+    ensures { λ r. ⌜ Answers (calledCycle (recordOf model «status_us» «page_us» «sector_us» «block_us» «chip_us» «half_us») (now (state .entry))) r (now (state .exit)) ⌝ }
 {
-    let rec = record_of(model, status_us, page_us, sector_us, block_us, chip_us);
+    let rec = record_of(model, status_us, page_us, sector_us, block_us, chip_us, half_us);
     let st = unpack(state);
     let cycled = time::power_cycle(rec, st);
     let answer = cycled.answer;

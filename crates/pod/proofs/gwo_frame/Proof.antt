@@ -10,18 +10,18 @@ use Rattle.pod.proofs.gwo_frame.Tie as tie
 returns : tie.Need-returns
 returns c =
     let given = c .before .before .before .before .before .before .before .args in
-    bad-record (recordOf (given .model) (given .status-us) (given .page-us) (given .sector-us) (given .block-us) (given .chip-us)) (given .state .now) (given .array .now) (sentBy (given .frame .now) (given .tail) (given .wp) (given .out .now)) (c .before .before .record-of .ensures) (sym (c .before .record-ok .ensures) ∙ not-true _ (c .if1 .taken))
+    bad-record (recordOf (given .model) (given .status-us) (given .page-us) (given .sector-us) (given .block-us) (given .chip-us) (given .half-us)) (given .state .now) (given .array .now) (sentBy (given .frame .now) (given .tail) (given .wp) (given .out .now)) (c .before .before .record-of .ensures) (sym (c .before .record-ok .ensures) ∙ not-true _ (c .if1 .taken))
 
 keep-requires : tie.Need-keep-requires
 keep-requires c κs =
     let given = c .before .before .before .before .before .before .before .before .before .before .before .before .before .before .before .before .before .before .args in
-    fits-frame (recordOf (given .model) (given .status-us) (given .page-us) (given .sector-us) (given .block-us) (given .chip-us)) (given .state .now) (given .array .now) (sentBy (given .frame .now) (given .tail) (given .wp) (given .out .now))
+    fits-frame (recordOf (given .model) (given .status-us) (given .page-us) (given .sector-us) (given .block-us) (given .chip-us) (given .half-us)) (given .state .now) (given .array .now) (sentBy (given .frame .now) (given .tail) (given .wp) (given .out .now))
     (c .before .before .before .before .before .before .before .before .before .before .before .before .before .record-of .ensures) (c .before .before .before .before .before .before .before .before .before .unpack .ensures) (c .before .before .before .before .before .before .frame .ensures)
 
 returns-2 : tie.Need-returns-2
 returns-2 c =
     let given = c .before .before .before .before .before .before .before .before .before .before .before .before .before .before .before .before .before .before .before .before .before .args in
-    leaves (recordOf (given .model) (given .status-us) (given .page-us) (given .sector-us) (given .block-us) (given .chip-us)) (given .state .now) (given .array .now) (sentBy (given .frame .now) (given .tail) (given .wp) (given .out .now))
+    leaves (recordOf (given .model) (given .status-us) (given .page-us) (given .sector-us) (given .block-us) (given .chip-us) (given .half-us)) (given .state .now) (given .array .now) (sentBy (given .frame .now) (given .tail) (given .wp) (given .out .now))
     (c .before .before .before .before .before .before .before .before .before .before .before .before .before .before .before .before .record-of .ensures) (c .before .before .before .before .before .before .before .before .before .before .before .before .unpack .ensures) (c .before .before .before .before .before .before .before .before .before .frame .ensures)
     (c .before .before .keep .ensures .0) (c .before .before .keep .ensures .1)
 

@@ -8,12 +8,12 @@ use Rattle.pod.proofs.gwo_power_cycle.Tie as tie
 keep-requires : tie.Need-keep-requires
 keep-requires c κs =
     let given = c .before .before .before .before .before .before .before .args in
-    fits-cycle (recordOf (given .model) (given .status-us) (given .page-us) (given .sector-us) (given .block-us) (given .chip-us)) (given .state .now) (c .before .before .before .before .before .record-of .ensures) (c .before .before .before .unpack .ensures) (c .before .before .power-cycle .ensures)
+    fits-cycle (recordOf (given .model) (given .status-us) (given .page-us) (given .sector-us) (given .block-us) (given .chip-us) (given .half-us)) (given .state .now) (c .before .before .before .before .before .record-of .ensures) (c .before .before .before .unpack .ensures) (c .before .before .power-cycle .ensures)
 
 returns : tie.Need-returns
 returns c =
     let given = c .before .before .before .before .before .before .before .before .before .before .args in
-    answers-cycle (recordOf (given .model) (given .status-us) (given .page-us) (given .sector-us) (given .block-us) (given .chip-us)) (given .state .now) (c .before .before .before .before .before .before .before .before .record-of .ensures) (c .before .before .before .before .before .before .unpack .ensures) (c .before .before .before .before .before .power-cycle .ensures)
+    answers-cycle (recordOf (given .model) (given .status-us) (given .page-us) (given .sector-us) (given .block-us) (given .chip-us) (given .half-us)) (given .state .now) (c .before .before .before .before .before .before .before .before .record-of .ensures) (c .before .before .before .before .before .before .unpack .ensures) (c .before .before .before .before .before .power-cycle .ensures)
     (c .before .before .keep .ensures .0) (c .before .before .keep .ensures .1)
 
 pub gwo-power-cycle-spec : {M : Type 1} → statement M
