@@ -61,7 +61,7 @@ stand_in() {
 }
 
 link() {
-    "$host" cc "$obj"/rules*.o "$obj/jig.o" "$obj/rig.o" "$archive" "$obj/model.o" -o "$bin/rules"
+    "$host" cc "$obj"/rules*.o "$obj"/jig*.o "$obj/rig.o" "$archive" "$obj/model.o" -o "$bin/rules"
     for program in compare twelve; do
         "$host" cc "$obj/$program"*.o "$obj/rig.o" "$archive" "$obj/model.o" -o "$bin/$program"
     done
@@ -70,7 +70,8 @@ link() {
     "$host" cc -std=c99 $flags "$here"/explain/*.c -o "$bin/explain"
 }
 
-# header LANGUAGE STANDARD: without a warning, and it links with the archive and runs; as C++ too it needs C's library alone.
+# header LANGUAGE STANDARD: without a warning, and it links with the archive and runs. As C++ it needs no more than C's
+# library either.
 header() {
     case $1 in c) compiler=cc ;; c++) compiler=cxx ;; esac
     "$host" $compiler -x "$1" -std="$2" -Wall -Wextra -Wpedantic -Werror -I"$here/include" \
