@@ -53,7 +53,7 @@ unfolding isPacking
 is-packing s h = rw (read-pack s h) (same-refl (packOf s))
 
 -- ---- unpacking
-unpack-read : (xs : List ℕ) → isPacking xs ≡ true → unpackOf xs ≡ readOf xs
+pub unpack-read : (xs : List ℕ) → isPacking xs ≡ true → unpackOf xs ≡ readOf xs
 unfolding unpackOf
 unpack-read xs e = rw e
 
@@ -68,12 +68,12 @@ pub unpack-pack : (s : State) → Small s → unpackOf (packOf s) ≡ s
 unpack-pack s h = unpack-read (packOf s) (is-packing s h) ∙ read-pack s h
 
 -- ---- the tests of the code
-pub wrong-length : (xs : List ℕ) → (length xs ≡ 8 → ⊥) → unpackOf xs ≡ noState
+pub wrong-length : (xs : List ℕ) → (length xs ≡ 8 → ⊥) → isPacking xs ≡ false
 wrong-length xs n = go (isPacking xs) refl
   where
-    go : (b : Bool) → isPacking xs ≡ b → unpackOf xs ≡ noState
+    go : (b : Bool) → isPacking xs ≡ b → isPacking xs ≡ false
     go true e = absurd (n (packing-length xs e))
-    go false e = unpack-none xs e
+    go false e = e
 
 -- bit 6, WIP, the flag and the zero
 abbrev tests : List ℕ → ℕ → Bool
@@ -92,13 +92,13 @@ tests-right (a ∷ b ∷ c ∷ d ∷ ts) n h =
     let e : bytesOf 4 (spelt ts) ≡ ts = rw four at (bytes-spelt ts (λ (i : ℕ). h (suc (suc (suc (suc i)))))) in
     rw (e, same-refl ts, flag-test b, eq-eqb c c refl, status-test a (h 0) (not (eqb (spelt ts) 0)), and-true, and-assoc)
 
-module _ (xs : List ℕ) (n : length xs ≡ 8) (h : (i : ℕ) → getD xs i 0 < 256) where
-  pub tested : {time : ℕ} {b : Bool} → time ≡ spelt (getD xs 4 0 ∷ getD xs 5 0 ∷ getD xs 6 0 ∷ getD xs 7 0 ∷ [])
-      → tests xs (boolByte (not (eqb time 0))) ≡ b
-      → cond b (record { srwd = leb 128 (getD xs 0 0); bp = getD xs 0 0 / 4 % 16; config = getD xs 2 0; wel = eqb (getD xs 0 0 / 2 % 2) 1; asleep = eqb (getD xs 1 0) 1; busy = time }) noState
-      ≡ unpackOf xs
-  unfolding unpackOf readOf
-  tested {time} {b} e f =
-      let t : time ≡ spelt (drop 4 xs) = e ∙ sym (ap spelt (last-four xs n)) in
-      let p : isPacking xs ≡ b = tests-right xs n h ∙ rw (← t, ← flag-byte (not (eqb time 0))) f in
-      rw (p, t)
+module _ (xs : List ℕ) (n : length xs ≡ 8) {time : ℕ} (e : time ≡ spelt (getD xs 4 0 ∷ getD xs 5 0 ∷ getD xs 6 0 ∷ getD xs 7 0 ∷ [])) where
+  time-is : time ≡ spelt (drop 4 xs)
+  time-is = e ∙ sym (ap spelt (last-four xs n))
+
+  pub tested : ((i : ℕ) → getD xs i 0 < 256) → tests xs (boolByte (not (eqb time 0))) ≡ isPacking xs
+  tested h = rw (flag-byte (not (eqb time 0)), time-is) (sym (tests-right xs n h))
+
+  pub spells : record { srwd = leb 128 (getD xs 0 0); bp = getD xs 0 0 / 4 % 16; config = getD xs 2 0; wel = eqb (getD xs 0 0 / 2 % 2) 1; asleep = eqb (getD xs 1 0) 1; busy = time } ≡ readOf xs
+  unfolding readOf
+  spells = rw time-is

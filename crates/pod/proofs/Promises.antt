@@ -25,7 +25,7 @@ use Rattle.pod.specs.Calls.{mayMove, keptOf, called, answered, answeredO
 use Rattle.pod.specs.Promises.{UnpacksPacked, PacksUnpacked, NoPacking, FrameRefusesBytes, WaitRefusesBytes, CycleRefusesBytes, RefusedFrameStays, RefusedFrameClears, RefusedWaitStays, RefusedCycleStays, FrameCarries, WaitCarries, CycleCarries, OneCalled, OneAnswered}
 use Rattle.pod.proofs.Packing.{Small, pack-unpack, unpack-pack}
 use Rattle.pod.proofs.Valid.{valid-packing, valid-small, later-small, cycled-small, untimely, not-17, refused}
-use Rattle.pod.proofs.Calls.{frame-taken, time-small}
+use Rattle.pod.proofs.Calls.{bad-state, time-refuses, frame-taken, time-small}
 
 -- ---- packing and unpacking
 pub unpacks-packed : UnpacksPacked
@@ -43,37 +43,21 @@ not-valid rec xs n = go (stateOk rec (unpackOf xs)) refl
     go false e = e
 
 pub frame-refuses-bytes : FrameRefusesBytes
-unfolding calledFrame frameOf headFor refusalOf keptOf
-frame-refuses-bytes rec xs cells f n = go (recordOk rec) (eqb (length cells) (modelOf (rec .model) .length)) refl refl
+unfolding calledFrame frameOf refusalOf keptOf
+frame-refuses-bytes rec xs cells f n = go (recordOk rec) refl
   where
-    v : stateOk rec (unpackOf xs) ≡ false
-    v = not-valid rec xs n
-
-    go : (r l : Bool) → recordOk rec ≡ r → eqb (length cells) (modelOf (rec .model) .length) ≡ l
-        → calledFrame rec xs cells f ≡ called (cond r (cond l 3 2) 1) xs cells (f .out) 0 0
-    go true true e g = rw (e, g, v)
-    go true false e g = rw (e, g)
-    go false l e g = rw e
-
-time-refuses : (rec : Record) (xs : List ℕ) (next : State) → NoPacking rec xs
-    → answeredOf xs (ifValid rec (unpackOf xs) next) ≡ answered (cond (recordOk rec) 3 1) xs
-unfolding ifValid keptOf
-time-refuses rec xs next n = go (recordOk rec) refl
-  where
-    v : stateOk rec (unpackOf xs) ≡ false
-    v = not-valid rec xs n
-
-    go : (r : Bool) → recordOk rec ≡ r → answeredOf xs (ifValid rec (unpackOf xs) next) ≡ answered (cond r 3 1) xs
-    go true e = rw (e, v)
+    go : (r : Bool) → recordOk rec ≡ r
+        → calledFrame rec xs cells f ≡ called (cond r (cond (eqb (length cells) (modelOf (rec .model) .length)) 3 2) 1) xs cells (f .out) 0 0
+    go true e = bad-state rec xs cells f e (not-valid rec xs n)
     go false e = rw e
 
 pub wait-refuses-bytes : WaitRefusesBytes
 unfolding calledWait waitOf
-wait-refuses-bytes rec xs us n = time-refuses rec xs (later (unpackOf xs) us) n
+wait-refuses-bytes rec xs us n = time-refuses rec xs (later (unpackOf xs) us) (not-valid rec xs n)
 
 pub cycle-refuses-bytes : CycleRefusesBytes
 unfolding calledCycle powerOf
-cycle-refuses-bytes rec xs n = time-refuses rec xs (cycled (unpackOf xs)) n
+cycle-refuses-bytes rec xs n = time-refuses rec xs (cycled (unpackOf xs)) (not-valid rec xs n)
 
 -- ---- refused calls
 kept : (a : Answer) (next : State) (xs : List ℕ) → mayMove a ≡ false → keptOf a next xs ≡ xs

@@ -34,6 +34,13 @@ valid-packing rec xs v = go (isPacking xs) refl
     go true e = e
     go false e = absurd (nothing-valid rec (rw (unpack-none xs e) at v))
 
+pub invalid : (rec : Record) (xs : List ℕ) → isPacking xs ≡ false → stateOk rec (unpackOf xs) ≡ false
+invalid rec xs n = go (stateOk rec (unpackOf xs)) refl
+  where
+    go : (b : Bool) → stateOk rec (unpackOf xs) ≡ b → stateOk rec (unpackOf xs) ≡ false
+    go true e = absurd (true≢false (sym (valid-packing rec xs e) ∙ n))
+    go false e = e
+
 pub valid-small : (rec : Record) (s : State) → recordOk rec ≡ true → stateOk rec s ≡ true → Small s
 valid-small rec s r v =
     record {

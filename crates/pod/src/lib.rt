@@ -4,7 +4,7 @@ ghost use mathlib.Core.List.{_∷_, []};
 ghost use Prim.Native.Nat.{_≤_};
 ghost use lib.ListN.{length};
 ghost use Rattle.answers.specs.Answers.{numberOf};
-ghost use Rattle.pod.specs.Packing.{spelt, packOf, unpackOf, noState};
+ghost use Rattle.pod.specs.Packing.{spelt, packOf, readOf, isPacking};
 ghost use Rattle.pod.specs.Calls.{recordOf, keptOf, Packs, Leaves, sentBy, Answers, calledFrame, calledWait, calledCycle};
 use answers::Answer;
 use parts::wide;
@@ -13,20 +13,6 @@ use states::State;
 
 // ---- the packed state
 
-// A state that no record makes valid.
-fn no_state() -> State
-    ensures { λ r. ⌜ r ≡ noState ⌝ }
-{
-    State {
-        srwd: false,
-        bp: 255,
-        config: 0,
-        wel: false,
-        asleep: false,
-        busy: 0,
-    }
-}
-
 // The number of four bytes, the low byte first.
 fn time_of(a: u8, b: u8, c: u8, d: u8) -> u32
     ensures { λ r. ⌜ r ≡ spelt (a ∷ b ∷ c ∷ d ∷ []) ⌝ }
@@ -34,31 +20,33 @@ fn time_of(a: u8, b: u8, c: u8, d: u8) -> u32
     wide(a) + 256 * (wide(b) + 256 * (wide(c) + 256 * wide(d)))
 }
 
-// The state of 8 lent bytes; of bytes that are no packing, one that no record makes valid.
-fn unpack(state: &[u8]) -> State
-    ensures { λ r. ⌜ r ≡ unpackOf (now (state .entry)) ⌝ }
+// Whether the lent bytes are a packing: 8 of them, bit 6 of the status clear, WIP as the time makes it, the flag 0 or 1, and a zero.
+fn is_packed(state: &[u8]) -> bool
+    ensures { λ r. ⌜ r ≡ isPacking (now (state .entry)) ⌝ }
 {
     if state.len() != 8 {
-        return no_state();
+        return false;
     }
     let status = state[0];
-    let flag = state[1];
-    let config = state[2];
     let busy = time_of(state[4], state[5], state[6], state[7]);
     let wip = (busy != 0) as u8;
-    if (status / 64 % 2 == 0)
-        & ((status % 2 == wip) & ((flag <= 1) & (state[3] == 0)))
-    {
-        return State {
-            srwd: 128 <= status,
-            bp: status / 4 % 16,
-            config,
-            wel: status / 2 % 2 == 1,
-            asleep: flag == 1,
-            busy,
-        };
+    (status / 64 % 2 == 0) & ((status % 2 == wip) & ((state[1] <= 1) & (state[3] == 0)))
+}
+
+// The state that 8 bytes spell.
+fn unpack(state: &[u8]) -> State
+    requires { ⌜ length (now state) ≡ 8 ⌝ }
+    ensures { λ r. ⌜ r ≡ readOf (now (state .entry)) ⌝ }
+{
+    let status = state[0];
+    State {
+        srwd: 128 <= status,
+        bp: status / 4 % 16,
+        config: state[2],
+        wel: status / 2 % 2 == 1,
+        asleep: state[1] == 1,
+        busy: time_of(state[4], state[5], state[6], state[7]),
     }
-    no_state()
 }
 
 // The state, packed into 8 lent bytes.
@@ -140,6 +128,12 @@ pub extern "C" fn gwo_frame(
         *count = 0;
         return 1;
     }
+    if !is_packed(state) {
+        *from = 0;
+        *count = 0;
+        let row = models::model_of(rec.model);
+        return if array.len() == row.length as usize { 3 } else { 2 };
+    }
     let st = unpack(state);
     let reply = chip::frame(rec, st, array, frame, tail, wp != 0, out);
     *from = reply.from;
@@ -165,6 +159,9 @@ pub extern "C" fn gwo_wait(
     ensures { λ r. ⌜ Answers (calledWait (recordOf model «status_us» «page_us» «sector_us» «block_us» «chip_us» «half_us») (now (state .entry)) us) r (now (state .exit)) ⌝ }
 {
     let rec = record_of(model, status_us, page_us, sector_us, block_us, chip_us, half_us);
+    if !is_packed(state) {
+        return if states::record_ok(rec) { 3 } else { 1 };
+    }
     let st = unpack(state);
     let waited = time::wait(rec, st, us);
     let answer = waited.answer;
@@ -187,6 +184,9 @@ pub extern "C" fn gwo_power_cycle(
     ensures { λ r. ⌜ Answers (calledCycle (recordOf model «status_us» «page_us» «sector_us» «block_us» «chip_us» «half_us») (now (state .entry))) r (now (state .exit)) ⌝ }
 {
     let rec = record_of(model, status_us, page_us, sector_us, block_us, chip_us, half_us);
+    if !is_packed(state) {
+        return if states::record_ok(rec) { 3 } else { 1 };
+    }
     let st = unpack(state);
     let cycled = time::power_cycle(rec, st);
     let answer = cycled.answer;
