@@ -75,10 +75,8 @@ pub fn refuse(model: u32, answer: Answer, st: State) -> Reply
     ensures { λ r. ⌜ r ≡ Effects·quiet answer (refusalLeaves model answer st) ⌝ }
 {
     let row = models::model_of(model);
-    if row.latch_falls & answers::says_protected(answer) {
-        return quiet(answer, latch(st, false));
-    }
-    quiet(answer, st)
+    let falls = row.latch_falls & answers::says_protected(answer);
+    quiet(answer, latch(st, st.wel & !falls))
 }
 
 // The configuration register after a second data byte.

@@ -14,14 +14,14 @@ pub struct Record {
     pub half: u32,
 }
 
-// SRWD, BP, the configuration register, the write enable latch, the deep power-down flag, and the microseconds still busy.
+// SRWD, BP, the write enable latch, the deep power-down flag, the microseconds still busy, and the configuration register.
 pub struct State {
     pub srwd: bool,
     pub bp: u8,
-    pub config: u8,
     pub wel: bool,
     pub asleep: bool,
     pub busy: u32,
+    pub config: u8,
 }
 
 fn in_range(us: u32) -> bool
