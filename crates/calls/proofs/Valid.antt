@@ -6,11 +6,10 @@ use mathlib.Core.Logic.{⊎-elim, _⊎_, inl, inr}
 use Prim.Native.Nat.{ℕ, _≤_, _+_, _-_, _/_}
 use native.Mathlib.Nat.{mod-lt}
 use native.Mathlib.Omega.{arith}
-use lib.Dec.{eqb, leb, ltb, lit<}
+use lib.Dec.{eqb, ltb}
 use lib.ListN.{length, getD}
-use borrow.Author.Tests.{leb-true, ltb-false}
-use Rattle.models.proofs.Table.{found}
-use Rattle.models.specs.Models.{Part, partOf, modelOf, models, kh25l512}
+use borrow.Author.Tests.{ltb-false}
+use Rattle.models.specs.Models.{modelOf}
 use Rattle.states.specs.States.{recordOk, stateOk, longestOf, powerOn}
 use Rattle.states.specs.declared.Record.{Record}
 use Rattle.states.specs.declared.State.{State}

@@ -1,12 +1,11 @@
 -- The configuration register after a status write: it stays in its range, and TB stays set. Assumes nothing.
-use mathlib.Core.Path.{_≡_, refl}
+use mathlib.Core.Path.{_≡_}
 use mathlib.Core.Bool.{Bool, true, false, _&&_, _||_, cond}
 use mathlib.Core.List.{List}
 use Prim.Native.Nat.{ℕ, _+_, _*_, _/_, _%_}
 use native.Mathlib.Omega.{arith}
 use lib.Dec.{eqb, leb}
 use lib.ListN.{length, getD}
-use borrow.Author.Tests.{eq-eqb}
 use Rattle.models.specs.Models.{modelOf}
 use Rattle.states.specs.States.{flag, configOk}
 use Rattle.states.specs.declared.State.{State}

@@ -6,7 +6,7 @@ use Prim.Native.Nat.{ℕ}
 use lib.Dec.{eqb}
 use lib.ListN.{length}
 use Rattle.models.specs.Models.{modelOf}
-use Rattle.answers.specs.Answers.{numberOf, isDone}
+use Rattle.answers.specs.Answers.{numberOf}
 use Rattle.states.specs.States.{recordOk, stateOk}
 use Rattle.states.specs.declared.Record.{Record}
 use Rattle.states.specs.declared.State.{State}

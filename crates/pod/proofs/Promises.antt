@@ -18,10 +18,10 @@ use Rattle.answers.specs.declared.Answer.{Answer}
 use Rattle.ladder.specs.Ladder.{refusalOf}
 use Rattle.effects.specs.Effects.{Effect, refusalLeaves}
 use Rattle.effects.proofs.Replies.{leaves-all, leaves-latch, clears-latch}
-use Rattle.chip.specs.Frames.{Chip, Sent, chipOf, headFor, frameOf}
+use Rattle.chip.specs.Frames.{Chip, Sent, chipOf, frameOf}
 use Rattle.time.specs.Time.{later, cycled, ifValid, waitOf, powerOf}
 use Rattle.pod.specs.Packing.{packOf, unpackOf}
-use Rattle.pod.specs.Calls.{mayMove, keptOf, called, answered, answeredOf, calledFrame, calledWait, calledCycle}
+use Rattle.pod.specs.Calls.{mayMove, keptOf, called, answeredOf, calledFrame, calledWait, calledCycle}
 use Rattle.pod.specs.Promises.{UnpacksPacked, PacksUnpacked, NoPacking, FrameRefusesBytes, WaitRefusesBytes, CycleRefusesBytes, RefusedFrameStays, RefusedFrameClears, RefusedWaitStays, RefusedCycleStays, FrameCarries, WaitCarries, CycleCarries, OneCalled, OneAnswered}
 use Rattle.pod.proofs.Packing.{Small, pack-unpack, unpack-pack}
 use Rattle.pod.proofs.Valid.{valid-packing, valid-small, later-small, cycled-small, untimely, not-17, refused}

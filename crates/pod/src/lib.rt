@@ -122,7 +122,15 @@ pub extern "C" fn gwo_frame(
 ) -> u32
     ensures { λ r. ⌜ Leaves (calledFrame (recordOf model «status_us» «page_us» «sector_us» «block_us» «chip_us» «half_us») (now (state .entry)) (now (array .entry)) (sentBy (now (frame .entry)) tail wp (now (out .entry)))) r (now (state .exit)) (now (array .exit)) (now (out .exit)) (now (from .exit)) (now (count .exit)) ⌝ }
 {
-    let rec = record_of(model, status_us, page_us, sector_us, block_us, chip_us, half_us);
+    let rec = record_of(
+        model,
+        status_us,
+        page_us,
+        sector_us,
+        block_us,
+        chip_us,
+        half_us,
+    );
     if !states::record_ok(rec) {
         *from = 0;
         *count = 0;
@@ -132,7 +140,11 @@ pub extern "C" fn gwo_frame(
         *from = 0;
         *count = 0;
         let row = models::model_of(rec.model);
-        return if array.len() == row.length as usize { 3 } else { 2 };
+        return if array.len() == row.length as usize {
+            3
+        } else {
+            2
+        };
     }
     let st = unpack(state);
     let reply = chip::frame(rec, st, array, frame, tail, wp != 0, out);
@@ -158,7 +170,15 @@ pub extern "C" fn gwo_wait(
 ) -> u32
     ensures { λ r. ⌜ Answers (calledWait (recordOf model «status_us» «page_us» «sector_us» «block_us» «chip_us» «half_us») (now (state .entry)) us) r (now (state .exit)) ⌝ }
 {
-    let rec = record_of(model, status_us, page_us, sector_us, block_us, chip_us, half_us);
+    let rec = record_of(
+        model,
+        status_us,
+        page_us,
+        sector_us,
+        block_us,
+        chip_us,
+        half_us,
+    );
     if !is_packed(state) {
         return if states::record_ok(rec) { 3 } else { 1 };
     }
@@ -183,7 +203,15 @@ pub extern "C" fn gwo_power_cycle(
 ) -> u32
     ensures { λ r. ⌜ Answers (calledCycle (recordOf model «status_us» «page_us» «sector_us» «block_us» «chip_us» «half_us») (now (state .entry))) r (now (state .exit)) ⌝ }
 {
-    let rec = record_of(model, status_us, page_us, sector_us, block_us, chip_us, half_us);
+    let rec = record_of(
+        model,
+        status_us,
+        page_us,
+        sector_us,
+        block_us,
+        chip_us,
+        half_us,
+    );
     if !is_packed(state) {
         return if states::record_ok(rec) { 3 } else { 1 };
     }

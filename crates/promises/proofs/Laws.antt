@@ -1,7 +1,7 @@
 -- The statements of `specs/Laws.antt`. Assumes nothing.
 use mathlib.Core.Path.{_≡_, refl, sym, ap, subst, _∙_}
 use mathlib.Core.Bool.{Bool, true, false, _&&_, _||_, cond, true≢false}
-use mathlib.Core.List.{List, []}
+use mathlib.Core.List.{List}
 use mathlib.Core.Logic.{⊎-elim}
 use Prim.Native.Nat.{ℕ, _+_, _-_, _*_, _/_, _%_, _≤_, _<_}
 use native.Mathlib.Nat.{le-refl}
@@ -38,7 +38,7 @@ use Rattle.changes.proofs.Fits.{page-fits}
 use Rattle.chip.proofs.Sorts.{is-done, counts, changes-only, moves, Move, stays, latches, dozes, works, writes}
 use Rattle.promises.specs.Laws.{WaitsAdd, RefusedFrame, RefusedWait, RefusedCycle, OnlyItsUnit, ProgramFalls, OneOutcome, OneEffect, OneWait, OneCycle, NumberFixed, RefusalKeeps, RefusalClears, LatchFalls, TbStays}
 use Rattle.chip.proofs.Cases.{head, frame-cases, sort, shown-ready, shown-asked, refused-moves}
-use Rattle.calls.specs.Calls.{sends, waits, cycles, ours, after}
+use Rattle.calls.specs.Calls.{sends, waits, cycles, after}
 use Rattle.calls.proofs.Valid.{later-sound}
 use Rattle.calls.proofs.Steps.{wait-taken}
 

@@ -9,9 +9,8 @@ use native.Mathlib.Omega.{arith}
 use lib.Dec.{eqb, leb, lit≤}
 use lib.ListN.{length, getD}
 use borrow.Author.Tests.{eqb-true, leb-true, leb-false, not-true, eq-eqb, le-leb}
-use Rattle.models.specs.Models.{isModel, modelOf, models, kh25l512, partOf, Part}
+use Rattle.models.specs.Models.{isModel, modelOf}
 use Rattle.units.proofs.Bools.{both, either}
-use Rattle.models.proofs.Table.{found}
 use Rattle.states.specs.States.{commonTimes, timesOf, inRange, all, halfOk, recordOk, largest, longestOf, configOk, stateOk}
 use Rattle.states.specs.declared.Record.{Record}
 use Rattle.states.specs.declared.State.{State}

@@ -1,5 +1,5 @@
 -- `effects::refuse` meets its contract. Assumes nothing.
-use mathlib.Core.Path.{_≡_, refl, ap, _∙_}
+use mathlib.Core.Path.{_≡_, ap, _∙_}
 use mathlib.Core.Bool.{Bool, true, false, not, _&&_, cond, and-false, and-true}
 use borrow.Author.Needs.{needs}
 use Rattle.models.specs.Models.{modelOf}
