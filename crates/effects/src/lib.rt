@@ -50,13 +50,9 @@ pub fn driven(state: State, from: u32, n: u32) -> Reply
 pub fn taken(state: State, fold: bool) -> Reply
     ensures { λ r. ⌜ r ≡ folding state fold ⌝ }
 {
-    Reply {
-        answer: Answer::Done,
-        from: 0,
-        count: 0,
-        state,
-        fold,
-    }
+    let mut reply = quiet(Answer::Done, state);
+    reply.fold = fold;
+    reply
 }
 
 // WEL is set or cleared.

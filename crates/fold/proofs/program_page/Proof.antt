@@ -18,10 +18,12 @@ returns-2 c =
     let start = c .before .before .before .before .before .before .before .before in
     let sent = now (start .args .sent) in
     let page = now (start .args .page) in
-    let first = length sent - 256 in
-    (c .before .before .fold-in2 .ensures .0
-    ∙ ap (λ (n : ℕ). pageAfter ((start .args .offset + first) % 256) (part sent first n) page) {x = first + 256 - first} {y = 256} (omega arith)
-    ∙ page-tail (start .args .offset) first sent page (omega arith) (start .pre), sym (lt-ltb 256 (start .args .offset + length sent) (omega arith)))
+    let first = length sent - 256 in (
+      c .before .before .fold-in2 .ensures .0
+          ∙ ap (λ (n : ℕ). pageAfter ((start .args .offset + first) % 256) (part sent first n) page) {x = first + 256 - first} {y = 256} (omega arith)
+          ∙ page-tail (start .args .offset) first sent page (omega arith) (start .pre),
+      sym (lt-ltb 256 (start .args .offset + length sent) (omega arith)),
+    )
 
 pub program-page-spec : {M : Type 1} → statement M
 program-page-spec =
