@@ -61,7 +61,7 @@ stand_in() {
 }
 
 link() {
-    "$host" cc "$obj"/rules*.o "$obj/jig.o" "$obj/rig.o" "$archive" "$obj/model.o" -o "$bin/rules"
+    "$host" cc "$obj"/rules*.o "$obj"/jig*.o "$obj/rig.o" "$archive" "$obj/model.o" -o "$bin/rules"
     for program in compare twelve; do
         "$host" cc "$obj/$program"*.o "$obj/rig.o" "$archive" "$obj/model.o" -o "$bin/$program"
     done
@@ -70,13 +70,20 @@ link() {
     "$host" cc -std=c99 $flags "$here"/explain/*.c -o "$bin/explain"
 }
 
-# header LANGUAGE STANDARD: without a warning, and it links with the archive and runs.
+# header LANGUAGE STANDARD: without a warning, and it links with the archive and runs. As C++ it needs no more than C's
+# library either.
 header() {
     case $1 in c) compiler=cc ;; c++) compiler=cxx ;; esac
     "$host" $compiler -x "$1" -std="$2" -Wall -Wextra -Wpedantic -Werror -I"$here/include" \
         -c "$here/test/header.c" -o "$obj/header_$2.o" &&
-        "$host" $compiler "$obj/header_$2.o" "$archive" "$obj/model.o" -o "$bin/header_$2" &&
+        "$host" cc "$obj/header_$2.o" "$archive" "$obj/model.o" -o "$bin/header_$2" &&
         "$host" run "$bin/header_$2" "header as $2"
+}
+
+# Firmware of an earlier header, without a warning; it must not be edited.
+by_names() {
+    "$host" cc -std=c99 $flags -Werror "$here/test/by_names.c" "$archive" "$obj/model.o" -o "$bin/by_names" &&
+        "$host" run "$bin/by_names"
 }
 
 example() {
@@ -121,6 +128,7 @@ compile
 link
 for standard in c99 c11; do check "header-$standard" header c $standard; done
 for standard in c++98 c++17; do check "header-$standard" header c++ $standard; done
+check by_names by_names
 check example example
 check readme readme
 check rules "$host" run "$bin/rules"

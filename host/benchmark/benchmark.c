@@ -15,11 +15,13 @@
 #include <stdlib.h>
 #include <string.h>
 
-typedef uint32_t frame_call(uint32_t, uint32_t, uint32_t, uint32_t, uint32_t, uint32_t, uint8_t *, size_t,
+typedef uint32_t frame_call(uint32_t, uint32_t, uint32_t, uint32_t, uint32_t, uint32_t, uint32_t, uint8_t *, size_t,
                             uint8_t *, size_t, const uint8_t *, size_t, uint32_t, uint32_t, uint8_t *, size_t,
                             uint32_t *, uint32_t *);
-typedef uint32_t wait_call(uint32_t, uint32_t, uint32_t, uint32_t, uint32_t, uint32_t, uint8_t *, size_t, uint32_t);
-typedef uint32_t power_cycle_call(uint32_t, uint32_t, uint32_t, uint32_t, uint32_t, uint32_t, uint8_t *, size_t);
+typedef uint32_t wait_call(uint32_t, uint32_t, uint32_t, uint32_t, uint32_t, uint32_t, uint32_t, uint8_t *, size_t,
+                           uint32_t);
+typedef uint32_t power_cycle_call(uint32_t, uint32_t, uint32_t, uint32_t, uint32_t, uint32_t, uint32_t, uint8_t *,
+                                  size_t);
 typedef void *copy_call(void *, const void *, size_t);
 typedef void *set_call(void *, int, size_t);
 
@@ -33,8 +35,8 @@ enum { OURS, MODEL, MEMORY, EMPTY, EMPTY_MEMORY };
 enum kind { FRAME, WAIT, POWER_CYCLE };
 enum memory { NONE, COPY, SET };
 
-/* SHORT rows have a limit of 300 instructions, FOLDED is held against the row before it. */
-enum { SHORT = 1, FOLDED = 2 };
+/* SHORT rows have a limit of 300 instructions; FOLDED and AS_MODEL_2 are held against the row before. */
+enum { SHORT = 1, FOLDED = 2, AS_MODEL_2 = 4 };
 
 struct row {
     const char *name;
@@ -70,7 +72,7 @@ static const struct row rows[] = {
     {"program, 65,537 bytes", 1, 2, 0, 0, FRAME, {0x02, 0, 0x12, 0x34}, 4 + 65537, 0, 1, 0, COPY, 256, "-", FOLDED},
     {"wait", 1, 3, 0, 5000, WAIT, {0}, 0, 0, 0, 0, NONE, 0, "-", SHORT},
     {"power cycle", 1, 3, 0, 5000, POWER_CYCLE, {0}, 0, 0, 0, 0, NONE, 0, "-", SHORT},
-    {"refused 1, record", 3, 0, 0, 0, FRAME, {0x06}, 1, 0, 1, 1, NONE, 0, "-", SHORT},
+    {"refused 1, record", 4, 0, 0, 0, FRAME, {0x06}, 1, 0, 1, 1, NONE, 0, "-", SHORT},
     {"refused 3, state", 1, 0x10, 0, 0, FRAME, {0x06}, 1, 0, 1, 3, NONE, 0, "-", SHORT},
     {"refused 4, tail", 1, 0, 0, 0, FRAME, {0x06}, 1, 8, 1, 4, NONE, 0, "-", SHORT},
     {"refused 10, empty", 1, 0, 0, 0, FRAME, {0}, 0, 0, 1, 10, NONE, 0, "-", SHORT},
@@ -81,11 +83,35 @@ static const struct row rows[] = {
     {"refused 15, WEL 0", 1, 0, 0, 0, FRAME, {0x02}, 4 + 256, 0, 1, 15, NONE, 0, "-", SHORT},
     {"refused 16, SRWD", 1, 0x82, 0, 0, FRAME, {0x01, 0}, 2, 0, 0, 16, NONE, 0, "-", SHORT},
     {"refused 17, protected", 1, 6, 0, 0, FRAME, {0x20, 0, 0, 0}, 4, 0, 1, 17, NONE, 0, "-", SHORT},
+    {"status, model 2", 2, 0, 0, 0, FRAME, {0x05}, 2, 0, 1, 0, NONE, 0, "-", SHORT},
+    {"status, model 3", 3, 0, 0, 0, FRAME, {0x05}, 2, 0, 1, 0, NONE, 0, "-", SHORT | AS_MODEL_2},
+    {"write enable, model 2", 2, 0, 0, 0, FRAME, {0x06}, 1, 0, 1, 0, NONE, 0, "-", SHORT},
+    {"write enable, model 3", 3, 0, 0, 0, FRAME, {0x06}, 1, 0, 1, 0, NONE, 0, "-", SHORT | AS_MODEL_2},
+    {"status write, model 2", 2, 2, 0, 0, FRAME, {0x01, 0x04}, 2, 0, 1, 0, NONE, 0, "-", SHORT},
+    {"status write, model 3", 3, 2, 0, 0, FRAME, {0x01, 0x04}, 2, 0, 1, 0, NONE, 0, "-", SHORT | AS_MODEL_2},
+    {"read, 16 bytes, model 2", 2, 0, 0, 0, FRAME, {0x03, 0, 0x12, 0x34}, 4 + 16, 0, 1, 0, COPY, 16, "-", SHORT},
+    {"read, 16 bytes, model 3", 3, 0, 0, 0, FRAME, {0x03, 0, 0x12, 0x34}, 4 + 16, 0, 1, 0, COPY, 16, "-",
+     SHORT | AS_MODEL_2},
+    {"program, 256 bytes, model 2", 2, 2, 0, 0, FRAME, {0x02, 0, 0x12, 0x34}, 4 + 256, 0, 1, 0, COPY, 256, "-", 0},
+    {"program, 256 bytes, model 3", 3, 2, 0, 0, FRAME, {0x02, 0, 0x12, 0x34}, 4 + 256, 0, 1, 0, COPY, 256, "-",
+     AS_MODEL_2},
+    {"wait, model 2", 2, 3, 0, 5000, WAIT, {0}, 0, 0, 0, 0, NONE, 0, "-", SHORT},
+    {"wait, model 3", 3, 3, 0, 5000, WAIT, {0}, 0, 0, 0, 0, NONE, 0, "-", SHORT | AS_MODEL_2},
+    {"power cycle, model 2", 2, 3, 0, 5000, POWER_CYCLE, {0}, 0, 0, 0, 0, NONE, 0, "-", SHORT},
+    {"power cycle, model 3", 3, 3, 0, 5000, POWER_CYCLE, {0}, 0, 0, 0, 0, NONE, 0, "-", SHORT | AS_MODEL_2},
+    {"refused 17, model 2", 2, 6, 0, 0, FRAME, {0x20, 0xFF, 0, 0}, 4, 0, 1, 17, NONE, 0, "-", SHORT},
+    {"refused 17, model 3", 3, 6, 0, 0, FRAME, {0x20, 0xFF, 0, 0}, 4, 0, 1, 17, NONE, 0, "-", SHORT | AS_MODEL_2},
+    {"configuration, 2 bytes", 3, 0, 0, 0, FRAME, {0x15}, 2, 0, 1, 0, NONE, 0, "-", SHORT},
+    {"status write, 2 data bytes", 3, 2, 0, 0, FRAME, {0x01, 0x04, 0x08}, 3, 0, 1, 0, NONE, 0, "-", SHORT},
+    {"sector erase, model 3", 3, 2, 0, 0, FRAME, {0x20, 0, 0x12, 0x34}, 4, 0, 1, 0, SET, 4096, "-", 0},
+    {"half block erase, model 3", 3, 2, 0, 0, FRAME, {0x52, 1, 0x12, 0x34}, 4, 0, 1, 0, SET, 32768, "1.3", 0},
+    {"block erase, model 3", 3, 2, 0, 0, FRAME, {0xD8, 1, 0x12, 0x34}, 4, 0, 1, 0, SET, 65536, "1.3", 0},
+    {"chip erase, model 3", 3, 2, 0, 0, FRAME, {0x60}, 1, 0, 1, 0, SET, 16777216, "1.1", 0},
 };
 enum { ROWS = sizeof rows / sizeof rows[0] };
 
-static uint8_t array[262144] __attribute__((aligned(4096)));
-static uint8_t other[262144 + 64] __attribute__((aligned(4096)));
+static uint8_t array[GWO_MODEL_3_LENGTH] __attribute__((aligned(4096)));
+static uint8_t other[GWO_MODEL_3_LENGTH + 64] __attribute__((aligned(4096)));
 static uint8_t frame[65600] __attribute__((aligned(4096)));
 static uint8_t out[65600] __attribute__((aligned(4096)));
 static uint8_t state[GWO_STATE_LENGTH];
@@ -93,19 +119,20 @@ static struct gwo_record record;
 static size_t array_len;
 static uint32_t from, count;
 
+/* A number that is no model has the first one's record and array. */
 static void prepare(const struct row *r)
 {
     size_t i;
 
-    record = r->model == 2 ? gwo_bench_model_2 : gwo_bench_model_1;
+    record = r->model == 3 ? gwo_bench_model_3 : r->model == 2 ? gwo_bench_model_2 : gwo_bench_model_1;
+    array_len = gwo_array_length(record.model);
     record.model = r->model;
-    array_len = r->model == 2 ? 262144 : 65536;
     memset(state, 0, sizeof state);
     state[0] = (uint8_t)r->status;
     state[1] = (uint8_t)r->asleep;
     state[4] = (uint8_t)r->busy_us;
     state[5] = (uint8_t)(r->busy_us >> 8);
-    for (i = 0; i < sizeof array; i++)
+    for (i = 0; i < GWO_MODEL_2_LENGTH; i++) /* all that the rows read or write, but for model 3's chip erase */
         array[i] = (uint8_t)(i * 7);
     memset(frame, 0x5A, sizeof frame);
     memcpy(frame, r->head, sizeof r->head);
@@ -121,8 +148,8 @@ static STRETCH uint32_t count_frame(frame_call *f, const struct row *r, int stre
     (void)stretch, (void)name;
     MARK_START(stretch);
     answer = f(record.model, record.status_us, record.page_us, record.sector_us, record.block_us, record.chip_us,
-               state, sizeof state, array, array_len, frame, r->frame_len, r->tail, r->wp, out, r->frame_len,
-               &from, &count);
+               record.half_us, state, sizeof state, array, array_len, frame, r->frame_len, r->tail, r->wp,
+               out, r->frame_len, &from, &count);
     MARK_END(stretch, name);
     return answer;
 }
@@ -134,7 +161,7 @@ static STRETCH uint32_t count_wait(wait_call *f, int stretch, const char *name)
     (void)stretch, (void)name;
     MARK_START(stretch);
     answer = f(record.model, record.status_us, record.page_us, record.sector_us, record.block_us, record.chip_us,
-               state, sizeof state, 4999);
+               record.half_us, state, sizeof state, 4999);
     MARK_END(stretch, name);
     return answer;
 }
@@ -146,7 +173,7 @@ static STRETCH uint32_t count_power_cycle(power_cycle_call *f, int stretch, cons
     (void)stretch, (void)name;
     MARK_START(stretch);
     answer = f(record.model, record.status_us, record.page_us, record.sector_us, record.block_us, record.chip_us,
-               state, sizeof state);
+               record.half_us, state, sizeof state);
     MARK_END(stretch, name);
     return answer;
 }

@@ -1,6 +1,6 @@
 #!/bin/sh
-# Eleven faulty pods (faulty.c) under the host tests: each must be caught by every test that is named for
-# it, by its exit status and a message; the same pod without a fault must pass them all.
+# Faulty pods (mistakes.c, mistakes_of_model_3.c) under the host tests: each must be caught by every test that is
+# named for it, by its exit status and a message; the same pod without a fault must pass them all.
 #   host/faults/run.sh
 # GWO_BUILD is where host/test.sh has left the tests' object files.
 set -eu
@@ -9,41 +9,45 @@ here=$(cd "$(dirname "$0")" && pwd)
 root=$(cd "$here/../.." && pwd)
 host=$root/tools/host.sh
 build=${GWO_BUILD:-$root/target/host}
+obj=$build/obj
 out=$build/faults
 passed=0
 failed=0
+rm -rf "$out"
 mkdir -p "$out"
 
-# link FAULT: the four programs with that fault behind the archive's names.
-link() {
-    "$host" cc -std=c99 -O2 -DFAULT="$1" -I"$root/host/include" -I"$root/host/model" -c "$here/faulty.c" \
-        -o "$out/faulty.o"
-    "$host" cc "$build"/obj/rules*.o "$build"/obj/jig.o "$build"/obj/rig.o "$out/faulty.o" "$build"/obj/model.o \
-        -o "$out/rules"
-    for program in compare twelve; do
-        "$host" cc "$build/obj/$program"*.o "$build"/obj/rig.o "$out/faulty.o" "$build"/obj/model.o -o "$out/$program"
-    done
-    "$host" cc "$build"/obj/firmware.o "$out/faulty.o" "$build"/obj/model.o -o "$out/example"
-}
+# The four programs with the pod behind the archive's names; GWO_FAULT says which fault it has.
+for source in "$here"/*.c; do
+    "$host" cc -std=c99 -O2 -Wall -Wextra -Wpedantic -I"$root/host/include" -I"$root/host/model" -c "$source" \
+        -o "$out/$(basename "$source" .c).o"
+done
+pod="$out/pod.o $out/mistakes.o $out/mistakes_of_model_3.o $obj/model.o"
+"$host" cc "$obj"/rules*.o "$obj"/jig*.o "$obj"/rig.o $pod -o "$out/rules"
+for program in compare twelve; do
+    "$host" cc "$obj/$program"*.o "$obj"/rig.o $pod -o "$out/$program"
+done
+"$host" cc "$obj"/firmware.o $pod -o "$out/example"
 
-# passes TEST: runs one of the four on the fault that is linked; its words go to $out/TEST.log.
+# passes FAULT TEST: runs one of the four, or a group of rules, with that fault; its words go to $out/log.
 passes() {
-    case $1 in
-    rules) "$host" run "$out/rules" first >"$out/rules.log" 2>&1 ;;
-    compare) "$host" run "$out/compare" 100000 >"$out/compare.log" 2>&1 ;;
-    twelve) "$host" run "$out/twelve" first >"$out/twelve.log" 2>&1 ;;
+    export GWO_FAULT="$1"
+    case $2 in
+    rules) "$host" run "$out/rules" first >"$out/log" 2>&1 ;;
+    rules:*) "$host" run "$out/rules" first "${2#rules:}" >"$out/log" 2>&1 ;;
+    compare) "$host" run "$out/compare" 100000 >"$out/log" 2>&1 ;;
+    twelve) "$host" run "$out/twelve" first >"$out/log" 2>&1 ;;
     example)
-        "$host" run "$out/example" >"$out/example.log" 2>&1 || return 1
-        diff "$root/host/example/output.txt" "$out/example.log" >"$out/example.diff" && return 0
-        echo "FAIL: the example's output differs" >>"$out/example.log"
+        "$host" run "$out/example" >"$out/log" 2>&1 || return 1
+        diff "$root/host/example/output.txt" "$out/log" >"$out/example.diff" && return 0
+        echo "FAIL: the example's output differs" >>"$out/log"
         return 1 ;;
     esac
 }
 
-# caught TEST: it fails, and says so.
+# caught FAULT TEST: it fails, and says so.
 caught() {
-    passes "$1" && return 1
-    grep -q -e FAIL -e refused "$out/$1.log"
+    passes "$@" && return 1
+    grep -q -e FAIL -e refused "$out/log"
 }
 
 say() {
@@ -56,37 +60,46 @@ fault() {
     number=$1
     name=$2
     shift 2
-    link "$number"
     missed=
+    names=
     for test in "$@"; do
-        caught "$test" || missed="$missed $test"
+        names="$names${names:+, }$test"
+        caught "$number" "$test" || missed="$missed${missed:+, }$test"
     done
     if [ -z "$missed" ]; then
-        say passed "fault $number, $name: caught by $*"
+        say passed "fault $number, $name: caught by $names"
     else
-        say FAILED "fault $number, $name: not caught by$missed"
+        say FAILED "fault $number, $name: not caught by $missed"
     fi
 }
 
-link 0
 for test in rules compare twelve example; do
-    if passes $test; then
+    if passes 0 $test; then
         say passed "no fault: $test passes"
     else
         say FAILED "no fault: $test fails"
-        head -n 12 "$out/$test.log"
+        head -n 12 "$out/log"
     fi
 done
 fault 1 "a pod that refuses all" rules compare twelve example
 fault 2 "one that answers the same byte each time" rules compare twelve example
 fault 3 "one that changes no cell" rules compare twelve example
 fault 4 "one that works on the first frame and then only says 0" rules compare twelve example
-fault 5 "a long program runs into the next page" rules compare example
-fault 6 "the first 256 bytes kept instead of the last" rules compare
-fault 7 "data stored in place of AND" rules compare example
-fault 8 "WEL cleared when the operation starts" rules compare twelve
-fault 9 "WP# low alone blocks 01" rules compare
-fault 10 "03 answered while busy" rules compare twelve
+fault 5 "a long program runs into the next page" rules:programming compare example
+fault 6 "the first 256 bytes kept instead of the last" rules:programming compare
+fault 7 "data stored in place of AND" rules:programming compare example
+fault 8 "WEL cleared when the operation starts" rules:erasing compare twelve
+fault 9 "WP# low alone blocks 01" "rules:refused by command" compare
+fault 10 "03 answered while busy" "rules:refused by command" compare twelve
 fault 11 "a byte past the frame is looked at" rules compare
+fault 12 "TB cleared by a status write" "rules:configuration register" compare
+fault 13 "TB cleared by a power cycle" "rules:configuration register" "rules:bench sheet" compare
+fault 14 "17 keeps WEL on model 3" "rules:refused by command" "rules:protected areas" "rules:bench sheet" compare
+fault 15 "17 clears WEL on models 1 and 2" "rules:refused by command" "rules:bench sheet" compare
+fault 16 "52 erases 64 KiB on model 3" rules:erasing "rules:lengths and tails" compare
+fault 17 "the protected area one block too small" "rules:protected areas" compare
+fault 18 "the protected area one block too large" "rules:protected areas" compare
+fault 19 "the protected area at the top whatever TB says" "rules:protected areas" "rules:bench sheet" compare
+fault 20 "a cell far from the erased sector cleared on model 3" rules:erasing compare twelve
 echo "$passed passed, $failed failed"
 [ $failed -eq 0 ]

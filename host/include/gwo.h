@@ -1,9 +1,9 @@
 /*
- * Gwolunmade: two serial flash chips as a linkable model.
+ * Gwolunmade: three serial flash chips as a linkable model.
  *
- * The archive libpod.a answers frames as the Macronix KH25L512 (model 1) and
- * KH25L2006E (model 2) do. It keeps no memory of its own: the caller lends the
- * chip's state (8 packed bytes) and its array, and each call alters them there.
+ * The archive libpod.a answers frames as the Macronix KH25L512 (model 1), KH25L2006E
+ * (model 2) and KH25L12845G (model 3) do. It keeps no memory of its own: the caller
+ * lends the chip's state (8 packed bytes) and its array, and each call alters them there.
  * Every call is answered by a number (enum gwo_number), for any argument at all.
  *
  * The caller's duties are those of C, and no others:
@@ -12,7 +12,13 @@
  *  - from and count each point to a number of their own;
  *  - no two of the lent buffers overlap: the output is not the frame.
  *
- * A refused call changes nothing but *from and *count, which become 0.
+ * A refused call changes nothing but *from and *count, which become 0. The one exception is
+ * the KH25L12845G's own: on model 3 a program or erase that protection refuses (17) clears
+ * the write enable latch in the state, and 06 has to come again.
+ *
+ * The 8 bytes of a state: the status register; 1 in deep power-down, else 0; the configuration
+ * register, 0 on models 1 and 2; 0; and the microseconds that the chip is still busy, in four
+ * bytes, low byte first. All zero is a chip from the factory at power-on.
  */
 #ifndef GWO_H
 #define GWO_H
@@ -29,26 +35,30 @@ extern "C" {
 #define GWO_FRAME_LIMIT 65541u  /* the longest frame */
 #define GWO_PAGE_LENGTH 256u
 #define GWO_SECTOR_LENGTH 4096u
+#define GWO_HALF_BLOCK_LENGTH 32768u /* erased by 52 on model 3; on models 1 and 2 it erases a block */
 #define GWO_BLOCK_LENGTH 65536u
-#define GWO_MODEL_1_LENGTH 65536u   /* the array of the KH25L512 */
-#define GWO_MODEL_2_LENGTH 262144u  /* the array of the KH25L2006E */
+#define GWO_MODEL_1_LENGTH 65536u    /* the array of the KH25L512 */
+#define GWO_MODEL_2_LENGTH 262144u   /* the array of the KH25L2006E */
+#define GWO_MODEL_3_LENGTH 16777216u /* the array of the KH25L12845G */
 
 /* What a call is answered. Of several that apply, the first in this order is given. */
 enum gwo_number {
     GWO_DONE = 0,           /* taken; what it does is done */
-    GWO_BAD_RECORD = 1,     /* the model isn't 1 or 2, or a busy time isn't 1 to 1,000,000,000 us */
+    GWO_BAD_RECORD = 1,     /* the model isn't 1, 2 or 3, or a busy time isn't 1 to 1,000,000,000 us;
+                               half_us must be 0 on models 1 and 2, and 1 to 1,000,000,000 on model 3 */
     GWO_BAD_ARRAY = 2,      /* the array's length isn't the model's */
     GWO_BAD_STATE = 3,      /* the 8 bytes are not the packing of a valid state */
     GWO_BAD_FRAME = 4,      /* over 65,541 bytes, or over 7 tail bits */
     GWO_SHORT_OUTPUT = 5,   /* the output buffer is shorter than the frame */
     GWO_NO_COMMAND = 10,    /* no whole byte in the frame */
-    GWO_BUSY = 11,          /* busy, and the command isn't 05 */
+    GWO_BUSY = 11,          /* busy, and the command isn't 05, nor 15 on model 3 */
     GWO_ASLEEP = 12,        /* in deep power-down, and the command isn't AB */
-    GWO_UNKNOWN = 13,       /* no command of these chips */
+    GWO_UNKNOWN = 13,       /* no command of this chip: 15 is one on model 3 only */
     GWO_BAD_LENGTH = 14,    /* length or tail not allowed for the command */
     GWO_NOT_ENABLED = 15,   /* a write, program or erase with the write enable latch 0 */
     GWO_STATUS_LOCKED = 16, /* status write with SRWD 1 and WP# low */
-    GWO_PROTECTED = 17,     /* the addressed unit is protected by BP */
+    GWO_PROTECTED = 17,     /* the addressed unit is protected by BP (on model 3 by BP and TB);
+                               on model 3 the write enable latch clears, and nothing else changes */
     GWO_BAD_LINE = 20       /* a script line that is not well formed (the runner only) */
 };
 
@@ -81,49 +91,56 @@ static inline const char *gwo_text(uint32_t number)
  * goes in; *from is the first driven position, *count how many are driven, both 0
  * when none. Positions not driven keep their contents. A frame takes no time.
  */
-uint32_t gwo_frame(uint32_t model, uint32_t status_us, uint32_t page_us,
-                   uint32_t sector_us, uint32_t block_us, uint32_t chip_us,
+uint32_t gwo_frame(uint32_t model, uint32_t status_us, uint32_t page_us, uint32_t sector_us,
+                   uint32_t block_us, uint32_t chip_us, uint32_t half_us,
                    uint8_t *state, size_t state_len, uint8_t *array, size_t array_len,
                    const uint8_t *frame, size_t frame_len, uint32_t tail, uint32_t wp,
                    uint8_t *out, size_t out_len, uint32_t *from, uint32_t *count);
 
 /* us microseconds pass. Only 1 and 3 can refuse it. */
-uint32_t gwo_wait(uint32_t model, uint32_t status_us, uint32_t page_us,
-                  uint32_t sector_us, uint32_t block_us, uint32_t chip_us,
+uint32_t gwo_wait(uint32_t model, uint32_t status_us, uint32_t page_us, uint32_t sector_us,
+                  uint32_t block_us, uint32_t chip_us, uint32_t half_us,
                   uint8_t *state, size_t state_len, uint32_t us);
 
-/* Power off and on again: SRWD and BP stay. Only 1 and 3 can refuse it. */
-uint32_t gwo_power_cycle(uint32_t model, uint32_t status_us, uint32_t page_us,
-                         uint32_t sector_us, uint32_t block_us, uint32_t chip_us,
+/* Power off and on again: SRWD and BP stay, on model 3 TB too. Only 1 and 3 can refuse it. */
+uint32_t gwo_power_cycle(uint32_t model, uint32_t status_us, uint32_t page_us, uint32_t sector_us,
+                         uint32_t block_us, uint32_t chip_us, uint32_t half_us,
                          uint8_t *state, size_t state_len);
 
 /*
- * The chip record under one name. Firmware that fills it from a named bench record,
- * or by field names, and calls through the functions below needs no edit when the
- * record gains further times.
+ * The chip record under one name. Firmware that fills it from a named bench record, or by field
+ * names in an initialiser, and calls through the functions below compiles unchanged when the record
+ * gains further times. A time that it does not name is 0, as half_us has to be on models 1 and 2.
  */
 struct gwo_record {
-    uint32_t model;     /* 1 or 2 */
+    uint32_t model;     /* 1, 2 or 3 */
     uint32_t status_us; /* busy after a status write, in microseconds */
     uint32_t page_us;   /* busy after a page program */
     uint32_t sector_us; /* busy after a sector erase */
     uint32_t block_us;  /* busy after a block erase */
     uint32_t chip_us;   /* busy after a chip erase */
+    uint32_t half_us;   /* busy after a half block erase; 0 on models 1 and 2, which have none */
 };
 
 /*
- * The maximum times of the data sheets: KH25L512 (model 1) and KH25L2006E (model 2). For
- * model 2 the customer's page prints house and typical values (15,000, 3,000, 40,000,
- * 400,000, 2,000,000), but its own rule is the maximum where the sheet gives one, and the
+ * The maximum times of the data sheets: KH25L512 (model 1), KH25L2006E (model 2) and KH25L12845G
+ * (model 3). For model 2 the customer's page prints house and typical values (15,000, 3,000,
+ * 40,000, 400,000, 2,000,000), but its own rule is the maximum where the sheet gives one, and the
  * KH25L2006E's sheet gives all five. Firmware that wants other times fills a record of its own.
  */
-static const struct gwo_record gwo_bench_model_1 = {1u, 15000u, 5000u, 120000u, 2000000u, 2000000u};
-static const struct gwo_record gwo_bench_model_2 = {2u, 40000u, 3000u, 200000u, 2000000u, 3800000u};
+static const struct gwo_record gwo_bench_model_1 = {1u, 15000u, 5000u, 120000u, 2000000u, 2000000u, 0u};
+static const struct gwo_record gwo_bench_model_2 = {2u, 40000u, 3000u, 200000u, 2000000u, 3800000u, 0u};
+static const struct gwo_record gwo_bench_model_3 = {3u, 40000u, 750u, 400000u, 2000000u, 100000000u, 1000000u};
 
 /* The array length that a model has; 0 for a number that is no model. */
 static inline size_t gwo_array_length(uint32_t model)
 {
-    return model == 1u ? GWO_MODEL_1_LENGTH : model == 2u ? GWO_MODEL_2_LENGTH : 0u;
+    switch (model) {
+    case 1u: return GWO_MODEL_1_LENGTH;
+    case 2u: return GWO_MODEL_2_LENGTH;
+    case 3u: return GWO_MODEL_3_LENGTH;
+    default: return 0u;
+    }
 }
 
 /* gwo_frame under a record. */
@@ -134,7 +151,7 @@ static inline uint32_t gwo_record_frame(const struct gwo_record *r, uint8_t *sta
                                         uint8_t *out, size_t out_len,
                                         uint32_t *from, uint32_t *count)
 {
-    return gwo_frame(r->model, r->status_us, r->page_us, r->sector_us, r->block_us, r->chip_us,
+    return gwo_frame(r->model, r->status_us, r->page_us, r->sector_us, r->block_us, r->chip_us, r->half_us,
                      state, state_len, array, array_len, frame, frame_len, tail, wp,
                      out, out_len, from, count);
 }
@@ -143,14 +160,14 @@ static inline uint32_t gwo_record_frame(const struct gwo_record *r, uint8_t *sta
 static inline uint32_t gwo_record_wait(const struct gwo_record *r, uint8_t *state, size_t state_len,
                                        uint32_t us)
 {
-    return gwo_wait(r->model, r->status_us, r->page_us, r->sector_us, r->block_us, r->chip_us,
+    return gwo_wait(r->model, r->status_us, r->page_us, r->sector_us, r->block_us, r->chip_us, r->half_us,
                     state, state_len, us);
 }
 
 /* gwo_power_cycle under a record. */
 static inline uint32_t gwo_record_power_cycle(const struct gwo_record *r, uint8_t *state, size_t state_len)
 {
-    return gwo_power_cycle(r->model, r->status_us, r->page_us, r->sector_us, r->block_us, r->chip_us,
+    return gwo_power_cycle(r->model, r->status_us, r->page_us, r->sector_us, r->block_us, r->chip_us, r->half_us,
                            state, state_len);
 }
 

@@ -1,45 +1,53 @@
 /*
  * The independent model: 01's rules in its order, one small function a rule.
- * Sheet lines: 000 is the KH25L512, 002 the KH25L2006E.
+ * Sheet lines: 000 is the KH25L512, 002 the KH25L2006E, 003 the KH25L12845G.
  */
 #include "model.h"
 
 #include <stdbool.h>
 #include <string.h>
 
-enum { PAGE = 256, SECTOR = 4096, BLOCK = 65536, FRAME_LIMIT = 65541, STATE = 8 };
+enum { PAGE = 256, SECTOR = 4096, HALF_BLOCK = 32768, BLOCK = 65536, FRAME_LIMIT = 65541, STATE = 8 };
 
 enum {
     WRITE_STATUS = 0x01, PROGRAM = 0x02, READ = 0x03, WRITE_DISABLE = 0x04,
-    READ_STATUS = 0x05, WRITE_ENABLE = 0x06, FAST_READ = 0x0B, SECTOR_ERASE = 0x20,
-    BLOCK_ERASE_52 = 0x52, CHIP_ERASE_60 = 0x60, READ_MAKER = 0x90, READ_ID = 0x9F,
-    WAKE = 0xAB, SLEEP = 0xB9, CHIP_ERASE_C7 = 0xC7, BLOCK_ERASE_D8 = 0xD8
+    READ_STATUS = 0x05, WRITE_ENABLE = 0x06, FAST_READ = 0x0B, READ_CONFIG = 0x15, SECTOR_ERASE = 0x20,
+    ERASE_52 = 0x52, CHIP_ERASE_60 = 0x60, READ_MAKER = 0x90, READ_ID = 0x9F,
+    WAKE = 0xAB, SLEEP = 0xB9, CHIP_ERASE_C7 = 0xC7, BLOCK_ERASE = 0xD8
 };
 
 enum { MAKER = 0xC2 };
 
+/* The configuration register: TB is set once and stays; the others are volatile and change no answer (003 L828-867). */
+enum { TB = 0x08, VOLATILE = 0xD3 };
+
 struct record {
-    uint32_t model, status_us, page_us, sector_us, block_us, chip_us;
+    uint32_t model, status_us, page_us, sector_us, block_us, chip_us, half_us;
 };
 
 struct state {
-    unsigned srwd, bp, wel, asleep;
+    unsigned srwd, bp, wel, asleep, config;
     uint32_t busy_us;
 };
 
-/* What differs between the models. Cells from locked[BP] on are protected. */
+/* What differs between the models. */
 struct chip {
     uint32_t size;
     uint8_t id[3];
     uint8_t signature;
-    uint32_t locked[4];
+    bool large;             /* 003: a configuration register, half blocks, and 17 clears WEL */
+    uint8_t status, config; /* the bits that the two registers have */
+    uint16_t locked[16];    /* by BP: so many blocks at the top are protected, or with TB at the bottom */
 };
 
 static const struct chip chips[] = {
     /* 000 L383-391, L126-131 */
-    {65536, {0xC2, 0x20, 0x10}, 0x05, {65536, 0, 0, 0}},
+    {65536, {0xC2, 0x20, 0x10}, 0x05, false, 0x8F, 0, {0, 1, 1, 1}},
     /* 002 L522-526, L273-276 */
-    {262144, {0xC2, 0x20, 0x12}, 0x11, {262144, 0x30000, 0x20000, 0}},
+    {262144, {0xC2, 0x20, 0x12}, 0x11, false, 0x8F, 0, {0, 1, 2, 4}},
+    /* 003 L735-742, L813-843, L285-323 */
+    {16777216, {0xC2, 0x20, 0x18}, 0x17, true, 0xBF, VOLATILE | TB,
+     {0, 1, 2, 4, 8, 16, 32, 64, 128, 256, 256, 256, 256, 256, 256, 256}},
 };
 
 /* 01, Record. */
@@ -50,8 +58,9 @@ static bool time_ok(uint32_t us)
 
 static bool record_ok(const struct record *r)
 {
-    return (r->model == 1 || r->model == 2) && time_ok(r->status_us) && time_ok(r->page_us) &&
-           time_ok(r->sector_us) && time_ok(r->block_us) && time_ok(r->chip_us);
+    return r->model >= 1 && r->model <= 3 && time_ok(r->status_us) && time_ok(r->page_us) &&
+           time_ok(r->sector_us) && time_ok(r->block_us) && time_ok(r->chip_us) &&
+           (r->model == 3 ? time_ok(r->half_us) : r->half_us == 0);
 }
 
 static uint32_t larger(uint32_t a, uint32_t b)
@@ -59,10 +68,11 @@ static uint32_t larger(uint32_t a, uint32_t b)
     return a > b ? a : b;
 }
 
+/* half_us is 0 where it does not count. */
 static uint32_t longest(const struct record *r)
 {
     return larger(larger(larger(r->status_us, r->page_us), larger(r->sector_us, r->block_us)),
-                  r->chip_us);
+                  larger(r->chip_us, r->half_us));
 }
 
 /* 01, State: 128 SRWD + 4 BP + 2 WEL + WIP. */
@@ -75,7 +85,7 @@ static void pack(const struct state *s, uint8_t *p)
 {
     p[0] = status_byte(s);
     p[1] = (uint8_t)s->asleep;
-    p[2] = 0;
+    p[2] = (uint8_t)s->config;
     p[3] = 0;
     p[4] = (uint8_t)s->busy_us;
     p[5] = (uint8_t)(s->busy_us >> 8);
@@ -86,12 +96,15 @@ static void pack(const struct state *s, uint8_t *p)
 /* False unless p holds the packing of a valid state. */
 static bool unpack(struct state *s, const uint8_t *p, size_t len, const struct record *r)
 {
-    if (len != STATE || (p[0] & 0x70) != 0 || p[1] > 1 || p[2] != 0 || p[3] != 0)
+    const struct chip *chip = &chips[r->model - 1];
+
+    if (len != STATE || (p[0] & ~chip->status) != 0 || p[1] > 1 || (p[2] & ~chip->config) != 0 || p[3] != 0)
         return false;
     s->srwd = p[0] >> 7;
-    s->bp = p[0] >> 2 & 3;
+    s->bp = p[0] >> 2 & 15;
     s->wel = p[0] >> 1 & 1;
     s->asleep = p[1];
+    s->config = p[2];
     s->busy_us = (uint32_t)p[4] | (uint32_t)p[5] << 8 | (uint32_t)p[6] << 16 | (uint32_t)p[7] << 24;
     if ((p[0] & 1) != (s->busy_us > 0))
         return false;
@@ -107,7 +120,7 @@ static uint32_t address(const uint8_t *frame, uint32_t size)
 }
 
 /* 01, Commands: 13 for an unknown one, 14 for a length or tail it doesn't allow, else 0. */
-static uint32_t form_refusal(uint8_t command, size_t len, uint32_t tail)
+static uint32_t form_refusal(const struct chip *chip, uint8_t command, size_t len, uint32_t tail)
 {
     bool ok;
 
@@ -118,8 +131,10 @@ static uint32_t form_refusal(uint8_t command, size_t len, uint32_t tail)
     case READ_STATUS: case READ_ID:
         ok = true;
         break;
+    case READ_CONFIG:
+        return chip->large ? 0 : 13;
     case WRITE_STATUS:
-        ok = len == 2 && tail == 0;
+        ok = (len == 2 || (len == 3 && chip->large)) && tail == 0;
         break;
     case READ: case READ_MAKER:
         ok = len >= 4;
@@ -127,7 +142,7 @@ static uint32_t form_refusal(uint8_t command, size_t len, uint32_t tail)
     case FAST_READ:
         ok = len >= 5;
         break;
-    case SECTOR_ERASE: case BLOCK_ERASE_52: case BLOCK_ERASE_D8:
+    case SECTOR_ERASE: case ERASE_52: case BLOCK_ERASE:
         ok = len == 4 && tail == 0;
         break;
     case PROGRAM:
@@ -142,6 +157,14 @@ static uint32_t form_refusal(uint8_t command, size_t len, uint32_t tail)
     return ok ? 0 : 14;
 }
 
+/* Whether the block that holds a cell is protected. */
+static bool is_locked(const struct chip *chip, const struct state *s, uint32_t at)
+{
+    uint32_t block = at / BLOCK, blocks = chip->size / BLOCK, locked = chip->locked[s->bp];
+
+    return s->config & TB ? block < locked : block >= blocks - locked;
+}
+
 /* 15, 16 and 17: only for the seven commands that need WEL. */
 static uint32_t write_refusal(const struct chip *chip, const struct state *s,
                               const uint8_t *frame, uint32_t wp)
@@ -151,10 +174,10 @@ static uint32_t write_refusal(const struct chip *chip, const struct state *s,
         if (!s->wel)
             return 15;
         return s->srwd && wp == 0 ? 16 : 0;
-    case PROGRAM: case SECTOR_ERASE: case BLOCK_ERASE_52: case BLOCK_ERASE_D8:
+    case PROGRAM: case SECTOR_ERASE: case ERASE_52: case BLOCK_ERASE:
         if (!s->wel)
             return 15;
-        return address(frame, chip->size) >= chip->locked[s->bp] ? 17 : 0;
+        return is_locked(chip, s, address(frame, chip->size)) ? 17 : 0;
     case CHIP_ERASE_60: case CHIP_ERASE_C7:
         if (!s->wel)
             return 15;
@@ -162,6 +185,12 @@ static uint32_t write_refusal(const struct chip *chip, const struct state *s,
     default:
         return 0;
     }
+}
+
+/* What a busy chip answers. */
+static bool taken_while_busy(const struct chip *chip, uint8_t command)
+{
+    return command == READ_STATUS || (command == READ_CONFIG && chip->large);
 }
 
 /* 01, Numbers returned, from 10 on. */
@@ -172,11 +201,11 @@ static uint32_t frame_refusal(const struct chip *chip, const struct state *s, co
 
     if (len == 0)
         return 10;
-    if (s->busy_us > 0 && frame[0] != READ_STATUS)
+    if (s->busy_us > 0 && !taken_while_busy(chip, frame[0]))
         return 11;
     if (s->asleep && frame[0] != WAKE)
         return 12;
-    number = form_refusal(frame[0], len, tail);
+    number = form_refusal(chip, frame[0], len, tail);
     if (number != 0)
         return number;
     return write_refusal(chip, s, frame, wp);
@@ -201,8 +230,10 @@ static void read_cells(const uint8_t *array, uint32_t size, uint32_t at, uint8_t
  * Byte i goes to offset (a + i) mod 256, the last one counts: of n bytes only the last
  * 256 can, and no two of those share an offset. New cell = old AND data.
  */
-static void program_page(uint8_t *page, uint32_t a, const uint8_t *sent, size_t n)
+static void program_page(uint8_t *array, uint32_t at, const uint8_t *sent, size_t n)
 {
+    uint8_t *page = array + at / PAGE * PAGE;
+    uint32_t a = at % PAGE;
     size_t i;
 
     for (i = n > PAGE ? n - PAGE : 0; i < n; i++)
@@ -251,6 +282,9 @@ static size_t answer(const struct chip *chip, const struct state *s, const uint8
     case READ_STATUS:
         memset(out + 1, status_byte(s), len - 1);
         return 1;
+    case READ_CONFIG:
+        memset(out + 1, (int)s->config, len - 1);
+        return 1;
     case READ_ID:
         drive_id(chip->id, out + 1, len - 1);
         return 1;
@@ -266,11 +300,20 @@ static size_t answer(const struct chip *chip, const struct state *s, const uint8
     case WAKE:
         if (len < 5)
             return 0;
-        memset(out + 4, chip->signature, len - 4); /* repeats: 000 L369, 002 L498 */
+        memset(out + 4, chip->signature, len - 4); /* repeats: 000 L369, 002 L498, 003 L696 */
         return 4;
     default:
         return 0;
     }
+}
+
+/* The second data byte is the configuration register's; without it the register stays. */
+static void write_status(const struct chip *chip, struct state *s, const uint8_t *data, size_t n)
+{
+    s->srwd = data[0] >> 7;
+    s->bp = (data[0] & chip->status) >> 2 & 15;
+    if (n == 2)
+        s->config = (data[1] & VOLATILE) | ((s->config | data[1]) & TB);
 }
 
 /* The commands that change the state or the array. */
@@ -278,35 +321,27 @@ static void carry_out(const struct chip *chip, const struct record *r, struct st
                       uint8_t *array, const uint8_t *frame, size_t len)
 {
     switch (frame[0]) {
-    case WRITE_ENABLE:
-        s->wel = 1;
-        break;
-    case WRITE_DISABLE:
-        s->wel = 0;
-        break;
-    case SLEEP:
-        s->asleep = 1;
-        break;
-    case WAKE:
-        s->asleep = 0;
-        break;
+    case WRITE_ENABLE: s->wel = 1; break;
+    case WRITE_DISABLE: s->wel = 0; break;
+    case SLEEP: s->asleep = 1; break;
+    case WAKE: s->asleep = 0; break;
     case WRITE_STATUS:
-        s->srwd = frame[1] >> 7;
-        s->bp = frame[1] >> 2 & 3;
+        write_status(chip, s, frame + 1, len - 1);
         s->busy_us = r->status_us;
         break;
-    case PROGRAM: {
-        uint32_t at = address(frame, chip->size);
-
-        program_page(array + at / PAGE * PAGE, at % PAGE, frame + 4, len - 4);
+    case PROGRAM:
+        program_page(array, address(frame, chip->size), frame + 4, len - 4);
         s->busy_us = r->page_us;
         break;
-    }
     case SECTOR_ERASE:
         erase_unit(array, address(frame, chip->size), SECTOR);
         s->busy_us = r->sector_us;
         break;
-    case BLOCK_ERASE_52: case BLOCK_ERASE_D8:
+    case ERASE_52: /* 003 L1227-1231 */
+        erase_unit(array, address(frame, chip->size), chip->large ? HALF_BLOCK : BLOCK);
+        s->busy_us = chip->large ? r->half_us : r->block_us;
+        break;
+    case BLOCK_ERASE:
         erase_unit(array, address(frame, chip->size), BLOCK);
         s->busy_us = r->block_us;
         break;
@@ -317,13 +352,13 @@ static void carry_out(const struct chip *chip, const struct record *r, struct st
     }
 }
 
-uint32_t ref_frame(uint32_t model, uint32_t status_us, uint32_t page_us,
-                   uint32_t sector_us, uint32_t block_us, uint32_t chip_us,
+uint32_t ref_frame(uint32_t model, uint32_t status_us, uint32_t page_us, uint32_t sector_us,
+                   uint32_t block_us, uint32_t chip_us, uint32_t half_us,
                    uint8_t *state, size_t state_len, uint8_t *array, size_t array_len,
                    const uint8_t *frame, size_t frame_len, uint32_t tail, uint32_t wp,
                    uint8_t *out, size_t out_len, uint32_t *from, uint32_t *count)
 {
-    const struct record r = {model, status_us, page_us, sector_us, block_us, chip_us};
+    const struct record r = {model, status_us, page_us, sector_us, block_us, chip_us, half_us};
     const struct chip *chip;
     struct state s;
     uint32_t number;
@@ -343,6 +378,10 @@ uint32_t ref_frame(uint32_t model, uint32_t status_us, uint32_t page_us,
     if (out_len < frame_len)
         return 5;
     number = frame_refusal(chip, &s, frame, frame_len, tail, wp);
+    if (number == 17 && chip->large) { /* 003 L803 */
+        s.wel = 0;
+        pack(&s, state);
+    }
     if (number != 0)
         return number;
     first = answer(chip, &s, array, frame, frame_len, out);
@@ -353,11 +392,11 @@ uint32_t ref_frame(uint32_t model, uint32_t status_us, uint32_t page_us,
 }
 
 /* The busy time falls, never below 0; when it comes to 0, WEL clears. */
-uint32_t ref_wait(uint32_t model, uint32_t status_us, uint32_t page_us,
-                  uint32_t sector_us, uint32_t block_us, uint32_t chip_us,
+uint32_t ref_wait(uint32_t model, uint32_t status_us, uint32_t page_us, uint32_t sector_us,
+                  uint32_t block_us, uint32_t chip_us, uint32_t half_us,
                   uint8_t *state, size_t state_len, uint32_t us)
 {
-    const struct record r = {model, status_us, page_us, sector_us, block_us, chip_us};
+    const struct record r = {model, status_us, page_us, sector_us, block_us, chip_us, half_us};
     struct state s;
 
     if (!record_ok(&r))
@@ -374,12 +413,12 @@ uint32_t ref_wait(uint32_t model, uint32_t status_us, uint32_t page_us,
     return 0;
 }
 
-/* SRWD and BP stay, the rest becomes 0. */
-uint32_t ref_power_cycle(uint32_t model, uint32_t status_us, uint32_t page_us,
-                         uint32_t sector_us, uint32_t block_us, uint32_t chip_us,
+/* SRWD, BP and TB stay, the rest becomes 0. */
+uint32_t ref_power_cycle(uint32_t model, uint32_t status_us, uint32_t page_us, uint32_t sector_us,
+                         uint32_t block_us, uint32_t chip_us, uint32_t half_us,
                          uint8_t *state, size_t state_len)
 {
-    const struct record r = {model, status_us, page_us, sector_us, block_us, chip_us};
+    const struct record r = {model, status_us, page_us, sector_us, block_us, chip_us, half_us};
     struct state s;
 
     if (!record_ok(&r))
@@ -388,6 +427,7 @@ uint32_t ref_power_cycle(uint32_t model, uint32_t status_us, uint32_t page_us,
         return 3;
     s.wel = 0;
     s.asleep = 0;
+    s.config &= TB;
     s.busy_us = 0;
     pack(&s, state);
     return 0;

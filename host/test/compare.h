@@ -1,11 +1,16 @@
-/* What compare.c and compare_choose.c share: one random call, and what is lent to the two sides. */
+/* What the files of compare.c share: one random call, and what is lent to the two sides. */
 #ifndef COMPARE_H
 #define COMPARE_H
 
 #include "gwo.h"
 #include "rig.h"
 
-enum { STATE_ROOM = 280, FRAME_ROOM = 65600, OUT_ROOM = 65664, ARRAY_ROOM = 327680, MARGIN = 32 };
+enum { STATE_ROOM = 280, FRAME_ROOM = 65600, OUT_ROOM = 65664, MARGIN = 32 };
+
+/* Arrays are the last bytes of one room; those of models 1 and 2, and most wrong lengths, of its small end. */
+enum { PAGE = 256, BLOCK = 65536, ARRAY_ROOM = 16777216 + BLOCK, SMALL_ROOM = 327680 };
+
+enum { MODELS = 3 };
 enum kind { FRAME, WAIT, POWER_CYCLE };
 
 /* One call, as chosen. */
@@ -24,12 +29,26 @@ struct side {
 extern struct side ours, model;
 
 /* The choice of every call follows from the seed alone. */
-void choose_from(uint64_t seed);
+extern struct dice dice;
+
+#define ONE_OF(list) ((list)[below(&dice, sizeof(list) / sizeof((list)[0]))])
 
 /* Chooses a call and lays its state, frame, output and sometimes new cells into both sides. */
 void choose(struct call *c);
 
-/* Lays random cells into both. */
+/* The array, frame, tail, WP# level and output of a frame; the record is chosen before it. */
+void choose_frame(struct call *c);
+
+/* Lays random cells into both rooms. */
 void fill_cells(size_t at, size_t n);
+
+/* The address in the model's frame, 0 where it has none. */
+uint32_t addressed(const struct call *c);
+
+/* Counts a call, by the packed state before it and its answer. */
+void note(const struct call *c, const uint8_t *state, uint32_t number);
+
+/* A failure unless every number was met and every command accepted on each model, and all that only model 3 has. */
+void check_variety(void);
 
 #endif

@@ -7,6 +7,7 @@
 
 static int failed;
 static const char *program = "header";
+static uint8_t array[GWO_MODEL_3_LENGTH];
 
 static void check(int ok, const char *what)
 {
@@ -34,13 +35,25 @@ static void texts(void)
 static void lengths(void)
 {
     check(gwo_array_length(1) == 65536 && gwo_array_length(2) == 262144, "array lengths");
-    check(gwo_array_length(0) == 0 && gwo_array_length(3) == 0, "array lengths of no model");
+    check(gwo_array_length(3) == 16777216 && GWO_MODEL_3_LENGTH == 256 * GWO_BLOCK_LENGTH, "array length of model 3");
+    check(gwo_array_length(0) == 0 && gwo_array_length(4) == 0, "array lengths of no model");
+    check(GWO_HALF_BLOCK_LENGTH == 32768 && GWO_BLOCK_LENGTH == 65536, "a half block");
+}
+
+/* The sixth time is model 3's; its six are the maxima of 003 (L2135-2141). */
+static void benches(void)
+{
+    const struct gwo_record *r = &gwo_bench_model_3;
+
+    check(gwo_bench_model_1.model == 1 && gwo_bench_model_1.half_us == 0, "the bench record of model 1");
+    check(gwo_bench_model_2.model == 2 && gwo_bench_model_2.half_us == 0, "the bench record of model 2");
+    check(r->model == 3 && r->status_us == 40000 && r->page_us == 750 && r->sector_us == 400000, "that of model 3");
+    check(r->block_us == 2000000 && r->chip_us == 100000000 && r->half_us == 1000000, "the times of model 3");
 }
 
 /* 06, 01 00, a wait and a power cycle under each bench record: the calls are taken, the state is packed as said. */
 static void calls(const struct gwo_record *r, uint8_t busy_low, uint8_t busy_high)
 {
-    static uint8_t array[GWO_MODEL_2_LENGTH];
     static const uint8_t write_enable[] = {0x06}, write_status[] = {0x01, 0x00};
     const uint8_t zero[GWO_STATE_LENGTH] = {0, 0, 0, 0, 0, 0, 0, 0};
     const uint8_t busy[GWO_STATE_LENGTH] = {3, 0, 0, 0, busy_low, busy_high, 0, 0};
@@ -63,7 +76,6 @@ static void calls(const struct gwo_record *r, uint8_t busy_low, uint8_t busy_hig
 /* A pointer with the length 0 may be null: the call is answered, and the other buffers stay. */
 static void nulls(const struct gwo_record *r)
 {
-    static uint8_t array[GWO_MODEL_2_LENGTH];
     static const uint8_t status[] = {0x05, 0x00};
     const size_t n = gwo_array_length(r->model);
     uint8_t state[GWO_STATE_LENGTH] = {0, 0, 0, 0, 0, 0, 0, 0}, out[2];
@@ -84,10 +96,13 @@ int main(int argc, char **argv)
         program = argv[1];
     texts();
     lengths();
+    benches();
     calls(&gwo_bench_model_1, 15000 & 255, 15000 >> 8);
     calls(&gwo_bench_model_2, 40000 & 255, 40000 >> 8);
+    calls(&gwo_bench_model_3, 40000 & 255, 40000 >> 8);
     nulls(&gwo_bench_model_1);
     nulls(&gwo_bench_model_2);
+    nulls(&gwo_bench_model_3);
     printf("%s: %s\n", program, failed ? "failed" : "compiles without a warning, links and runs");
     return failed;
 }

@@ -1,13 +1,15 @@
 #include "jig.h"
 
+#include "jig_cells.h"
+
 #include <stdarg.h>
 #include <stdio.h>
 #include <string.h>
 
-enum { MARGIN = 64, MARK = 0x5C, UNSET = 0x5A5A5A5A, MOST_CELLS = 327680 };
+enum { MARGIN = 64, MARK = 0x5C, UNSET = 0x5A5A5A5A };
 
-const struct condition power_on = {0, 0, 0, 0, 0};
-const struct condition enabled = {0, 0, 1, 0, 0};
+const struct condition power_on = {0, 0, 0, 0, 0, 0};
+const struct condition enabled = {0, 0, 1, 0, 0, 0};
 
 struct given given;
 
@@ -15,19 +17,10 @@ struct given given;
 static uint32_t wanted_from, wanted_count;
 static uint8_t wanted_state[STATE_ROOM], wanted_out[OUT_ROOM];
 
-/* Cells as lent and as wanted: of model 1, of model 2, and for the wrong lengths. */
-struct cells {
-    struct lent lent;
-    uint8_t *wanted;
-    size_t length;
-    size_t low, high; /* outside of these they hold the pattern */
-};
-static struct cells small, large, wrong;
-static uint8_t small_wanted[65536], large_wanted[262144], wrong_wanted[MOST_CELLS];
 static struct lent lent_state, lent_frame, lent_out, lent_numbers;
 
-/* What every cell and every output position holds before a call. */
-static uint8_t pattern[MOST_CELLS], rest[OUT_ROOM];
+/* What every output position holds before a call. */
+static uint8_t rest[OUT_ROOM];
 
 const char *named(const char *form, ...)
 {
@@ -40,14 +33,25 @@ const char *named(const char *form, ...)
     return text;
 }
 
+const struct part *part_of(uint32_t model)
+{
+    static const struct part parts[MODELS] = {
+        {&gwo_bench_model_1, 65536, 3, "C22010", "05", {"C205", "05C2"}},
+        {&gwo_bench_model_2, 262144, 3, "C22012", "11", {"C211", "11C2"}},
+        {&gwo_bench_model_3, 16777216, 15, "C22018", "17", {"C217", "17C2"}},
+    };
+
+    return &parts[model - 1];
+}
+
 struct gwo_record bench(uint32_t model)
 {
-    return model == 1 ? gwo_bench_model_1 : gwo_bench_model_2;
+    return *part_of(model)->bench;
 }
 
 uint32_t size_of(uint32_t model)
 {
-    return model == 1 ? 65536 : 262144;
+    return part_of(model)->size;
 }
 
 uint8_t cell(uint32_t address)
@@ -55,54 +59,17 @@ uint8_t cell(uint32_t address)
     return (uint8_t)(address * 7 + (address >> 8) * 59 + (address >> 12) * 101 + (address >> 16) * 43 + 13);
 }
 
-static void make_cells(struct cells *c, uint8_t *room, size_t length)
-{
-    c->lent = lend(length);
-    c->wanted = room;
-    c->length = length;
-    c->low = 0;
-    c->high = length;
-}
-
 static void make_buffers(void)
 {
     size_t i;
 
-    make_cells(&small, small_wanted, sizeof small_wanted);
-    make_cells(&large, large_wanted, sizeof large_wanted);
-    make_cells(&wrong, wrong_wanted, sizeof wrong_wanted);
     lent_state = lend(STATE_ROOM + MARGIN);
     lent_frame = lend(FRAME_ROOM + MARGIN);
     lent_out = lend(OUT_ROOM + MARGIN);
     lent_numbers = lend(8 + MARGIN);
-    for (i = 0; i < MOST_CELLS; i++)
-        pattern[i] = cell((uint32_t)i);
     for (i = 0; i < OUT_ROOM; i++)
         rest[i] = (uint8_t)(i * 11 + (i >> 8) + 0x33);
     memcpy(wanted_out, rest, OUT_ROOM);
-}
-
-/* The cells lent for an array length. */
-static struct cells *cells_of(size_t length)
-{
-    return length == small.length ? &small : length == large.length ? &large : &wrong;
-}
-
-/* Lays the pattern anew where a call changed cells. */
-static void freshen(struct cells *c)
-{
-    if (c->low < c->high) {
-        memcpy(c->wanted + c->low, pattern + c->low, c->high - c->low);
-        memcpy(c->lent.start + c->low, pattern + c->low, c->high - c->low);
-    }
-    c->low = c->length;
-    c->high = 0;
-}
-
-static void changes(struct cells *c, size_t at, size_t n)
-{
-    c->low = at < c->low ? at : c->low;
-    c->high = at + n > c->high ? at + n : c->high;
 }
 
 static void nothing_wanted(void)
@@ -123,16 +90,14 @@ static void empty_frame(void)
 
 void jig_model(uint32_t model)
 {
-    if (small.wanted == NULL)
+    if (lent_state.start == NULL)
         make_buffers();
     given.record = bench(model);
     given.array_len = size_of(model);
     empty_frame();
     jig_state(power_on);
     nothing_wanted();
-    freshen(&small);
-    freshen(&large);
-    freshen(&wrong);
+    cells_fresh();
 }
 
 void jig_next(void)
@@ -144,17 +109,17 @@ void jig_next(void)
 
 uint32_t longest_us(void)
 {
-    const uint32_t us[5] = {given.record.status_us, given.record.page_us, given.record.sector_us,
-                            given.record.block_us, given.record.chip_us};
+    const uint32_t us[6] = {given.record.status_us, given.record.page_us, given.record.sector_us,
+                            given.record.block_us, given.record.chip_us, given.record.half_us};
     uint32_t most = 0;
     int i;
 
-    for (i = 0; i < 5; i++)
+    for (i = 0; i < 6; i++)
         most = us[i] > most ? us[i] : most;
     return most;
 }
 
-/* 01: the status byte, the flag, two zeros, the busy time little-endian. */
+/* The status byte, the flag, the configuration register, a zero, the busy time little-endian. */
 static void pack(struct condition c, uint8_t *p)
 {
     int i;
@@ -162,6 +127,7 @@ static void pack(struct condition c, uint8_t *p)
     memset(p, 0, STATE_ROOM);
     p[0] = (uint8_t)(128 * c.srwd + 4 * c.bp + 2 * c.wel + (c.busy_us > 0 ? 1 : 0));
     p[1] = (uint8_t)c.asleep;
+    p[2] = (uint8_t)c.config;
     for (i = 0; i < 4; i++)
         p[4 + i] = (uint8_t)(c.busy_us >> 8 * i);
 }
@@ -217,8 +183,7 @@ void jig_addressed(uint8_t command, uint32_t address, size_t n, uint8_t fill)
 
 void jig_cells(uint32_t at, uint32_t n, uint8_t value)
 {
-    want_cells(at, n, value);
-    memset(cells_of(given.array_len)->lent.start + at, value, n);
+    cells_set(cells_of(given.array_len), at, n, value);
 }
 
 void want_state(struct condition c)
@@ -234,10 +199,7 @@ void want_hex(uint32_t from, const char *hex)
 
 void want_cells(uint32_t at, uint32_t n, uint8_t value)
 {
-    struct cells *c = cells_of(given.array_len);
-
-    changes(c, at, n);
-    memset(c->wanted + at, value, n);
+    cells_want(cells_of(given.array_len), at, n, value);
 }
 
 void want_repeated(uint32_t from, const char *hex)
@@ -259,7 +221,7 @@ void want_cells_driven(uint32_t from, uint32_t address)
     wanted_from = from;
     wanted_count = (uint32_t)given.frame_len - from;
     for (i = 0; i < wanted_count; i++)
-        wanted_out[from + i] = c->wanted[(address + i) % c->length];
+        wanted_out[from + i] = cells_wanted(c, address + i);
 }
 
 /* The last n bytes of a lent buffer, with marks before them. */
@@ -278,35 +240,23 @@ static void same_number(uint32_t got, uint32_t want, const char *what, const cha
         fail("%s: %s is %lu, want %lu", label, what, (unsigned long)got, (unsigned long)want);
 }
 
-static void same_bytes(const uint8_t *got, const uint8_t *want, size_t n, const char *what, const char *label)
-{
-    size_t i;
-
-    if (agree(got, want, n))
-        return;
-    for (i = 0; got[i] == want[i]; i++)
-        continue;
-    fail("%s: byte %lu of the %s is %02X, want %02X", label, (unsigned long)i, what, got[i], want[i]);
-}
-
 /* A placed buffer: its bytes, and the marks before it. */
 static void same_placed(const uint8_t *got, const uint8_t *want, size_t n, const char *what, const char *label)
 {
     int i;
 
-    same_bytes(got, want, n, what, label);
+    same_bytes(got, want, 0, n, what, label);
     for (i = 1; i <= MARGIN; i++)
         if (got[-i] != MARK)
             fail("%s: a byte that was not lent, %d before the %s, became %02X", label, i, what, got[-i]);
 }
 
-static void same_cells(struct cells *c, const char *label)
+/* The address in the given frame; 0 where it has none. */
+static uint32_t addressed(void)
 {
-    unsigned long before = failures();
+    const uint8_t *f = given.frame;
 
-    same_bytes(c->lent.start, c->wanted, c->length, "array", label);
-    if (failures() != before)
-        changes(c, 0, c->length);
+    return given.frame_len < 4 ? 0 : (uint32_t)f[1] << 16 | (uint32_t)f[2] << 8 | f[3];
 }
 
 void frame_gives(uint32_t number, const char *label)
@@ -321,8 +271,8 @@ void frame_gives(uint32_t number, const char *label)
     uint32_t got;
 
     rig_calls++;
-    got = gwo_frame(r->model, r->status_us, r->page_us, r->sector_us, r->block_us, r->chip_us,
-                    state, given.state_len, last_of(&c->lent, given.array_len), given.array_len,
+    got = gwo_frame(r->model, r->status_us, r->page_us, r->sector_us, r->block_us, r->chip_us, r->half_us,
+                    state, given.state_len, cells_lent(c, given.array_len), given.array_len,
                     frame, given.frame_len, given.tail, given.wp, out, given.out_len, from, from + 1);
     same_number(got, number, "the answer", label);
     same_number(from[0], wanted_from, "the first driven position", label);
@@ -330,27 +280,29 @@ void frame_gives(uint32_t number, const char *label)
     same_placed(state, wanted_state, given.state_len, "state", label);
     same_placed(frame, given.frame, given.frame_len, "frame", label);
     same_placed(out, wanted_out, given.out_len, "output", label);
-    same_cells(c, label);
+    cells_same(c, addressed(), label);
 }
 
 void wait_gives(uint32_t us, uint32_t number, const char *label)
 {
-    const struct gwo_record *r = &given.record;
     uint8_t *state = place(&lent_state, given.state, given.state_len);
 
     rig_calls++;
-    same_number(gwo_wait(r->model, r->status_us, r->page_us, r->sector_us, r->block_us, r->chip_us,
-                         state, given.state_len, us), number, "the answer to a wait", label);
+    same_number(gwo_record_wait(&given.record, state, given.state_len, us), number, "the answer to a wait", label);
     same_placed(state, wanted_state, given.state_len, "state", label);
 }
 
 void power_cycle_gives(uint32_t number, const char *label)
 {
-    const struct gwo_record *r = &given.record;
     uint8_t *state = place(&lent_state, given.state, given.state_len);
 
     rig_calls++;
-    same_number(gwo_power_cycle(r->model, r->status_us, r->page_us, r->sector_us, r->block_us, r->chip_us,
-                                state, given.state_len), number, "the answer to a power cycle", label);
+    same_number(gwo_record_power_cycle(&given.record, state, given.state_len), number, "the answer to a power cycle",
+                label);
     same_placed(state, wanted_state, given.state_len, "state", label);
+}
+
+void jig_whole(const char *label)
+{
+    cells_same_everywhere(label);
 }

@@ -15,14 +15,32 @@ __attribute__((format(printf, 1, 2)))
 #endif
 const char *named(const char *form, ...);
 
-enum { SECTOR = 4096, BLOCK = 65536, PAGE = 256, LONGEST_FRAME = 65541 };
+enum { PAGE = 256, SECTOR = 4096, HALF_BLOCK = 32768, BLOCK = 65536, LONGEST_FRAME = 65541 };
 enum { FRAME_ROOM = 65600, OUT_ROOM = 65664, STATE_ROOM = 280 };
 
-/* 01's state, as fields. */
+/* What differs between the models. */
+struct part {
+    const struct gwo_record *bench;
+    uint32_t size;
+    unsigned highest_bp;
+    const char *id, *signature;  /* driven by 9F and AB, repeated */
+    const char *by_turns[2];     /* driven by 90, with an even and with an odd fourth byte */
+};
+
+enum { MODELS = 3 };
+const struct part *part_of(uint32_t model);
+struct gwo_record bench(uint32_t model);
+uint32_t size_of(uint32_t model);
+
+/* The state, as fields; the configuration register is model 3's. */
 struct condition {
     unsigned srwd, bp, wel, asleep;
     uint32_t busy_us;
+    unsigned config;
 };
+
+/* Bit 3 of the configuration register: the protected blocks are the lowest. */
+enum { TB = 0x08 };
 
 /* All zero; and the same with WEL 1. */
 extern const struct condition power_on, enabled;
@@ -39,10 +57,6 @@ struct given {
     size_t out_len;
 };
 extern struct given given;
-
-/* The bench record of a model, and its array length. */
-struct gwo_record bench(uint32_t model);
-uint32_t size_of(uint32_t model);
 
 /* The content of a cell before a call. */
 uint8_t cell(uint32_t address);
@@ -84,9 +98,13 @@ void want_repeated(uint32_t from, const char *hex);
 /* Driven from a position to the frame's end: the cells from an address on, rising, from the last to 0. */
 void want_cells_driven(uint32_t from, uint32_t address);
 
-/* Make the call, and compare the answer and every lent byte. */
+/*
+ * Make the call, and compare the answer and every lent byte; but of 16 MiB only the cells around the address
+ * (rig.h) and those that are wanted otherwise. jig_whole compares all of them.
+ */
 void frame_gives(uint32_t number, const char *label);
 void wait_gives(uint32_t us, uint32_t number, const char *label);
 void power_cycle_gives(uint32_t number, const char *label);
+void jig_whole(const char *label);
 
 #endif

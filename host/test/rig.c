@@ -12,6 +12,8 @@
 /* No machine in use has larger pages; an emulator protects by the host's. */
 enum { STRETCH = 65536 };
 
+enum { SECTOR = 4096, BLOCK = 65536, SMALL = 5 * BLOCK };
+
 unsigned long rig_calls;
 
 static const char *program = "?";
@@ -37,6 +39,19 @@ struct lent lend(size_t room)
     return l;
 }
 
+struct stretch around(size_t address, size_t length)
+{
+    size_t block = address / BLOCK * BLOCK;
+    struct stretch s = {0, length};
+
+    if (length <= SMALL)
+        return s;
+    s.low = block < SECTOR ? 0 : block - SECTOR;
+    if (block + BLOCK + SECTOR < length)
+        s.high = block + BLOCK + SECTOR;
+    return s;
+}
+
 static uint64_t word(const uint8_t *p)
 {
     uint64_t w;
@@ -54,6 +69,17 @@ int agree(const uint8_t *a, const uint8_t *b, size_t n)
         differ |= (word(a + i) ^ word(b + i)) | (word(a + i + 8) ^ word(b + i + 8)) |
                   (word(a + i + 16) ^ word(b + i + 16)) | (word(a + i + 24) ^ word(b + i + 24));
     return differ == 0 && memcmp(a + i, b + i, n - i) == 0;
+}
+
+void same_bytes(const uint8_t *got, const uint8_t *want, size_t from, size_t to, const char *what, const char *label)
+{
+    size_t i = from;
+
+    if (agree(got + from, want + from, to - from))
+        return;
+    while (got[i] == want[i])
+        i++;
+    fail("%s: byte %lu of the %s is %02X, want %02X", label, (unsigned long)i, what, got[i], want[i]);
 }
 
 static void touched(int signal_number)

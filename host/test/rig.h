@@ -19,8 +19,21 @@ static inline uint8_t *last_of(const struct lent *l, size_t n)
     return l->end - n;
 }
 
+/*
+ * What is compared of a lent array after each call: all of a small one; of 16 MiB the block that holds an address
+ * and a sector on each side of it. The programs compare the whole now and then, and at their end.
+ */
+struct stretch {
+    size_t low, high;
+};
+
+struct stretch around(size_t address, size_t length);
+
 /* True when n bytes agree: by words, which an emulator does faster than memcmp. */
 int agree(const uint8_t *a, const uint8_t *b, size_t n);
+
+/* A failure unless the bytes from one to before another agree; it names the first that differs. */
+void same_bytes(const uint8_t *got, const uint8_t *want, size_t from, size_t to, const char *what, const char *label);
 
 /*
  * Begins a test program. A touch of unmapped memory is from now on a failure

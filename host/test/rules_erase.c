@@ -1,97 +1,98 @@
-/* 01, Commands: 20, 52, D8, 60 and C7, and which units BP protects. */
+/* 01, Commands: 20, 52, D8, 60 and C7; 52 erases a half block on model 3. */
 #include "jig.h"
 #include "rules.h"
 
-enum { NO_BLOCK = 99 };
-
-/* The first protected block by model and BP: 01 and Table 2 of 002. */
-static const uint32_t first_protected[2][4] = {{NO_BLOCK, 0, 0, 0}, {NO_BLOCK, 3, 2, 0}};
-
-static struct condition unlocked(unsigned bp)
+uint32_t unit_of(uint32_t model, uint8_t command)
 {
-    struct condition c = enabled;
-
-    c.bp = bp;
-    return c;
+    switch (command) {
+    case 0x02: return 1;
+    case 0x20: return SECTOR;
+    case 0x52: return model == 3 ? HALF_BLOCK : BLOCK; /* 003 L1227-1231 */
+    case 0xD8: return BLOCK;
+    case 0x60: case 0xC7: return size_of(model);
+    default: return 0;
+    }
 }
 
-static struct condition busy_for(unsigned bp, uint32_t us)
+uint32_t us_of(const struct gwo_record *r, uint8_t command)
 {
-    struct condition c = unlocked(bp);
-
-    c.busy_us = us;
-    return c;
+    switch (command) {
+    case 0x01: return r->status_us;
+    case 0x02: return r->page_us;
+    case 0x20: return r->sector_us;
+    case 0x52: return r->model == 3 ? r->half_us : r->block_us;
+    case 0xD8: return r->block_us;
+    case 0x60: case 0xC7: return r->chip_us;
+    default: return 0;
+    }
 }
 
-/* One erase of the unit that holds an address; the rest of the array stays. */
-static void erase_at(uint32_t model, unsigned bp, uint8_t command, uint32_t address)
+void write_at(uint32_t model, struct condition c, uint8_t command, uint32_t address)
 {
-    uint32_t inside = address % size_of(model), unit = command == 0x20 ? SECTOR : BLOCK;
-    int is_protected = inside / BLOCK >= first_protected[model - 1][bp];
+    uint32_t inside = address % size_of(model), unit = unit_of(model, command);
+    int refused = is_protected(model, c, inside / BLOCK);
+    struct condition busy = c;
 
     jig_model(model);
-    jig_state(unlocked(bp));
-    jig_addressed(command, address, 0, 0);
+    jig_state(c);
+    busy.busy_us = us_of(&given.record, command);
+    jig_addressed(command, address, command == 0x02 ? 1 : 0, 0x00);
     given.wp = address % 2;
-    if (!is_protected) {
-        want_cells(inside / unit * unit, unit, 0xFF);
-        want_state(busy_for(bp, command == 0x20 ? bench(model).sector_us : bench(model).block_us));
-    }
-    frame_gives(is_protected ? 17 : 0, named("model %lu, BP %u: %02X at %06lX", (unsigned long)model, bp, command,
-                                             (unsigned long)address));
+    want_state(refused ? after_17(model, c) : busy);
+    if (!refused)
+        want_cells(inside / unit * unit, unit, command == 0x02 ? 0x00 : 0xFF);
+    frame_gives(refused ? 17 : 0, named("model %lu, BP %u, register %02X: %02X at %06lX", (unsigned long)model, c.bp,
+                                        c.config, command, (unsigned long)address));
 }
 
 /* Both ends of every sector, in the array and in its images above it. */
 static void every_sector(uint32_t model, unsigned bp)
 {
-    uint32_t sectors = size_of(model) / SECTOR, sector, image;
+    struct condition c = enabled;
+    uint32_t size = size_of(model), sector, image;
 
-    for (sector = 0; sector < sectors; sector++) {
+    c.bp = bp;
+    for (sector = 0; sector < size / SECTOR; sector++) {
         for (image = 0; image < 3; image++) {
-            uint32_t first = sector * SECTOR + image * (0x1000000u / 2 / size_of(model)) * size_of(model);
+            uint32_t first = sector * SECTOR + image * (0x1000000u / 2 / size) * size;
 
             if (first > 0xFFFFFF)
-                first -= size_of(model);
-            erase_at(model, bp, 0x20, first);
-            erase_at(model, bp, 0x20, first + SECTOR - 1);
-            erase_at(model, bp, sector % 2 ? 0x52 : 0xD8, first + sector * 16);
+                first -= size;
+            write_at(model, c, 0x20, first);
+            write_at(model, c, 0x20, first + SECTOR - 1);
+            write_at(model, c, sector % 2 ? 0x52 : 0xD8, first + sector * 16);
         }
     }
 }
 
-static void whole_chip(uint32_t model, unsigned bp, const char *frame)
+/* Model 3 has no image: an end of every sector, both ends of every half block, and a cell of every block. */
+static void every_unit_of_model_3(void)
 {
+    uint32_t i;
+
+    for (i = 0; i < 4096; i++)
+        write_at(3, enabled, 0x20, i * SECTOR + i % 2 * (SECTOR - 1));
+    for (i = 0; i < 512; i++) {
+        write_at(3, enabled, 0x52, i * HALF_BLOCK);
+        write_at(3, enabled, 0x52, i * HALF_BLOCK + HALF_BLOCK - 1);
+    }
+    for (i = 0; i < 256; i++)
+        write_at(3, enabled, 0xD8, i * BLOCK + i * 257);
+}
+
+/* Only with BP 0, wherever TB puts the protected blocks. */
+static void whole_chip(uint32_t model, unsigned bp, unsigned config, const char *frame)
+{
+    const struct condition c = {0, bp, 1, 0, 0, config}, busy = {0, bp, 1, 0, bench(model).chip_us, config};
+
     jig_model(model);
-    jig_state(unlocked(bp));
+    jig_state(c);
     jig_frame(frame);
-    if (bp == 0) {
+    want_state(bp == 0 ? busy : after_17(model, c));
+    if (bp == 0)
         want_cells(0, size_of(model), 0xFF);
-        want_state(busy_for(bp, bench(model).chip_us));
-    }
-    frame_gives(bp == 0 ? 0 : 17, named("model %lu, BP %u: %s", (unsigned long)model, bp, frame));
-}
-
-/* A program looks at the addressed unit as an erase does. */
-static void program_at_block_ends(uint32_t model, unsigned bp)
-{
-    uint32_t blocks = size_of(model) / BLOCK, block, end;
-
-    for (block = 0; block < blocks * 2; block++) {
-        for (end = 0; end < 2; end++) {
-            uint32_t address = block * BLOCK + end * (BLOCK - 1), inside = address % size_of(model);
-            int is_protected = inside / BLOCK >= first_protected[model - 1][bp];
-
-            jig_model(model);
-            jig_state(unlocked(bp));
-            jig_addressed(0x02, address, 1, 0x00);
-            if (!is_protected) {
-                want_cells(inside, 1, 0x00);
-                want_state(busy_for(bp, bench(model).page_us));
-            }
-            frame_gives(is_protected ? 17 : 0, named("model %lu, BP %u: 02 at %06lX", (unsigned long)model, bp,
-                                                     (unsigned long)address));
-        }
-    }
+    frame_gives(bp == 0 ? 0 : 17, named("model %lu, BP %u, register %02X: %s", (unsigned long)model, bp, config,
+                                        frame));
 }
 
 void erasing(void)
@@ -99,12 +100,17 @@ void erasing(void)
     uint32_t model;
     unsigned bp;
 
-    for (model = 1; model <= 2; model++) {
-        for (bp = 0; bp < 4; bp++) {
-            every_sector(model, bp);
-            whole_chip(model, bp, "60");
-            whole_chip(model, bp, "C7");
-            program_at_block_ends(model, bp);
+    for (model = 1; model <= MODELS; model++) {
+        for (bp = 0; bp <= part_of(model)->highest_bp; bp++) {
+            if (model < 3)
+                every_sector(model, bp);
+            whole_chip(model, bp, 0, "60");
+            whole_chip(model, bp, 0, "C7");
         }
+    }
+    every_unit_of_model_3();
+    for (bp = 0; bp <= part_of(3)->highest_bp; bp++) {
+        whole_chip(3, bp, TB, "60");
+        whole_chip(3, bp, 0xDB, "C7");
     }
 }

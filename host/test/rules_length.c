@@ -6,74 +6,86 @@
 #include "rules.h"
 
 enum { ANY = 1, NO_TAIL = 0, END = LONGEST_FRAME };
-enum unit { NONE, DATA, ONE_SECTOR, ONE_BLOCK, WHOLE };
-enum time { NO_TIME, STATUS, PROGRAM_PAGE, SECTOR_TIME, BLOCK_TIME, CHIP_TIME };
+enum on { EVERY_MODEL, SMALL, LARGE }; /* models 1 and 2, model 3 */
+enum driven { NOTHING, STATUS_BYTE, REGISTER, CELLS, ID, SIGNATURE, BY_TURNS };
 
 /* What it gives on an awake, idle chip with WEL 1 and the rest 0. */
 struct row {
     uint8_t command;
-    size_t least, most;  /* whole bytes */
-    int tail;            /* any tail, or none */
-    uint32_t first;      /* first driven position, 0: none */
-    const char *driven[2]; /* the bytes driven, repeated, by model; null: the cells from 0 on */
+    enum on on;
+    size_t least, most;   /* whole bytes */
+    int tail;             /* any tail, or none */
+    uint32_t first;       /* first driven position, 0: none */
+    enum driven driven;
     unsigned wel, asleep; /* after */
-    enum unit cleared;   /* to FF; DATA: as many cells as data bytes, to 0 */
-    enum time busy;
 };
 
 static const struct row rows[] = {
-    {0x06, 1, 1, NO_TAIL, 0, {0, 0}, 1, 0, NONE, NO_TIME},
-    {0x04, 1, 1, NO_TAIL, 0, {0, 0}, 0, 0, NONE, NO_TIME},
-    {0xB9, 1, 1, NO_TAIL, 0, {0, 0}, 1, 1, NONE, NO_TIME},
-    {0x60, 1, 1, NO_TAIL, 0, {0, 0}, 1, 0, WHOLE, CHIP_TIME},
-    {0xC7, 1, 1, NO_TAIL, 0, {0, 0}, 1, 0, WHOLE, CHIP_TIME},
-    {0x05, 1, END, ANY, 1, {"02", "02"}, 1, 0, NONE, NO_TIME},
-    {0x01, 2, 2, NO_TAIL, 0, {0, 0}, 1, 0, NONE, STATUS},
-    {0x03, 4, END, ANY, 4, {0, 0}, 1, 0, NONE, NO_TIME},
-    {0x0B, 5, END, ANY, 5, {0, 0}, 1, 0, NONE, NO_TIME},
-    {0x20, 4, 4, NO_TAIL, 0, {0, 0}, 1, 0, ONE_SECTOR, SECTOR_TIME},
-    {0x52, 4, 4, NO_TAIL, 0, {0, 0}, 1, 0, ONE_BLOCK, BLOCK_TIME},
-    {0xD8, 4, 4, NO_TAIL, 0, {0, 0}, 1, 0, ONE_BLOCK, BLOCK_TIME},
-    {0x02, 5, END, NO_TAIL, 0, {0, 0}, 1, 0, DATA, PROGRAM_PAGE},
-    {0x9F, 1, END, ANY, 1, {"C22010", "C22012"}, 1, 0, NONE, NO_TIME},
-    {0xAB, 1, 1, NO_TAIL, 0, {0, 0}, 1, 0, NONE, NO_TIME},
-    {0xAB, 5, END, ANY, 4, {"05", "11"}, 1, 0, NONE, NO_TIME},
-    {0x90, 4, END, ANY, 4, {"C205", "C211"}, 1, 0, NONE, NO_TIME},
+    {0x06, EVERY_MODEL, 1, 1, NO_TAIL, 0, NOTHING, 1, 0},
+    {0x04, EVERY_MODEL, 1, 1, NO_TAIL, 0, NOTHING, 0, 0},
+    {0xB9, EVERY_MODEL, 1, 1, NO_TAIL, 0, NOTHING, 1, 1},
+    {0x60, EVERY_MODEL, 1, 1, NO_TAIL, 0, NOTHING, 1, 0},
+    {0xC7, EVERY_MODEL, 1, 1, NO_TAIL, 0, NOTHING, 1, 0},
+    {0x05, EVERY_MODEL, 1, END, ANY, 1, STATUS_BYTE, 1, 0},
+    {0x15, LARGE, 1, END, ANY, 1, REGISTER, 1, 0},
+    {0x01, SMALL, 2, 2, NO_TAIL, 0, NOTHING, 1, 0},
+    {0x01, LARGE, 2, 3, NO_TAIL, 0, NOTHING, 1, 0},
+    {0x03, EVERY_MODEL, 4, END, ANY, 4, CELLS, 1, 0},
+    {0x0B, EVERY_MODEL, 5, END, ANY, 5, CELLS, 1, 0},
+    {0x20, EVERY_MODEL, 4, 4, NO_TAIL, 0, NOTHING, 1, 0},
+    {0x52, EVERY_MODEL, 4, 4, NO_TAIL, 0, NOTHING, 1, 0},
+    {0xD8, EVERY_MODEL, 4, 4, NO_TAIL, 0, NOTHING, 1, 0},
+    {0x02, EVERY_MODEL, 5, END, NO_TAIL, 0, NOTHING, 1, 0},
+    {0x9F, EVERY_MODEL, 1, END, ANY, 1, ID, 1, 0},
+    {0xAB, EVERY_MODEL, 1, 1, NO_TAIL, 0, NOTHING, 1, 0},
+    {0xAB, EVERY_MODEL, 5, END, ANY, 4, SIGNATURE, 1, 0},
+    {0x90, EVERY_MODEL, 4, END, ANY, 4, BY_TURNS, 1, 0},
 };
 enum { ROWS = sizeof rows / sizeof rows[0] };
 
-static const struct row *row_for(uint8_t command, size_t length, uint32_t tail)
+static int is_for(const struct row *r, uint32_t model, uint8_t command)
+{
+    return r->command == command && (r->on == EVERY_MODEL || (r->on == LARGE) == (model == 3));
+}
+
+/* The row that takes the frame, or none and the number that refuses it. */
+static const struct row *row_for(uint32_t model, uint8_t command, size_t length, uint32_t tail, uint32_t *number)
 {
     size_t i;
 
-    for (i = 0; i < ROWS; i++)
-        if (rows[i].command == command && length >= rows[i].least && length <= rows[i].most &&
-            (tail == 0 || rows[i].tail == ANY))
+    *number = 13;
+    for (i = 0; i < ROWS; i++) {
+        if (!is_for(&rows[i], model, command))
+            continue;
+        *number = 14;
+        if (length >= rows[i].least && length <= rows[i].most && (tail == 0 || rows[i].tail == ANY)) {
+            *number = 0;
             return &rows[i];
+        }
+    }
     return NULL;
 }
 
-static uint32_t us_of(const struct gwo_record *r, enum time t)
-{
-    switch (t) {
-    case STATUS: return r->status_us;
-    case PROGRAM_PAGE: return r->page_us;
-    case SECTOR_TIME: return r->sector_us;
-    case BLOCK_TIME: return r->block_us;
-    case CHIP_TIME: return r->chip_us;
-    default: return 0;
-    }
-}
-
-static void want_cleared(enum unit u)
+/* Erased cells are FF; as many as there are data bytes, to a page's end, are 00. */
+static void want_changed(uint32_t model, uint8_t command)
 {
     uint32_t data = (uint32_t)given.frame_len - 4;
 
-    switch (u) {
-    case DATA: want_cells(0, data < PAGE ? data : PAGE, 0x00); break;
-    case ONE_SECTOR: want_cells(0, SECTOR, 0xFF); break;
-    case ONE_BLOCK: want_cells(0, BLOCK, 0xFF); break;
-    case WHOLE: want_cells(0, (uint32_t)given.array_len, 0xFF); break;
+    if (command == 0x02)
+        want_cells(0, data < PAGE ? data : PAGE, 0x00);
+    else
+        want_cells(0, unit_of(model, command), 0xFF);
+}
+
+static void want_driven(const struct row *r, uint32_t model)
+{
+    switch (r->driven) {
+    case STATUS_BYTE: want_repeated(r->first, "02"); break;
+    case REGISTER: want_repeated(r->first, "00"); break;
+    case CELLS: want_cells_driven(r->first, 0); break;
+    case ID: want_repeated(r->first, part_of(model)->id); break;
+    case SIGNATURE: want_repeated(r->first, part_of(model)->signature); break;
+    case BY_TURNS: want_repeated(r->first, part_of(model)->by_turns[0]); break;
     default: break;
     }
 }
@@ -84,20 +96,17 @@ static void want_row(const struct row *r, uint32_t model)
 
     after.wel = r->wel;
     after.asleep = r->asleep;
-    after.busy_us = us_of(&given.record, r->busy);
+    after.busy_us = us_of(&given.record, r->command);
     want_state(after);
-    want_cleared(r->cleared);
-    if (r->first == 0 || given.frame_len <= r->first)
-        return;
-    if (r->driven[model - 1] != NULL)
-        want_repeated(r->first, r->driven[model - 1]);
-    else
-        want_cells_driven(r->first, 0);
+    want_changed(model, r->command);
+    if (given.frame_len > r->first)
+        want_driven(r, model);
 }
 
 static void length_and_tail(uint32_t model, uint8_t command, size_t length, uint32_t tail)
 {
-    const struct row *r = row_for(command, length, tail);
+    uint32_t number;
+    const struct row *r = row_for(model, command, length, tail, &number);
     const char *label = named("model %lu: %02X, %lu bytes, tail %lu", (unsigned long)model, command,
                               (unsigned long)length, (unsigned long)tail);
 
@@ -107,7 +116,7 @@ static void length_and_tail(uint32_t model, uint8_t command, size_t length, uint
     given.tail = tail;
     if (r != NULL)
         want_row(r, model);
-    frame_gives(r != NULL ? 0 : 14, label);
+    frame_gives(number, label);
 }
 
 /* Lengths around every limit, each with the eight tails. */
@@ -120,9 +129,13 @@ void lengths_and_tails(void)
     uint32_t model, tail;
     size_t i, k;
 
-    for (model = 1; model <= 2; model++)
-        for (i = 0; i < ROWS; i++)
+    for (model = 1; model <= MODELS; model++) {
+        for (i = 0; i < ROWS; i++) {
+            if (i > 0 && rows[i].command == rows[i - 1].command)
+                continue;
             for (k = 0; k < LENGTHS; k++)
                 for (tail = 0; tail <= 7; tail++)
                     length_and_tail(model, rows[i].command, lengths[k], tail);
+        }
+    }
 }

@@ -112,7 +112,7 @@ void programming(void)
 {
     uint32_t model;
 
-    for (model = 1; model <= 2; model++) {
+    for (model = 1; model <= MODELS; model++) {
         places(model);
         every_offset(model);
         every_pair(model);

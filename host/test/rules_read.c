@@ -61,15 +61,15 @@ static void identification(uint32_t model)
         jig_filled(0x9F, length, (uint8_t)length);
         given.tail = (uint32_t)length % 8;
         if (length > 1)
-            want_repeated(1, model == 1 ? "C22010" : "C22012");
+            want_repeated(1, part_of(model)->id);
         frame_gives(0, named("9F of %lu bytes", (unsigned long)length));
     }
 }
 
-/* AB: the signature repeats to the frame's end (000 L369, 002 L498). */
+/* AB: the signature repeats to the frame's end (000 L369, 002 L498, 003 L696). */
 static void signature(uint32_t model)
 {
-    static const struct condition asleep = {1, 2, 0, 1, 0}, awake = {1, 2, 0, 0, 0};
+    static const struct condition asleep = {1, 2, 0, 1, 0, 0}, awake = {1, 2, 0, 0, 0, 0};
     size_t length;
 
     for (length = 5; length <= 300; length++) {
@@ -78,7 +78,7 @@ static void signature(uint32_t model)
         jig_filled(0xAB, length, (uint8_t)(length * 3));
         given.tail = (uint32_t)length % 8;
         want_state(awake);
-        want_repeated(4, model == 1 ? "05" : "11");
+        want_repeated(4, part_of(model)->signature);
         frame_gives(0, named("AB of %lu bytes", (unsigned long)length));
     }
 }
@@ -94,10 +94,8 @@ static void maker_and_signature(uint32_t model)
             jig_model(model);
             jig_addressed(0x90, fourth * 0x010100u + fourth, length - 4, (uint8_t)fourth);
             given.tail = fourth % 8;
-            if (length > 4 && fourth % 2 == 0)
-                want_repeated(4, model == 1 ? "C205" : "C211");
-            if (length > 4 && fourth % 2 == 1)
-                want_repeated(4, model == 1 ? "05C2" : "11C2");
+            if (length > 4)
+                want_repeated(4, part_of(model)->by_turns[fourth % 2]);
             frame_gives(0, named("90 with fourth byte %02X, %lu bytes", fourth, (unsigned long)length));
         }
     }
@@ -107,7 +105,7 @@ void reading_commands(void)
 {
     uint32_t model;
 
-    for (model = 1; model <= 2; model++) {
+    for (model = 1; model <= MODELS; model++) {
         reads(model);
         longest_reads(model);
         identification(model);

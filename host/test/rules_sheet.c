@@ -1,10 +1,10 @@
-/* 01, Bench sheet: each of its cases, as it stands there. Model 1 unless said. */
+/* 01, Bench sheet: each of its cases, as it stands there, model 1 unless said; and the cases of model 3. */
 #include "jig.h"
 #include "rules.h"
 
 static struct condition state(unsigned srwd, unsigned bp, unsigned wel, unsigned asleep, uint32_t busy_us)
 {
-    struct condition c = {0, 0, 0, 0, 0};
+    struct condition c = power_on;
 
     c.srwd = srwd;
     c.bp = bp;
@@ -176,6 +176,60 @@ static void folded_program_of_the_log(void)
     frame_gives(0, "log line 8");
 }
 
+/* BP 1 and WEL 1: the highest block is protected, with TB the lowest; 17 clears WEL. */
+static void model_3_top_and_bottom(void)
+{
+    struct condition c = state(0, 1, 1, 0, 0), after = c;
+
+    given_frame(3, c, "20FEFFFF");
+    want_cells(0xFEF000, SECTOR, 0xFF);
+    after.busy_us = 400000;
+    want_state(after);
+    frame_gives(0, "model 3, TB 0, BP 1: 20 at FEFFFF");
+    given_frame(3, c, "20FF0000");
+    want_state(state(0, 1, 0, 0, 0));
+    frame_gives(17, "model 3, TB 0, BP 1: 20 at FF0000, WEL 0");
+    c.config = TB;
+    given_frame(3, c, "20000000");
+    after = c;
+    after.wel = 0;
+    want_state(after);
+    frame_gives(17, "model 3, TB 1, BP 1: 20 at 0, WEL 0");
+}
+
+/* A frame on the chip as it is, and the one byte that it drives. */
+static void next_drives(const char *frame, const char *byte, const char *label)
+{
+    next_frame(frame);
+    want_hex(1, byte);
+    frame_gives(0, label);
+}
+
+static void model_3_status_and_register(void)
+{
+    struct condition c = state(1, 15, 1, 0, 40000);
+
+    given_frame(3, power_on, "06");
+    want_state(enabled);
+    frame_gives(0, "model 3, power-on, 06");
+    next_frame("01FFFF");
+    c.config = 0xDB;
+    want_state(c);
+    frame_gives(0, "model 3, 01 FF FF");
+    next_drives("0500", "BF", "model 3, status after 01 FF FF");
+    next_drives("1500", "DB", "model 3, register after 01 FF FF");
+    jig_next();
+    c.wel = c.busy_us = 0;
+    want_state(c);
+    wait_gives(40000, 0, "model 3, the wait after 01 FF FF");
+    next_drives("0500", "BC", "model 3, status after the wait");
+    jig_next();
+    c.config = TB;
+    want_state(c);
+    power_cycle_gives(0, "model 3, a power cycle");
+    next_drives("1500", "08", "model 3, register after the power cycle");
+}
+
 void bench_sheet(void)
 {
     power_on_status();
@@ -189,4 +243,6 @@ void bench_sheet(void)
     sector_erase_time();
     last_line();
     folded_program_of_the_log();
+    model_3_top_and_bottom();
+    model_3_status_and_register();
 }

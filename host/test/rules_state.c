@@ -2,21 +2,31 @@
 #include "jig.h"
 #include "rules.h"
 
-/* The 32 idle states by number. */
-static struct condition idle(unsigned k)
+#include <stdio.h>
+
+/* The idle states by number; model 3 has each with two registers. */
+static unsigned idle_states(uint32_t model)
 {
-    struct condition c = {0, 0, 0, 0, 0};
+    return 8 * (part_of(model)->highest_bp + 1) * (model == 3 ? 2 : 1);
+}
+
+static struct condition idle(uint32_t model, unsigned k)
+{
+    unsigned levels = part_of(model)->highest_bp + 1;
+    struct condition c = power_on;
 
     c.asleep = k % 2;
     c.wel = k / 2 % 2;
-    c.bp = k / 4 % 4;
-    c.srwd = k / 16;
+    c.srwd = k / 4 % 2;
+    c.bp = k / 8 % levels;
+    c.config = k / 8 / levels * 0xDB;
     return c;
 }
 
 static const char *from_state(const char *frame, struct condition c)
 {
-    return named("%s from SRWD %u BP %u WEL %u asleep %u", frame, c.srwd, c.bp, c.wel, c.asleep);
+    return named("%s from SRWD %u BP %u WEL %u asleep %u register %02X", frame, c.srwd, c.bp, c.wel, c.asleep,
+                 c.config);
 }
 
 /* A frame that takes an awake chip from one state to another; asleep it is refused. */
@@ -63,7 +73,7 @@ static void waking(uint32_t model, struct condition before)
         if (forms[i].number == 0)
             want_state(awake);
         if (given.frame_len >= 5)
-            want_repeated(4, model == 1 ? "05" : "11");
+            want_repeated(4, part_of(model)->signature);
         frame_gives(forms[i].number, from_state(forms[i].frame, before));
     }
 }
@@ -71,13 +81,10 @@ static void waking(uint32_t model, struct condition before)
 /* 05: 128 SRWD + 4 BP + 2 WEL + WIP, from position 1 on, idle and busy. */
 static void status_read(uint32_t model, struct condition c)
 {
-    static const char digits[] = "0123456789ABCDEF";
-    unsigned low = 4 * c.bp + 2 * c.wel + (c.busy_us > 0 ? 1 : 0);
-    char byte[3] = {0, 0, 0};
+    char byte[3];
     size_t length;
 
-    byte[0] = c.srwd ? '8' : '0';
-    byte[1] = digits[low];
+    snprintf(byte, sizeof byte, "%02X", 128 * c.srwd + 4 * c.bp + 2 * c.wel + (c.busy_us > 0 ? 1 : 0));
     for (length = 1; length <= 6; length++) {
         jig_model(model);
         jig_state(c);
@@ -93,8 +100,8 @@ static void status_reads(uint32_t model)
 {
     unsigned k;
 
-    for (k = 0; k < 32; k++) {
-        struct condition c = idle(k);
+    for (k = 0; k < idle_states(model); k++) {
+        struct condition c = idle(model, k);
 
         if (c.asleep)
             continue;
@@ -106,11 +113,12 @@ static void status_reads(uint32_t model)
     }
 }
 
-/* 01 takes SRWD, BP1 and BP0 from bits 7, 3 and 2, ignores the rest, and leaves WEL 1. */
+/* 01 takes SRWD and BP from bits 7, 3 and 2, on model 3 from 7 and 5 to 2, ignores the rest, and leaves WEL 1. */
 static void status_write(uint32_t model, unsigned value)
 {
-    const struct condition before = {value % 2, value / 2 % 4, 1, 0, 0};
-    const struct condition after = {value >> 7, value >> 2 & 3, 1, 0, bench(model).status_us};
+    const struct condition before = {value % 2, value / 2 % 4, 1, 0, 0, 0};
+    const struct condition after = {value >> 7, (value & (model == 3 ? 0x3C : 0x0C)) / 4, 1, 0, bench(model).status_us,
+                                    0};
 
     jig_model(model);
     jig_state(before);
@@ -124,10 +132,10 @@ void state_commands(void)
     uint32_t model;
     unsigned k;
 
-    for (model = 1; model <= 2; model++) {
-        for (k = 0; k < 32; k++) {
-            latch_and_sleep(model, idle(k));
-            waking(model, idle(k));
+    for (model = 1; model <= MODELS; model++) {
+        for (k = 0; k < idle_states(model); k++) {
+            latch_and_sleep(model, idle(model, k));
+            waking(model, idle(model, k));
         }
         jig_model(model);
         status_reads(model);

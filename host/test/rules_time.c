@@ -1,4 +1,4 @@
-/* 01: a wait lowers the busy time, never below 0; a power cycle keeps SRWD and BP. */
+/* 01: a wait lowers the busy time, never below 0; a power cycle keeps SRWD and BP, on model 3 TB too. */
 #include "jig.h"
 #include "rules.h"
 
@@ -48,17 +48,26 @@ static void power_cycle_of(uint32_t model, struct condition c)
     jig_state(c);
     after.srwd = c.srwd;
     after.bp = c.bp;
+    after.config = c.config & TB;
     want_state(after);
-    power_cycle_gives(0, named("power cycle from SRWD %u BP %u WEL %u asleep %u busy %lu", c.srwd, c.bp, c.wel,
-                               c.asleep, (unsigned long)c.busy_us));
+    power_cycle_gives(0, named("power cycle from SRWD %u BP %u WEL %u asleep %u busy %lu register %02X", c.srwd, c.bp,
+                               c.wel, c.asleep, (unsigned long)c.busy_us, c.config));
+}
+
+/* A register for model 3, by turns. */
+static unsigned any_register(uint32_t model, unsigned turn)
+{
+    static const unsigned registers[] = {0x00, TB, 0xD3, 0xDB, 0x41};
+
+    return model == 3 ? registers[turn % 5] : 0;
 }
 
 static void of_idle(uint32_t model)
 {
     unsigned k;
 
-    for (k = 0; k < 32; k++) {
-        const struct condition c = {k / 16, k / 4 % 4, k / 2 % 2, k % 2, 0};
+    for (k = 0; k < 8 * (part_of(model)->highest_bp + 1); k++) {
+        const struct condition c = {k / 4 % 2, k / 8, k / 2 % 2, k % 2, 0, any_register(model, k)};
 
         waits_of_idle(model, c);
         power_cycle_of(model, c);
@@ -73,7 +82,8 @@ static void of_busy(uint32_t model)
 
     for (k = 0; k < 8; k++) {
         for (i = 0; i < sizeof left / sizeof left[0]; i++) {
-            const struct condition c = {k / 4, k % 4, 1, 0, left[i]};
+            unsigned bp = model == 3 ? (k + (unsigned)i) % 16 : k % 4;
+            const struct condition c = {k / 4, bp, 1, 0, left[i], any_register(model, k)};
 
             waits_of_busy(model, c);
             power_cycle_of(model, c);
@@ -104,30 +114,29 @@ static void longest_time(uint32_t model)
 /* Each command has its own time of the record, in all its four bytes. */
 static void each_time(uint32_t model)
 {
-    static const struct { const char *frame; uint32_t us, erased; } rows[] = {
-        {"0100", 0x11223344, 0}, {"02000000FF", 0x2A3B4C5D, 0}, {"20000000", 0x35798642, 4096},
-        {"52000000", 0x18273645, 65536}, {"D8000000", 0x18273645, 65536}, {"60", 0x3A4F5E6D, 1}, {"C7", 0x3A4F5E6D, 1}};
-    const struct gwo_record record = {model, 0x11223344, 0x2A3B4C5D, 0x35798642, 0x18273645, 0x3A4F5E6D};
+    const struct gwo_record r = {model, 0x11223344, 0x2A3B4C5D, 0x35798642, 0x18273645, 0x3A4F5E6D,
+                                 model == 3 ? 0x2C4E6A81 : 0};
+    static const char *const frames[] = {"0100", "0200000000", "20000000", "52000000", "D8000000", "60", "C7"};
     size_t i;
 
-    for (i = 0; i < sizeof rows / sizeof rows[0]; i++) {
+    for (i = 0; i < sizeof frames / sizeof frames[0]; i++) {
         struct condition busy = enabled;
 
         jig_model(model);
-        given.record = record;
+        given.record = r;
         jig_state(enabled);
-        jig_frame(rows[i].frame);
-        busy.busy_us = rows[i].us;
+        jig_frame(frames[i]);
+        busy.busy_us = us_of(&r, given.frame[0]);
         want_state(busy);
-        want_cells(0, rows[i].erased == 1 ? size_of(model) : rows[i].erased, 0xFF);
-        frame_gives(0, named("%s under a record of long times", rows[i].frame));
+        want_cells(0, unit_of(model, given.frame[0]), given.frame[0] == 0x02 ? 0x00 : 0xFF);
+        frame_gives(0, named("model %lu: %s under a record of long times", (unsigned long)model, frames[i]));
         jig_next();
         busy.busy_us -= 0x01020304;
         want_state(busy);
-        wait_gives(0x01020304, 0, named("a wait after %s", rows[i].frame));
+        wait_gives(0x01020304, 0, named("a wait after %s", frames[i]));
         jig_next();
         want_state(power_on);
-        wait_gives(busy.busy_us, 0, named("the rest of the time after %s", rows[i].frame));
+        wait_gives(busy.busy_us, 0, named("the rest of the time after %s", frames[i]));
     }
 }
 
@@ -135,7 +144,7 @@ void time_and_power(void)
 {
     uint32_t model;
 
-    for (model = 1; model <= 2; model++) {
+    for (model = 1; model <= MODELS; model++) {
         of_idle(model);
         of_busy(model);
         longest_time(model);

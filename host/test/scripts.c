@@ -116,12 +116,14 @@ static uint32_t take_step(const struct step *s, uint32_t *from, uint32_t *count)
     *from = *count = 0;
     switch (s->kind) {
     case FRAME:
-        return ref_frame(r->model, r->status_us, r->page_us, r->sector_us, r->block_us, r->chip_us, packed, 8,
-                         cells, CELLS, s->frame, s->frame_len, s->tail, s->wp, out, sizeof out, from, count);
+        return ref_frame(r->model, r->status_us, r->page_us, r->sector_us, r->block_us, r->chip_us, r->half_us,
+                         packed, 8, cells, CELLS, s->frame, s->frame_len, s->tail, s->wp, out, sizeof out, from, count);
     case WAIT:
-        return ref_wait(r->model, r->status_us, r->page_us, r->sector_us, r->block_us, r->chip_us, packed, 8, s->us);
+        return ref_wait(r->model, r->status_us, r->page_us, r->sector_us, r->block_us, r->chip_us, r->half_us,
+                        packed, 8, s->us);
     case POWER_CYCLE:
-        return ref_power_cycle(r->model, r->status_us, r->page_us, r->sector_us, r->block_us, r->chip_us, packed, 8);
+        return ref_power_cycle(r->model, r->status_us, r->page_us, r->sector_us, r->block_us, r->chip_us, r->half_us,
+                               packed, 8);
     default:
         return 20;
     }

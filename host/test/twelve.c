@@ -1,278 +1,21 @@
 /*
- * 01, The twelve calls: on both models, from every kind of valid state, at the ends of
+ * 01, The twelve calls: on the three models, from every kind of valid state, at the ends of
  * pages, sectors, blocks and arrays. Every call is answered 0, the last drives the data, the rest of
  * the sector is FF and the rest of the array as it was. Then each of the four waits
  * is one microsecond shorter. With the argument `first` it stops at a failure.
  */
-#include "gwo.h"
-#include "rig.h"
+#include "twelve.h"
 
 #include <stdio.h>
 #include <string.h>
-
-enum { SECTOR = 4096, MOST_CELLS = 262144, MOST_FRAME = 4 + 256, UNSET = 0x77777777 };
-
-/* One run of the calls. */
-struct run {
-    struct gwo_record record;
-    uint8_t before[8];
-    uint32_t address; /* of the array, or an image of it above */
-    const uint8_t *bytes;
-    size_t n;
-    int shorter;      /* the number of the wait that is one short, 0: none */
-};
-
-static struct lent lent_state, lent_small, lent_large, lent_frame, lent_out, lent_numbers;
-static uint8_t *array;
-static uint8_t cells_before[MOST_CELLS], cells_wanted[MOST_CELLS];
-static const struct run *now;
-static int call_number;
-static unsigned long runs;
-
-static uint32_t longest(const struct gwo_record *r)
-{
-    const uint32_t us[5] = {r->status_us, r->page_us, r->sector_us, r->block_us, r->chip_us};
-    uint32_t most = 0;
-    int i;
-
-    for (i = 0; i < 5; i++)
-        most = us[i] > most ? us[i] : most;
-    return most;
-}
-
-static void put_state(uint8_t *p, unsigned status, unsigned asleep, uint32_t busy)
-{
-    int i;
-
-    memset(p, 0, 8);
-    p[0] = (uint8_t)(status + (busy > 0));
-    p[1] = (uint8_t)asleep;
-    for (i = 0; i < 4; i++)
-        p[4 + i] = (uint8_t)(busy >> 8 * i);
-}
-
-static uint32_t busy_of(const uint8_t *p)
-{
-    return (uint32_t)p[4] | (uint32_t)p[5] << 8 | (uint32_t)p[6] << 16 | (uint32_t)p[7] << 24;
-}
-
-static void wrong(const char *what, unsigned long got, unsigned long want)
-{
-    const uint8_t *s = now->before;
-
-    fail("model %lu, state %02X %02X busy %lu, address %06lX, %lu bytes, wait %d shorter: call %d: %s %lX, want %lX",
-         (unsigned long)now->record.model, s[0], s[1], (unsigned long)busy_of(s), (unsigned long)now->address,
-         (unsigned long)now->n, now->shorter, call_number, what, got, want);
-}
-
-static void wrong_bytes(const char *what, const uint8_t *got, const uint8_t *want, size_t n)
-{
-    size_t i;
-
-    if (agree(got, want, n))
-        return;
-    for (i = 0; got[i] == want[i]; i++)
-        continue;
-    wrong(what, got[i], want[i]);
-}
-
-static void state_is(unsigned status, unsigned asleep, uint32_t busy)
-{
-    uint8_t want[8];
-
-    put_state(want, status, asleep, busy);
-    wrong_bytes("the state has", last_of(&lent_state, 8), want, 8);
-}
-
-/* A frame with WP# high and no tail; it drives count bytes from position 4, or nothing. */
-static void frame_answers(uint32_t number, const uint8_t *frame, size_t n, const uint8_t *driven, size_t count)
-{
-    uint8_t *in = last_of(&lent_frame, n), *out = last_of(&lent_out, n), want[MOST_FRAME];
-    uint32_t *numbers = (uint32_t *)(void *)last_of(&lent_numbers, 8), got;
-
-    memcpy(in, frame, n);
-    memset(out, 0x99, n);
-    memset(want, 0x99, n);
-    if (count > 0)
-        memcpy(want + 4, driven, count);
-    numbers[0] = numbers[1] = UNSET;
-    rig_calls++;
-    call_number++;
-    got = gwo_record_frame(&now->record, last_of(&lent_state, 8), 8, array, gwo_array_length(now->record.model),
-                           in, n, 0, 1, out, n, &numbers[0], &numbers[1]);
-    if (got != number)
-        wrong("the answer is", got, number);
-    if (numbers[0] != (count > 0 ? 4 : 0) || numbers[1] != count)
-        wrong("the driven count is", numbers[1], count);
-    wrong_bytes("the output has", out, want, n);
-}
-
-static void wait_for(uint32_t us)
-{
-    uint32_t got;
-
-    call_number++;
-    rig_calls++;
-    got = gwo_record_wait(&now->record, last_of(&lent_state, 8), 8, us - (now->shorter == call_number));
-    if (got != 0)
-        wrong("the answer is", got, 0);
-}
-
-static size_t addressed(uint8_t *frame, uint8_t command, const uint8_t *bytes, size_t n)
-{
-    frame[0] = command;
-    frame[1] = (uint8_t)(now->address >> 16);
-    frame[2] = (uint8_t)(now->address >> 8);
-    frame[3] = (uint8_t)now->address;
-    if (n > 0)
-        memcpy(frame + 4, bytes, n);
-    return 4 + n;
-}
-
-/* 06, which a wait that was one short refuses with 11, the chip as it was. */
-static int enabled_after(int wait, unsigned status, uint32_t left)
-{
-    static const uint8_t write_enable[] = {0x06};
-    int busy = now->shorter == wait;
-
-    frame_answers(busy ? 11 : 0, write_enable, 1, NULL, 0);
-    if (busy)
-        state_is(status, 0, left);
-    else
-        state_is(2, 0, 0);
-    return !busy;
-}
-
-/* Calls 1 and 2: the longest wait, and AB. One short, a chip that was as busy as can be answers 11. */
-static int settle(void)
-{
-    static const uint8_t wake[] = {0xAB};
-    unsigned kept = now->before[0] & 0x8C, latch = now->before[0] & 2;
-    uint32_t busy = busy_of(now->before);
-    int still = now->shorter == 1 && busy == longest(&now->record);
-
-    wait_for(longest(&now->record));
-    if (still)
-        state_is(kept + 2, 0, 1);
-    else
-        state_is(kept + (busy > 0 ? 0 : latch), now->before[1], 0);
-    frame_answers(still ? 11 : 0, wake, 1, NULL, 0);
-    if (still)
-        state_is(kept + 2, 0, 1);
-    else
-        state_is(kept + (busy > 0 ? 0 : latch), 0, 0);
-    return !still;
-}
-
-/* Calls 3 to 5: 06, 01 00 and its wait. */
-static void unprotect(void)
-{
-    static const uint8_t write_enable[] = {0x06}, status_00[] = {0x01, 0x00};
-
-    frame_answers(0, write_enable, 1, NULL, 0);
-    state_is((now->before[0] & 0x8Cu) + 2, 0, 0);
-    frame_answers(0, status_00, 2, NULL, 0);
-    state_is(2, 0, now->record.status_us);
-    wait_for(now->record.status_us);
-}
-
-/* Calls 7 and 8: the erase and its wait. */
-static void erase(void)
-{
-    uint32_t inside = now->address % (uint32_t)gwo_array_length(now->record.model);
-    uint8_t frame[4];
-
-    frame_answers(0, frame, addressed(frame, 0x20, NULL, 0), NULL, 0);
-    state_is(2, 0, now->record.sector_us);
-    memset(cells_wanted + inside / SECTOR * SECTOR, 0xFF, SECTOR);
-    wait_for(now->record.sector_us);
-}
-
-/* Calls 10 and 11: the program and its wait. */
-static void program(void)
-{
-    uint32_t inside = now->address % (uint32_t)gwo_array_length(now->record.model);
-    uint8_t frame[MOST_FRAME];
-
-    frame_answers(0, frame, addressed(frame, 0x02, now->bytes, now->n), NULL, 0);
-    state_is(2, 0, now->record.page_us);
-    memcpy(cells_wanted + inside, now->bytes, now->n);
-    wait_for(now->record.page_us);
-}
-
-/* Call 12: the data come back. */
-static void read_back(void)
-{
-    uint8_t frame[MOST_FRAME], zeros[256];
-    int busy = now->shorter == 11;
-    size_t n;
-
-    memset(zeros, 0, sizeof zeros);
-    n = addressed(frame, 0x03, zeros, now->n);
-    frame_answers(busy ? 11 : 0, frame, n, now->bytes, busy ? 0 : now->n);
-    if (busy)
-        state_is(2, 0, 1);
-    else
-        state_is(0, 0, 0);
-}
-
-static void twelve_calls(void)
-{
-    if (!settle())
-        return;
-    unprotect();
-    if (!enabled_after(5, 2, 1))
-        return;
-    erase();
-    if (!enabled_after(8, 2, 1))
-        return;
-    program();
-    read_back();
-}
-
-/* Puts back the cells that a run changed: its sector, or all when something went wrong. */
-static void put_back(size_t at, size_t n)
-{
-    memcpy(array + at, cells_before + at, n);
-    memcpy(cells_wanted + at, cells_before + at, n);
-}
-
-static void run_once(const struct run *r)
-{
-    size_t size = gwo_array_length(r->record.model);
-    unsigned long before = failures();
-
-    now = r;
-    call_number = 0;
-    runs++;
-    array = r->record.model == 1 ? lent_small.start : lent_large.start;
-    memcpy(last_of(&lent_state, 8), r->before, 8);
-    twelve_calls();
-    wrong_bytes("a cell is", array, cells_wanted, size);
-    if (failures() == before)
-        put_back(r->address % size / SECTOR * SECTOR, SECTOR);
-    else
-        put_back(0, size);
-}
-
-/* As it is, and with each of the four waits shortened. */
-static void run_all_ways(struct run r)
-{
-    static const int shorter[] = {0, 1, 5, 8, 11};
-    size_t i;
-
-    for (i = 0; i < 5; i++) {
-        r.shorter = shorter[i];
-        run_once(&r);
-    }
-}
 
 /* The next of the places: page offset a and n data bytes with a + n at most 256. */
 static void place(struct run *r, unsigned turn)
 {
     static const uint32_t addresses[] = {0x000000, 0x0000FF, 0x000100, 0x000F80, 0x001001, 0x00FF00, 0x00FFFF,
                                          0x010000, 0x01F0AA, 0x020000, 0x02FFFF, 0x030000, 0x03FF01, 0x03FFFF,
-                                         0x040000, 0x123456, 0x800000, 0xFFFF80, 0xFFFFFF};
+                                         0x040000, 0x123456, 0x7FFFFF, 0x800000, 0xFEFF00, 0xFF0000, 0xFFFF80,
+                                         0xFFFFFF};
     static uint8_t bytes[256];
     size_t room, i;
 
@@ -288,23 +31,33 @@ static unsigned turn;
 
 static void from_state(const struct gwo_record *record, unsigned status, unsigned asleep, uint32_t busy)
 {
+    static const unsigned registers[] = {0x00, 0x08, 0xD3, 0xDB, 0x41};
     struct run r;
 
     r.record = *record;
-    put_state(r.before, status, asleep, busy);
+    put_state(r.before, status, asleep, record->model == 3 ? registers[turn % 5] : 0, busy);
     place(&r, turn++);
     run_all_ways(r);
+}
+
+/* SRWD and BP: all of models 1 and 2; of model 3's 32 eight others with every record. */
+static unsigned kept_bits(uint32_t model, unsigned kept)
+{
+    static unsigned step;
+
+    return kept / 4 * 128 + (model == 3 ? (5 * kept + step++ / 8) % 16 : kept % 4) * 4;
 }
 
 /* Every idle state, and every busy one with times around each of the record's. */
 static void every_state(const struct gwo_record *r)
 {
     const uint32_t most = longest(r);
-    const uint32_t busy[] = {1, r->status_us, r->page_us, r->sector_us, r->block_us, r->chip_us, most - 1, most};
+    const uint32_t busy[] = {1, r->status_us, r->page_us, r->sector_us, r->block_us, r->chip_us, r->half_us,
+                             most - 1, most};
     unsigned kept, low, i;
 
     for (kept = 0; kept < 8; kept++) {
-        unsigned status = kept / 4 * 128 + kept % 4 * 4;
+        unsigned status = kept_bits(r->model, kept);
 
         for (low = 0; low < 4; low++)
             from_state(r, status + low / 2 * 2, low % 2, 0);
@@ -314,42 +67,35 @@ static void every_state(const struct gwo_record *r)
     }
 }
 
-/* The bench record, all times the shortest, all the longest, and each of the five the longest. */
-static void every_record(uint32_t model)
+/* The bench record, all times the shortest, all the longest, and each of those that count the longest. */
+static void every_record(const struct gwo_record *bench)
 {
-    static const uint32_t times[][5] = {{1, 1, 1, 1, 1}, {1000000000, 1000000000, 1000000000, 1000000000, 1000000000},
-                                        {50, 10, 20, 30, 40}, {40, 50, 10, 20, 30}, {30, 40, 50, 10, 20},
-                                        {20, 30, 40, 50, 10}, {10, 20, 30, 40, 50}, {1, 2, 1000000000, 3, 4}};
+    enum { MOST = 1000000000 };
+    static const uint32_t times[][6] = {{1, 1, 1, 1, 1, 1}, {MOST, MOST, MOST, MOST, MOST, MOST},
+                                        {60, 10, 20, 30, 40, 50}, {50, 60, 10, 20, 30, 40}, {40, 50, 60, 10, 20, 30},
+                                        {30, 40, 50, 60, 10, 20}, {20, 30, 40, 50, 60, 10}, {10, 20, 30, 40, 50, 60},
+                                        {1, 2, MOST, 3, 4, 5}};
     size_t i;
 
-    every_state(model == 1 ? &gwo_bench_model_1 : &gwo_bench_model_2);
+    lend_array(bench->model);
+    every_state(bench);
     for (i = 0; i < sizeof times / sizeof times[0]; i++) {
         const uint32_t *t = times[i];
-        const struct gwo_record r = {model, t[0], t[1], t[2], t[3], t[4]};
+        const struct gwo_record r = {bench->model, t[0], t[1], t[2], t[3], t[4], bench->model == 3 ? t[5] : 0};
 
         every_state(&r);
     }
+    all_put_back(bench->model);
 }
 
 int main(int argc, char **argv)
 {
-    struct dice dice = {12};
-
     rig_begin("twelve");
     if (argc > 1 && strcmp(argv[1], "first") == 0)
         rig_stop_at_first();
-    lent_state = lend(8);
-    lent_small = lend(65536);
-    lent_large = lend(262144);
-    lent_frame = lend(MOST_FRAME);
-    lent_out = lend(MOST_FRAME);
-    lent_numbers = lend(8);
-    scatter(&dice, cells_before, sizeof cells_before);
-    memcpy(cells_wanted, cells_before, sizeof cells_before);
-    memcpy(lent_small.start, cells_before, 65536);
-    memcpy(lent_large.start, cells_before, 262144);
-    every_record(1);
-    every_record(2);
+    every_record(&gwo_bench_model_1);
+    every_record(&gwo_bench_model_2);
+    every_record(&gwo_bench_model_3);
     printf("  %lu runs\n", runs);
     return rig_end();
 }

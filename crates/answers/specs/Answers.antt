@@ -24,3 +24,7 @@ numberOf Protected = 17
 -- nothing was refused
 abbrev pub isDone : Answer → Bool
 isDone a = eqb (numberOf a) 0
+
+-- the unit is protected
+abbrev pub saysProtected : Answer → Bool
+saysProtected a = eqb (numberOf a) 17

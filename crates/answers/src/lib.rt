@@ -1,6 +1,6 @@
 // What a call is answered, and the numbers of the answers.
 ghost use mathlib.Core.Path.{_≡_};
-ghost use Rattle.answers.specs.Answers.{numberOf, isDone};
+ghost use Rattle.answers.specs.Answers.{numberOf, isDone, saysProtected};
 
 // What a call is answered: 0, or the first refusal that applies.
 pub enum Answer {
@@ -47,4 +47,11 @@ pub fn is_done(a: Answer) -> bool
     ensures { λ r. ⌜ r ≡ isDone a ⌝ }
 {
     number_of(a) == 0
+}
+
+// Whether the call is refused because its unit is protected.
+pub fn says_protected(a: Answer) -> bool
+    ensures { λ r. ⌜ r ≡ saysProtected a ⌝ }
+{
+    number_of(a) == 17
 }

@@ -1,5 +1,5 @@
 -- Laws of single calls of the model, and how calls compose. Assumes nothing.
-use mathlib.Core.Path.{_≡_, refl, ap, subst, _∙_}
+use mathlib.Core.Path.{_≡_, refl, sym, ap, subst, _∙_}
 use mathlib.Core.Bool.{Bool, true, false, not, _&&_, _||_, and-false}
 use mathlib.Core.List.{List, [], _∷_, _++_}
 use Prim.Native.Nat.{ℕ, suc, _+_, _-_, _≤_, _<_}
@@ -11,23 +11,24 @@ use Rattle.units.specs.declared.Address.{Address}
 use Rattle.units.specs.declared.Block.{Block}
 use Rattle.units.specs.Kinds.{blockOf}
 use Rattle.models.specs.Models.{modelOf, addressOf, rangeOf, isProtected}
-use Rattle.models.proofs.Rules.{range-rules}
+use Rattle.models.proofs.Rules.{range-none, half-erase-model}
 use Rattle.parts.proofs.Lay.{lay-none}
 use Rattle.answers.specs.Answers.{isDone}
 use Rattle.commands.specs.Commands.{decodeOf, traitsOf, lengthOk}
-use Rattle.commands.specs.declared.Command.the-variants.{Read, Program}
-use Rattle.commands.proofs.Rows.{between, least-on}
-use Rattle.states.specs.States.{recordOk, stateOk}
+use Rattle.commands.specs.declared.Command.{Command}
+use Rattle.commands.specs.declared.Command.the-variants.{EraseHalf, Read, Program, WriteStatus}
+use Rattle.commands.proofs.Rows.{between, least-on, one-byte-write}
+use Rattle.states.specs.States.{recordOk, stateOk, tbOf}
 use Rattle.states.specs.declared.Record.{Record}
 use Rattle.states.specs.declared.State.{State}
 use Rattle.answers.specs.declared.Answer.{Answer}
 use Rattle.answers.specs.declared.Answer.the-variants.{Done, Busy}
 use Rattle.states.proofs.States.{sound, valid}
-use Rattle.ladder.specs.Ladder.{ladder, refusalOf}
+use Rattle.ladder.specs.Ladder.{ladder, refusalOf, asks}
 use Rattle.ladder.specs.declared.Head.{Head}
 use Rattle.ladder.proofs.Passed.{Clear, unrefused}
 use Rattle.time.specs.declared.After.{After}
-use Rattle.effects.specs.Effects.{Effect, stateOnly, changed, shown, drives, latched, dozing, written, writeEnable, writeStatus, eraseSector, eraseBlock, eraseChip, programPage, readFrom, wake}
+use Rattle.effects.specs.Effects.{Effect, stateOnly, changed, shown, drives, latched, dozing, written, writeEnable, writeStatus, eraseSector, eraseHalf, eraseBlock, eraseChip, programPage, readFrom, wake, configAfter}
 use Rattle.chip.specs.Frames.{Chip, Sent, chipOf, headFor, headOf, acceptedOf, refusedOf, frameOf}
 use Rattle.time.specs.Time.{later, ifValid, waitOf}
 use Rattle.calls.specs.Calls.{Call, sends, waits, cycles, ours, left, after, answer, run, answers, Bench, Roomy, frame}
@@ -39,17 +40,17 @@ module _ (rec : Record) (x : Chip) (b : Bench rec x) (f : Sent) where
   h = headOf rec x f
 
   -- the first five rows of the table ask for a bench, a short enough frame and room; where the others stop nothing it is accepted
-  pub taken : length (f .bytes) ≤ 65541 → f .tail ≤ 7 → Roomy f → Clear (drop 5 (ladder rec (x .state) h (traitsOf (h .command))))
+  pub taken : length (f .bytes) ≤ 65541 → f .tail ≤ 7 → Roomy f → Clear (drop 5 (ladder rec (x .state) h (asks rec h)))
       → frameOf rec x f ≡ acceptedOf rec x (h .command) (h .address) (f .bytes) (f .out)
   unfolding frameOf refusalOf headFor
   taken l t r c =
       let long : (ltb 65541 (length (f .bytes)) || ltb 7 (f .tail)) ≡ false = rw (le-ltb 65541 (length (f .bytes)) l, le-ltb 7 (f .tail) t) in
-      rw (unrefused (ladder rec (x .state) h (traitsOf (h .command)))
+      rw (unrefused (ladder rec (x .state) h (asks rec h))
       (ap not (b .right), (ap not (eq-eqb (length (x .cells)) (modelOf (rec .model) .length) (b .whole)), (ap not (b .valid), (long, (le-ltb (length (f .out)) (length (f .bytes)) r, c))))))
 
   -- on a busy chip it is answered 11, unless its command is taken while busy
   busy-refusal : 0 < x .state .busy → 0 < length (f .bytes) → length (f .bytes) ≤ 65541 → f .tail ≤ 7 → Roomy f
-      → traitsOf (decodeOf (getD (f .bytes) 0 0)) .«while_busy» ≡ false → refusalOf rec (x .state) h ≡ Busy
+      → traitsOf (modelOf (rec .model) .register) (decodeOf (rec .model) (getD (f .bytes) 0 0)) .«while_busy» ≡ false → refusalOf rec (x .state) h ≡ Busy
   unfolding refusalOf headFor
   busy-refusal busy some l t r w =
       rw (
@@ -64,14 +65,14 @@ module _ (rec : Record) (x : Chip) (b : Bench rec x) (f : Sent) where
         w,
       )
 
--- a refused frame changes nothing
+-- a refused frame leaves what a refusal leaves
 pub refused-frame : (rec : Record) (x : Chip) (f : Sent) (a : Answer) → refusalOf rec (x .state) (headOf rec x f) ≡ a → isDone a ≡ false
-    → frameOf rec x f ≡ refusedOf a x f
+    → frameOf rec x f ≡ refusedOf rec a x f
 unfolding frameOf
 refused-frame rec x f a e d = rw (e, d)
 
 pub while-busy : (rec : Record) (x : Chip) (b : Bench rec x) (bytes out : List ℕ) → 0 < x .state .busy
-    → 0 < length bytes → length bytes ≤ 65541 → Roomy (frame bytes out) → traitsOf (decodeOf (getD bytes 0 0)) .«while_busy» ≡ false
+    → 0 < length bytes → length bytes ≤ 65541 → Roomy (frame bytes out) → traitsOf (modelOf (rec .model) .register) (decodeOf (rec .model) (getD bytes 0 0)) .«while_busy» ≡ false
     → answer ours rec [] (sends (frame bytes out)) x ≡ Busy
 unfolding answer
 while-busy rec x b bytes out busy some l r w =
@@ -79,16 +80,18 @@ while-busy rec x b bytes out busy some l r w =
     (refused-frame rec x (frame bytes out) Busy (busy-refusal rec x b (frame bytes out) busy some l (lit≤ tt) r w) refl)
 
 -- at BP 0 no block is protected
-pub unprotected : (n : ℕ) (b : Block) → isProtected n 0 b ≡ false
+pub unprotected : (n : ℕ) (tb : Bool) (b : Block) → isProtected n tb 0 b ≡ false
 unfolding isProtected
-unprotected n b = go (leb (rangeOf n 0 .0) (b .0)) refl
+unprotected n tb b = go (leb (rangeOf n tb 0 .0) (b .0)) refl
   where
-    none : rangeOf n 0 .1 ≡ 0
-    none = range-rules n 0 (omega arith) .none refl
-
-    go : (t : Bool) → leb (rangeOf n 0 .0) (b .0) ≡ t → (t && ltb (b .0) (rangeOf n 0 .0 + rangeOf n 0 .1)) ≡ false
-    go true e = le-ltb (b .0) (rangeOf n 0 .0 + rangeOf n 0 .1) (omega (arith, none, leb-true (rangeOf n 0 .0) (b .0) e))
+    go : (t : Bool) → leb (rangeOf n tb 0 .0) (b .0) ≡ t → (t && ltb (b .0) (rangeOf n tb 0 .0 + rangeOf n tb 0 .1)) ≡ false
+    go true e = le-ltb (b .0) (rangeOf n tb 0 .0 + rangeOf n tb 0 .1) (omega (arith, range-none n tb, leb-true (rangeOf n tb 0 .0) (b .0) e))
     go false e = refl
+
+-- on model 3 the byte 52 erases a half block
+decodes-half : (n : ℕ) → n ≡ 3 → decodeOf n 0x52 ≡ EraseHalf
+unfolding decodeOf
+decodes-half n e = rw e
 
 -- the last eight tests of the table, by name
 pub tests : {a b c d e f g h : Bool} → a ≡ false → b ≡ false → c ≡ false → d ≡ false → e ≡ false → f ≡ false → g ≡ false → h ≡ false
@@ -112,11 +115,13 @@ module _ (rec : Record) (x : Chip) (b : Bench rec x) (z : x .state .busy ≡ 0) 
       (tests refl (rw (eq-eqb (x .state .busy) 0 z)) (rw a) refl refl refl refl refl)
 
   pub write-taken : (v : ℕ) → x .state .asleep ≡ false → x .state .wel ≡ true → 2 ≤ length out
-      → frameOf rec x (frame (0x01 ∷ v ∷ []) out) ≡ stateOnly Done (written (x .state) v (rec .«status_write»)) (x .cells) out
-  unfolding acceptedOf writeStatus decodeOf traitsOf headFor lengthOk
+      → frameOf rec x (frame (0x01 ∷ v ∷ []) out) ≡ stateOnly Done (written (rec .model) (x .state) v (x .state .config) (rec .«status_write»)) (x .cells) out
+  unfolding acceptedOf writeStatus configAfter decodeOf traitsOf headFor
   write-taken v a w r =
+      let has = modelOf (rec .model) .register in
       taken rec x b (frame (0x01 ∷ v ∷ []) out) (lit≤ tt) (lit≤ tt) r
-      (tests refl (rw (eq-eqb (x .state .busy) 0 z)) (rw a) refl refl (rw w) (and-false (x .state .srwd)) refl)
+      (tests refl (rw (eq-eqb (x .state .busy) 0 z)) (rw a) refl (ap not (between (traitsOf has WriteStatus) 2 (lit≤ tt) (one-byte-write has))) (rw w) (and-false (x .state .srwd)) refl)
+      ∙ rw (and-false has)
 
   module _ (high middle low : ℕ) where
     abbrev pub to : Address
@@ -124,20 +129,20 @@ module _ (rec : Record) (x : Chip) (b : Bench rec x) (z : x .state .busy ≡ 0) 
 
     pub erase-taken : x .state .asleep ≡ false → x .state .wel ≡ true → x .state .bp ≡ 0 → 4 ≤ length out
         → frameOf rec x (frame (0x20 ∷ high ∷ middle ∷ low ∷ []) out) ≡ changed out (eraseSector rec (x .state) (x .cells) to)
-    unfolding acceptedOf decodeOf traitsOf headFor lengthOk
+    unfolding acceptedOf decodeOf traitsOf headFor lengthOk tbOf
     erase-taken a w p r =
         taken rec x b (frame (0x20 ∷ high ∷ middle ∷ low ∷ []) out) (lit≤ tt) (lit≤ tt) r
-        (tests refl (rw (eq-eqb (x .state .busy) 0 z)) (rw a) refl refl (rw w) refl (rw (p, unprotected (rec .model) (blockOf to))))
+        (tests refl (rw (eq-eqb (x .state .busy) 0 z)) (rw a) refl refl (rw w) refl (rw (p, unprotected (rec .model) (tbOf (x .state)) (blockOf to))))
 
     pub program-taken : (sent : List ℕ) → x .state .asleep ≡ false → x .state .wel ≡ true → x .state .bp ≡ 0
         → 1 ≤ length sent → 4 + length sent ≤ 65541 → Roomy (frame (0x02 ∷ high ∷ middle ∷ low ∷ sent) out)
         → frameOf rec x (frame (0x02 ∷ high ∷ middle ∷ low ∷ sent) out)
         ≡ changed out (programPage rec (x .state) (x .cells) to (0x02 ∷ high ∷ middle ∷ low ∷ sent))
-    unfolding acceptedOf decodeOf traitsOf headFor lengthOk
+    unfolding acceptedOf decodeOf traitsOf headFor lengthOk tbOf
     program-taken sent a w p n l r =
         taken rec x b (frame (0x02 ∷ high ∷ middle ∷ low ∷ sent) out) (omega arith) (lit≤ tt) r
-        (tests (eqb·suc-zero (suc (suc (suc (length sent))))) (rw (eq-eqb (x .state .busy) 0 z)) (rw a) refl (ap not (between (traitsOf Program) (suc (suc (suc (suc (length sent))))) (omega arith) (omega arith))) (rw w) refl
-        (rw (p, unprotected (rec .model) (blockOf to))))
+        (tests (eqb·suc-zero (suc (suc (suc (length sent))))) (rw (eq-eqb (x .state .busy) 0 z)) (rw a) refl (ap not (between (traitsOf (modelOf (rec .model) .register) Program) (suc (suc (suc (suc (length sent))))) (omega arith) (omega arith))) (rw w) refl
+        (rw (p, unprotected (rec .model) (tbOf (x .state)) (blockOf to))))
 
     pub read-taken : (more : List ℕ) → x .state .asleep ≡ false → 4 + length more ≤ 65541 → Roomy (frame (0x03 ∷ high ∷ middle ∷ low ∷ more) out)
         → frameOf rec x (frame (0x03 ∷ high ∷ middle ∷ low ∷ more) out)
@@ -145,15 +150,26 @@ module _ (rec : Record) (x : Chip) (b : Bench rec x) (z : x .state .busy ≡ 0) 
     unfolding acceptedOf decodeOf traitsOf headFor lengthOk
     read-taken more a l r =
         taken rec x b (frame (0x03 ∷ high ∷ middle ∷ low ∷ more) out) (omega arith) (lit≤ tt) r
-        (tests (eqb·suc-zero (suc (suc (suc (length more))))) (rw (eq-eqb (x .state .busy) 0 z)) (rw a) refl (ap not (least-on (traitsOf Read) (suc (suc (suc (suc (length more))))) 0 (omega arith))) refl refl refl)
+        (tests (eqb·suc-zero (suc (suc (suc (length more))))) (rw (eq-eqb (x .state .busy) 0 z)) (rw a) refl (ap not (least-on (traitsOf (modelOf (rec .model) .register) Read) (suc (suc (suc (suc (length more))))) 0 (omega arith))) refl refl refl)
 
     -- the other operations, for a chip that waits too short a time after them
+    pub half-taken : modelOf (rec .model) .«half_erase» ≡ true → x .state .asleep ≡ false → x .state .wel ≡ true → x .state .bp ≡ 0 → 4 ≤ length out
+        → frameOf rec x (frame (0x52 ∷ high ∷ middle ∷ low ∷ []) out) ≡ changed out (eraseHalf rec (x .state) (x .cells) to)
+    unfolding acceptedOf traitsOf headFor lengthOk tbOf
+    half-taken m a w p r =
+        let sent : Sent = frame (0x52 ∷ high ∷ middle ∷ low ∷ []) out in
+        let k : decodeOf (rec .model) 0x52 ≡ EraseHalf = decodes-half (rec .model) (half-erase-model (rec .model) m) in
+        taken rec x b sent (lit≤ tt) (lit≤ tt) r
+        (subst (λ (c : Command). Clear (drop 5 (ladder rec (x .state) (headOf rec x sent) (traitsOf (modelOf (rec .model) .register) c)))) (sym k)
+        (tests refl (rw (eq-eqb (x .state .busy) 0 z)) (rw a) refl refl (rw w) refl (rw (p, unprotected (rec .model) (tbOf (x .state)) (blockOf to)))))
+        ∙ ap (λ (c : Command). acceptedOf rec x c to (sent .bytes) out) k
+
     pub block-taken : x .state .asleep ≡ false → x .state .wel ≡ true → x .state .bp ≡ 0 → 4 ≤ length out
         → frameOf rec x (frame (0xD8 ∷ high ∷ middle ∷ low ∷ []) out) ≡ changed out (eraseBlock rec (x .state) (x .cells) to)
-    unfolding acceptedOf decodeOf traitsOf headFor lengthOk
+    unfolding acceptedOf decodeOf traitsOf headFor lengthOk tbOf
     block-taken a w p r =
         taken rec x b (frame (0xD8 ∷ high ∷ middle ∷ low ∷ []) out) (lit≤ tt) (lit≤ tt) r
-        (tests refl (rw (eq-eqb (x .state .busy) 0 z)) (rw a) refl refl (rw w) refl (rw (p, unprotected (rec .model) (blockOf to))))
+        (tests refl (rw (eq-eqb (x .state .busy) 0 z)) (rw a) refl refl (rw w) refl (rw (p, unprotected (rec .model) (tbOf (x .state)) (blockOf to))))
 
   pub chip-taken : x .state .asleep ≡ false → x .state .wel ≡ true → x .state .bp ≡ 0 → 1 ≤ length out
       → frameOf rec x (frame (0xC7 ∷ []) out) ≡ changed out (eraseChip rec (x .state) (x .cells))

@@ -3,60 +3,59 @@ use mathlib.Core.Path.{_≡_, refl}
 use mathlib.Core.Bool.{Bool, true, false, _&&_, _||_, cond, or-true}
 use mathlib.Core.List.{List}
 use mathlib.Core.Logic.{⊎-elim, _⊎_, inl, inr}
-use Prim.Native.Nat.{ℕ, _≤_, _-_, _/_}
+use Prim.Native.Nat.{ℕ, _≤_, _+_, _-_, _/_}
 use native.Mathlib.Nat.{mod-lt}
 use native.Mathlib.Omega.{arith}
-use lib.Dec.{eqb, leb, ltb, lit<}
-use lib.ListN.{length}
-use borrow.Author.Tests.{leb-true, ltb-false}
-use Rattle.models.proofs.Table.{found}
-use Rattle.models.specs.Models.{Part, partOf, modelOf, models, kh25l512}
+use lib.Dec.{eqb, ltb}
+use lib.ListN.{length, getD}
+use borrow.Author.Tests.{ltb-false}
+use Rattle.models.specs.Models.{modelOf}
 use Rattle.states.specs.States.{recordOk, stateOk, longestOf, powerOn}
 use Rattle.states.specs.declared.Record.{Record}
 use Rattle.states.specs.declared.State.{State}
 use Rattle.answers.specs.declared.Answer.the-variants.{Done, BadState, BadRecord}
-use Rattle.states.proofs.States.{Sound}
+use Rattle.states.proofs.States.{Sound, config-0-ok, only-tb-ok}
+use Rattle.effects.proofs.Register.{config-after-ok}
 use Rattle.time.specs.declared.After.{After}
-use Rattle.effects.specs.Effects.{Effect, latched, dozing, working, written}
+use Rattle.effects.specs.Effects.{Effect, latched, dozing, working, written, configAfter}
 use Rattle.chip.specs.Frames.{Chip, Sent, frameOf}
 use Rattle.chip.proofs.Sorts.{Move, stays, latches, dozes, works, writes, moves, changes-only}
 use Rattle.time.specs.Time.{later, cycled, ifValid, waitOf, powerOf}
 use Rattle.calls.specs.Calls.{Call, sends, waits, cycles, ours, after}
-use Rattle.chip.proofs.Cases.{frame-cases, sort, shown-ready, shown-asked}
-
--- a status write gives a BP that every model has
-bpOfTwoBits : Part → Bool
-bpOfTwoBits p = leb 3 (p .row .«highest_bp»)
-
-two-bits : (n : ℕ) → 3 ≤ modelOf n .«highest_bp»
-unfolding partOf bpOfTwoBits
-two-bits n = leb-true 3 _ (found bpOfTwoBits n kh25l512 models refl refl)
+use Rattle.chip.proofs.Cases.{frame-cases, sort, shown-ready, shown-asked, refused-moves}
 
 module _ (rec : Record) (s : State) (p : Sound rec s) where
   -- the state of an idle chip may change its latch and fall asleep or wake
   latched-sound : (b : Bool) → s .busy ≡ 0 → Sound rec (latched s b)
   unfolding latched
-  latched-sound b z = record { level = p .level; time = p .time; mood = inl z }
+  latched-sound b z = record { level = p .level; register = p .register; time = p .time; mood = inl z }
 
   dozing-sound : (b : Bool) → s .busy ≡ 0 → Sound rec (dozing s b)
   unfolding dozing
-  dozing-sound b z = record { level = p .level; time = p .time; mood = inl z }
+  dozing-sound b z = record { level = p .level; register = p .register; time = p .time; mood = inl z }
 
   -- an operation starts: the latch is set, and the chip is awake
   working-sound : (t : ℕ) → t ≤ longestOf rec → s .wel ≡ true → s .asleep ≡ false → Sound rec (working s t)
   unfolding working
-  working-sound t l w d = record { level = p .level; time = l; mood = inr (w, d) }
+  working-sound t l w d = record { level = p .level; register = p .register; time = l; mood = inr (w, d) }
 
-  written-sound : (b t : ℕ) → t ≤ longestOf rec → s .wel ≡ true → s .asleep ≡ false → Sound rec (written s b t)
+  written-sound : (bytes : List ℕ) (t : ℕ) → t ≤ longestOf rec → s .wel ≡ true → s .asleep ≡ false
+      → Sound rec (written (rec .model) s (getD bytes 1 0) (configAfter (rec .model) s bytes) t)
   unfolding written
-  written-sound b t l w d =
-      record { level = omega (arith, mod-lt (b / 4) {m = 4} (lit< tt), two-bits (rec .model)); time = l; mood = inr (w, d) }
+  written-sound bytes t l w d =
+      record {
+        level = omega (arith, mod-lt (getD bytes 1 0 / 4) {m = modelOf (rec .model) .«highest_bp» + 1} (omega arith));
+        register = config-after-ok (rec .model) s bytes (p .register);
+        time = l;
+        mood = inr (w, d);
+      }
 
   pub later-sound : (us : ℕ) → Sound rec (later s us)
   unfolding later
   later-sound us =
       record {
         level = p .level;
+        register = p .register;
         time = omega (arith, p .time);
         mood = ⊎-elim (λ z. inl (omega arith)) (λ q. go (ltb us (s .busy)) refl q) (p .mood);
       }
@@ -68,7 +67,7 @@ module _ (rec : Record) (s : State) (p : Sound rec s) where
 
   cycled-sound : Sound rec (cycled s)
   unfolding cycled
-  cycled-sound = record { level = p .level; time = omega arith; mood = inl refl }
+  cycled-sound = record { level = p .level; register = only-tb-ok (modelOf (rec .model) .register) (s .config) (p .register); time = omega arith; mood = inl refl }
 
 -- however an accepted command moves the state
 moved-sound : (rec : Record) (s : State) (p : Sound rec s) {t : State} → Move rec s t → Sound rec t
@@ -76,14 +75,14 @@ moved-sound rec s p stays = p
 moved-sound rec s p (latches b z) = latched-sound rec s p b z
 moved-sound rec s p (dozes b z) = dozing-sound rec s p b z
 moved-sound rec s p (works t l w a) = working-sound rec s p t l w a
-moved-sound rec s p (writes b t l w a) = written-sound rec s p b t l w a
+moved-sound rec s p (writes bytes t l w a) = written-sound rec s p bytes t l w a
 
 -- a frame, whatever it is given
 module _ (rec : Record) (x : Chip) (f : Sent) where
   frame-sound : Sound rec (x .state) → Sound rec (frameOf rec x f .reply .state)
   frame-sound p =
       frame-cases rec x f (λ (e : Effect). Sound rec (e .reply .state))
-      (λ d. moved-sound rec (x .state) p (moves (sort rec x f) (shown-asked rec x f d))) (λ d. p)
+      (λ d. moved-sound rec (x .state) p (moves (sort rec x f) (shown-asked rec x f d))) (λ d. moved-sound rec (x .state) p (refused-moves rec x f))
 
   frame-length : length (frameOf rec x f .cells) ≡ length (x .cells)
   frame-length =
@@ -114,4 +113,4 @@ module _ (rec : Record) (seen : List Call) where
   call-length cycles x = refl
 
 pub power-on-sound : (rec : Record) → Sound rec powerOn
-power-on-sound rec = record { level = omega arith; time = omega arith; mood = inl refl }
+power-on-sound rec = record { level = omega arith; register = config-0-ok (modelOf (rec .model) .register); time = omega arith; mood = inl refl }

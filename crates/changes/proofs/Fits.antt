@@ -5,7 +5,7 @@ use Prim.Native.Nat.{ℕ, _+_, _≤_, _<_}
 use native.Mathlib.Omega.{arith}
 use lib.ListN.{length}
 use Rattle.units.specs.declared.Address.{Address}
-use Rattle.units.specs.Kinds.{sectorOf, blockOf, pageStart, sectorStart, blockStart}
+use Rattle.units.specs.Kinds.{sectorOf, halfBlockOf, blockOf, pageStart, sectorStart, halfBlockStart, blockStart}
 use Rattle.models.specs.Models.{modelOf}
 use Rattle.models.proofs.Rules.{row-rules, units-inside}
 use Rattle.states.specs.declared.Record.{Record}
@@ -19,6 +19,9 @@ module _ (rec : Record) (cells : List ℕ) (at : Address) (h : at .0 < length ce
 
   pub sector-fits : (sectorOf at .0 < 1048576) × (sectorStart (sectorOf at) + 4096 ≤ length cells)
   sector-fits = (omega (arith, row-rules (rec .model) .reach), omega (arith, units-inside (rec .model) at below .sector))
+
+  pub half-block-fits : (halfBlockOf at .0 < 131072) × (halfBlockStart (halfBlockOf at) + 32768 ≤ length cells)
+  half-block-fits = (omega (arith, row-rules (rec .model) .reach), omega (arith, units-inside (rec .model) at below .half-block))
 
   pub block-fits : (blockOf at .0 < 65536) × (blockStart (blockOf at) + 65536 ≤ length cells)
   block-fits = (omega (arith, row-rules (rec .model) .reach), omega (arith, units-inside (rec .model) at below .block))

@@ -3,7 +3,7 @@ ghost use mathlib.Core.Path.{_≡_};
 ghost use Prim.Native.Nat.{_≤_, _<_};
 ghost use lib.ListN.{length};
 ghost use Rattle.models.specs.Models.{modelOf};
-ghost use Rattle.effects.specs.Effects.{Changes, eraseSector, eraseBlock, eraseChip, programPage};
+ghost use Rattle.effects.specs.Effects.{Changes, eraseSector, eraseHalf, eraseBlock, eraseChip, programPage};
 use answers::Answer;
 use effects::Reply;
 use states::Record;
@@ -19,7 +19,16 @@ pub fn erase_sector(rec: Record, st: State, array: &mut [u8], at: Address) -> Re
     effects::quiet(Answer::Done, effects::work(st, rec.sector))
 }
 
-// 52 and D8
+// 52 of model 3
+pub fn erase_half(rec: Record, st: State, array: &mut [u8], at: Address) -> Reply
+    requires { ⌜ (at .0 < length (now array)) × (length (now array) ≡ modelOf (rec .model) .length) ⌝ }
+    ensures { λ r. ⌜ Changes (eraseHalf rec st (now (array .entry)) at) r (now (array .exit)) ⌝ }
+{
+    flash::erase_half_block(array, at.in_half_block());
+    effects::quiet(Answer::Done, effects::work(st, rec.half))
+}
+
+// D8, and 52 of models 1 and 2
 pub fn erase_block(rec: Record, st: State, array: &mut [u8], at: Address) -> Reply
     requires { ⌜ (at .0 < length (now array)) × (length (now array) ≡ modelOf (rec .model) .length) ⌝ }
     ensures { λ r. ⌜ Changes (eraseBlock rec st (now (array .entry)) at) r (now (array .exit)) ⌝ }

@@ -9,12 +9,12 @@ use Rattle.answers.specs.declared.Answer.{Answer}
 use Rattle.states.specs.declared.Record.{Record}
 use Rattle.ladder.specs.Ladder.{refusalOf}
 use Rattle.ladder.specs.declared.Head.{Head}
-use Rattle.ladder.proofs.Passed.{passed}
-use Rattle.effects.specs.Effects.{Effect}
+use Rattle.ladder.proofs.Passed.{passed, stopped}
+use Rattle.effects.specs.Effects.{Effect, refusalLeaves}
 use Rattle.chip.specs.Frames.{Chip, Sent, Ready, headOf, acceptedOf, refusedOf, frameOf}
 use Rattle.chip.specs.Units.{unitOf, drivenBytes}
 use Rattle.chip.proofs.Ready.{arrived}
-use Rattle.chip.proofs.Sorts.{Asked, Kind, kind, within}
+use Rattle.chip.proofs.Sorts.{Asked, Move, Kind, kind, leaves, within}
 
 module _ (rec : Record) (x : Chip) (f : Sent) where
   abbrev pub head : Head
@@ -26,11 +26,11 @@ module _ (rec : Record) (x : Chip) (f : Sent) where
   abbrev pub accepted : Effect
   accepted = acceptedOf rec x (head .command) (head .address) (f .bytes) (f .out)
 
-  pub frame-cases : (P : Effect → Type 0) → (isDone refusal ≡ true → P accepted) → (isDone refusal ≡ false → P (refusedOf refusal x f)) → P (frameOf rec x f)
+  pub frame-cases : (P : Effect → Type 0) → (isDone refusal ≡ true → P accepted) → (isDone refusal ≡ false → P (refusedOf rec refusal x f)) → P (frameOf rec x f)
   unfolding frameOf
   frame-cases P taken stopped = go (isDone refusal) refl
     where
-      go : (b : Bool) → isDone refusal ≡ b → P (cond b accepted (refusedOf refusal x f))
+      go : (b : Bool) → isDone refusal ≡ b → P (cond b accepted (refusedOf rec refusal x f))
       go true e = taken e
       go false e = stopped e
 
@@ -41,10 +41,14 @@ module _ (rec : Record) (x : Chip) (f : Sent) where
   pub shown-ready : isDone refusal ≡ true → Ready rec x (head .command) (head .address) (f .bytes) (f .out)
   shown-ready e = arrived rec x f (passed rec (x .state) head e)
 
-  pub shown-asked : isDone refusal ≡ true → Asked (x .state) (head .command)
+  pub shown-asked : isDone refusal ≡ true → Asked rec (x .state) (head .command)
   shown-asked e =
       let q = passed rec (x .state) head e in
       record { listens = q .listens; awake = q .awake; enabled = q .enabled }
+
+  -- how a refused frame moves the state
+  pub refused-moves : Move rec (x .state) (refusalLeaves (rec .model) refusal (x .state))
+  refused-moves = leaves rec (x .state) refusal (λ e. stopped rec (x .state) head e .idle)
 
   -- what is driven lies in the frame
   pub frame-within : frameOf rec x f .reply .from + frameOf rec x f .reply .count ≤ length (f .bytes)

@@ -7,9 +7,9 @@ use native.Mathlib.Nat.{mod-lt}
 use native.Mathlib.Omega.{arith}
 use lib.ListN.{length, getD}
 use Rattle.units.specs.declared.Address.{Address}
-use Rattle.models.specs.Models.{addressOf}
+use Rattle.models.specs.Models.{modelOf, addressOf}
 use Rattle.models.proofs.Rules.{row-rules, highest-bp}
-use Rattle.answers.specs.Answers.{isDone}
+use Rattle.answers.specs.Answers.{isDone, saysProtected}
 use Rattle.commands.specs.Commands.{traitsOf, fewest}
 use Rattle.commands.proofs.Rows.{long-enough}
 use Rattle.states.specs.declared.Record.{Record}
@@ -21,14 +21,16 @@ use Rattle.ladder.specs.Ladder.{refusalOf}
 use Rattle.ladder.specs.Stages.{givenOf, saidOf}
 use Rattle.ladder.proofs.Stages.{stops-given, goes-on}
 use Rattle.ladder.specs.declared.Head.{Head}
-use Rattle.ladder.proofs.Passed.{Passed, passed}
+use Rattle.ladder.proofs.Passed.{Passed, passed, given-spares}
 use Rattle.effects.specs.declared.Reply.{Reply}
-use Rattle.effects.specs.Effects.{Effect, Gives, Room, quiet}
+use Rattle.effects.specs.Effects.{Effect, Gives, Room, quiet, refusalLeaves}
+use Rattle.effects.proofs.Replies.{leaves-all}
 use Rattle.chip.specs.Frames.{Chip, Sent, Ready, headFor, headOf, acceptedOf, refusedOf, frameOf}
 
 -- an arm of the dispatch: what its command asks for and gives is what the command in hand does
-pub room-at : {c k : Command} {bytes out : List ℕ} → c ≡ k → Room (fewest (traitsOf c)) bytes out → Room (fewest (traitsOf k)) bytes out
-room-at {c} {k} {bytes} {out} e r = subst (λ (x : Command). Room (fewest (traitsOf x)) bytes out) e r
+pub room-for : {rec : Record} {x : Chip} {c k : Command} {at : Address} {bytes out : List ℕ} → Ready rec x c at bytes out → c ≡ k
+    → Room (fewest (traitsOf (modelOf (rec .model) .register) k)) bytes out
+room-for {rec} {x} {c} {k} {at} {bytes} {out} p e = subst (λ (d : Command). Room (fewest (traitsOf (modelOf (rec .model) .register) d)) bytes out) e (p .fits)
 
 module _ (rec : Record) (x : Chip) (at : Address) (bytes out : List ℕ) where
   pub at-command : {c k : Command} {r : Reply} {xs os : List ℕ} → c ≡ k
@@ -63,7 +65,7 @@ module _ (rec : Record) (x : Chip) (f : Sent) where
 
   -- what a frame comes to, by whether it is refused
   abbrev either-way : Bool → Effect
-  either-way b = cond b (acceptedOf rec x (H .command) (H .address) (f .bytes) (f .out)) (refusedOf (refusalOf rec (x .state) H) x f)
+  either-way b = cond b (acceptedOf rec x (H .command) (H .address) (f .bytes) (f .out)) (refusedOf rec (refusalOf rec (x .state) H) x f)
 
   pub accept : {h : Head} {a : Answer} {r : Reply} {xs os : List ℕ} → isDone (givenOf rec (x .state) H) ≡ true → h ≡ H
       → a ≡ saidOf rec (x .state) h → isDone a ≡ true
@@ -76,15 +78,16 @@ module _ (rec : Record) (x : Chip) (f : Sent) where
       (subst (λ (k : Head). Gives (acceptedOf rec x (k .command) (k .address) (f .bytes) (f .out)) r xs os) e q)
 
   -- a refusal, wherever it came from
-  refused : {a : Answer} {r : Reply} → a ≡ refusalOf rec (x .state) H → isDone a ≡ false → r ≡ quiet a (x .state) → Gives (frameOf rec x f) r (x .cells) (f .out)
+  refused : {a : Answer} {r : Reply} → a ≡ refusalOf rec (x .state) H → isDone a ≡ false → r ≡ quiet a (refusalLeaves (rec .model) a (x .state))
+      → Gives (frameOf rec x f) r (x .cells) (f .out)
   unfolding frameOf
   refused {a} {r} g d q =
       subst (λ (b : Bool). Gives (either-way b) r (x .cells) (f .out))
       (sym (sym (ap isDone g) ∙ d))
-      (record { reply = q ∙ ap (λ (k : Answer). quiet k (x .state)) g; cells = refl; out = refl })
+      (record { reply = q ∙ ap (λ (k : Answer). quiet k (refusalLeaves (rec .model) k (x .state))) g; cells = refl; out = refl })
 
   pub refuse : {h : Head} {a : Answer} {r : Reply} → isDone (givenOf rec (x .state) H) ≡ true → h ≡ H
-      → a ≡ saidOf rec (x .state) h → isDone a ≡ false → r ≡ quiet a (x .state)
+      → a ≡ saidOf rec (x .state) h → isDone a ≡ false → r ≡ quiet a (refusalLeaves (rec .model) a (x .state))
       → Gives (frameOf rec x f) r (x .cells) (f .out)
   refuse p e g d q = refused (said p e g) d q
 
@@ -111,4 +114,5 @@ module _ (rec : Record) (x : Chip) (f : Sent) where
   pub refuse-given : {a : Answer} {r : Reply} → a ≡ givenOf rec (x .state) unread → isDone a ≡ false → r ≡ quiet a (x .state) → Gives (frameOf rec x f) r (x .cells) (f .out)
   refuse-given e d q =
       let g = e ∙ as-given in
-      refused (g ∙ sym (stops-given rec (x .state) H (sym (ap isDone g) ∙ d))) d q
+      let n = ap saysProtected g ∙ given-spares rec (x .state) H in
+      refused (g ∙ sym (stops-given rec (x .state) H (sym (ap isDone g) ∙ d))) d (q ∙ ap (quiet _) (sym (leaves-all (rec .model) _ (x .state) n)))

@@ -9,27 +9,28 @@ use lib.Dec.{eqb, ltb}
 use lib.ListN.{length, getD, drop, replicate}
 use borrow.Author.Tests.{eqb-true, not-false, ltb-true, ltb-false}
 use Rattle.units.specs.declared.Address.{Address}
-use Rattle.units.specs.Kinds.{sectorOf, blockOf, pageStart}
+use Rattle.units.specs.Kinds.{sectorOf, halfBlockOf, blockOf, pageStart}
 use Rattle.models.specs.Models.{modelOf}
 use Rattle.units.proofs.Bools.{unless, only-if}
 use Rattle.parts.specs.Parts.{lay}
 use Rattle.rings.specs.Ring.{ring}
-use Rattle.flash.specs.Arrays.{sectorErased, blockErased, allErased, programmed}
+use Rattle.flash.specs.Arrays.{sectorErased, halfBlockErased, blockErased, allErased, programmed}
 use Rattle.flash.specs.Sheet.{ErasesOnly}
-use Rattle.flash.proofs.Arrays.{length-sectorErased, length-blockErased, length-allErased, length-programmed, sector-erase, block-erase, chip-erase, outside-stays}
-use Rattle.answers.specs.Answers.{isDone}
+use Rattle.flash.proofs.Arrays.{length-sectorErased, length-halfBlockErased, length-blockErased, length-allErased, length-programmed, sector-erase, half-block-erase, block-erase, chip-erase, outside-stays}
+use Rattle.answers.specs.Answers.{isDone, saysProtected}
 use Rattle.commands.specs.Commands.{traitsOf}
 use Rattle.states.specs.States.{statusOf, longestOf}
 use Rattle.states.specs.declared.Record.{Record}
 use Rattle.states.specs.declared.State.{State}
+use Rattle.answers.specs.declared.Answer.{Answer}
 use Rattle.answers.specs.declared.Answer.the-variants.{Done}
 use Rattle.commands.specs.declared.Command.{Command}
-use Rattle.commands.specs.declared.Command.the-variants.{WriteEnable, WriteDisable, ReadStatus, WriteStatus, Read, FastRead, EraseSector, EraseBlock, EraseChip, Program, ReadId, Wake, ReadMaker, Sleep, Unknown}
-use Rattle.states.proofs.States.{status-write-le, page-le, sector-le, block-le, chip-le}
-use Rattle.effects.specs.Effects.{Effect, stateOnly, quiet, drives, latched, dozing, working, written, writeEnable, writeDisable, writeStatus, sleep, idBytes, makerBytes, readStatus, readFrom, eraseSector, eraseBlock, eraseChip, programPage, readId, wake, readMaker}
+use Rattle.commands.specs.declared.Command.the-variants.{WriteEnable, WriteDisable, ReadStatus, ReadConfig, WriteStatus, Read, FastRead, EraseSector, EraseHalf, EraseBlock, EraseChip, Program, ReadId, Wake, ReadMaker, Sleep, Unknown}
+use Rattle.states.proofs.States.{status-write-le, page-le, sector-le, block-le, chip-le, half-le}
+use Rattle.effects.specs.Effects.{Effect, stateOnly, quiet, drives, latched, dozing, working, configAfter, written, refusalLeaves, writeEnable, writeDisable, writeStatus, sleep, idBytes, makerBytes, readStatus, readConfig, readFrom, eraseSector, eraseHalf, eraseBlock, eraseChip, programPage, readId, wake, readMaker}
 use Rattle.chip.specs.Frames.{Chip, acceptedOf}
 use Rattle.chip.specs.Units.{Extent, extent, unitOf, drivenBytes}
-use Rattle.changes.proofs.Fits.{page-fits, sector-fits, block-fits}
+use Rattle.changes.proofs.Fits.{page-fits, sector-fits, half-block-fits, block-fits}
 
 -- ---- how the state moves, and what a command that moves it so has been asked
 pub data Move (rec : Record) (s : State) : State → Type 0 where
@@ -37,13 +38,24 @@ pub data Move (rec : Record) (s : State) : State → Type 0 where
   latches : (b : Bool) → s .busy ≡ 0 → Move rec s (latched s b)
   dozes : (b : Bool) → s .busy ≡ 0 → Move rec s (dozing s b)
   works : (t : ℕ) → t ≤ longestOf rec → s .wel ≡ true → s .asleep ≡ false → Move rec s (working s t)
-  writes : (b t : ℕ) → t ≤ longestOf rec → s .wel ≡ true → s .asleep ≡ false → Move rec s (written s b t)
+  writes : (bytes : List ℕ) (t : ℕ) → t ≤ longestOf rec → s .wel ≡ true → s .asleep ≡ false
+      → Move rec s (written (rec .model) s (getD bytes 1 0) (configAfter (rec .model) s bytes) t)
 
 -- what the refusals 11, 12 and 15 have shown
-pub record Asked (s : State) (c : Command) : Type 0 where
-  pub listens : (not (eqb (s .busy) 0) && not (traitsOf c .«while_busy»)) ≡ false
-  pub awake : (s .asleep && not (traitsOf c .«while_asleep»)) ≡ false
-  pub enabled : (traitsOf c .latch && not (s .wel)) ≡ false
+pub record Asked (rec : Record) (s : State) (c : Command) : Type 0 where
+  pub listens : (not (eqb (s .busy) 0) && not (traitsOf (modelOf (rec .model) .register) c .«while_busy»)) ≡ false
+  pub awake : (s .asleep && not (traitsOf (modelOf (rec .model) .register) c .«while_asleep»)) ≡ false
+  pub enabled : (traitsOf (modelOf (rec .model) .register) c .latch && not (s .wel)) ≡ false
+
+-- a refusal leaves the state as it is, or clears the latch of an idle chip
+pub leaves : (rec : Record) (s : State) (a : Answer) → (saysProtected a ≡ true → s .busy ≡ 0) → Move rec s (refusalLeaves (rec .model) a s)
+unfolding refusalLeaves
+leaves rec s a i = go (modelOf (rec .model) .«latch_falls») (saysProtected a) i
+  where
+    go : (l p : Bool) → (p ≡ true → s .busy ≡ 0) → Move rec s (cond (l && p) (latched s false) s)
+    go true true i = latches false (i refl)
+    go true false i = stays
+    go false p i = stays
 
 -- ---- what changes of the array
 pub record Only (u : Extent) (xs ys : List ℕ) : Type 0 where
@@ -62,10 +74,10 @@ page-only cells at sent h =
 
 -- ---- the kinds: the state only; bytes driven from a position on; cells changed
 pub data Kind (rec : Record) (x : Chip) (c : Command) (at : Address) (bytes out : List ℕ) : Extent → ℕ → Effect → Type 0 where
-  turns : {u : Extent} (t : State) → (Asked (x .state) c → Move rec (x .state) t) → Kind rec x c at bytes out u 0 (stateOnly Done t (x .cells) out)
-  drove : {u : Extent} (t : State) (from : ℕ) (ys : List ℕ) → (Asked (x .state) c → Move rec (x .state) t)
+  turns : {u : Extent} (t : State) → (Asked rec (x .state) c → Move rec (x .state) t) → Kind rec x c at bytes out u 0 (stateOnly Done t (x .cells) out)
+  drove : {u : Extent} (t : State) (from : ℕ) (ys : List ℕ) → (Asked rec (x .state) c → Move rec (x .state) t)
       → Kind rec x c at bytes out u (length bytes - from) (record { reply = drives t from (length bytes); cells = x .cells; out = lay out from ys })
-  alters : {u : Extent} (t : State) (xs : List ℕ) → (Asked (x .state) c → Move rec (x .state) t)
+  alters : {u : Extent} (t : State) (xs : List ℕ) → (Asked rec (x .state) c → Move rec (x .state) t)
       → (at .0 < length (x .cells) → length (x .cells) ≡ modelOf (rec .model) .length → Only u (x .cells) xs)
       → Kind rec x c at bytes out u 0 (record { reply = quiet Done t; cells = xs; out = out })
 
@@ -82,17 +94,22 @@ module _ (rec : Record) (x : Chip) (at : Address) (bytes out : List ℕ) where
   cells = x .cells
 
   pub kind : (c : Command) → Kind rec x c at bytes out (unitOf c at (length cells)) (drivenBytes c (length bytes)) (acceptedOf rec x c at bytes out)
-  unfolding acceptedOf writeEnable writeDisable writeStatus sleep traitsOf unitOf drivenBytes readStatus readFrom eraseSector eraseBlock eraseChip programPage readId wake readMaker
+  unfolding acceptedOf writeEnable writeDisable writeStatus sleep traitsOf unitOf drivenBytes readStatus readConfig readFrom eraseSector eraseHalf eraseBlock eraseChip programPage readId wake readMaker
   kind WriteEnable = turns (latched s true) (λ q. latches true (idle (s .busy) (q .listens)))
   kind WriteDisable = turns (latched s false) (λ q. latches false (idle (s .busy) (q .listens)))
   kind ReadStatus = drove s 1 (replicate (length bytes - 1) (statusOf s)) (λ q. stays)
-  kind WriteStatus = turns (written s (getD bytes 1 0) (rec .«status_write»)) (λ q. writes (getD bytes 1 0) (rec .«status_write») (status-write-le rec) (unless true (s .wel) (q .enabled) refl) (only-if (s .asleep) false (q .awake) refl))
+  kind ReadConfig = drove s 1 (replicate (length bytes - 1) (s .config)) (λ q. stays)
+  kind WriteStatus = turns (written (rec .model) s (getD bytes 1 0) (configAfter (rec .model) s bytes) (rec .«status_write»)) (λ q. writes bytes (rec .«status_write») (status-write-le rec) (unless true (s .wel) (q .enabled) refl) (only-if (s .asleep) false (q .awake) refl))
   kind Read = drove s 4 (ring cells (at .0) (length bytes - 4)) (λ q. stays)
   kind FastRead = drove s 5 (ring cells (at .0) (length bytes - 5)) (λ q. stays)
   kind EraseSector =
       alters (working s (rec .sector)) (sectorErased cells (sectorOf at))
       (λ q. works (rec .sector) (sector-le rec) (unless true (s .wel) (q .enabled) refl) (only-if (s .asleep) false (q .awake) refl))
       (λ i w. let h = sector-fits rec cells at i w .1 in erased-only (length-sectorErased cells (sectorOf at) h) (sector-erase cells (sectorOf at) h))
+  kind EraseHalf =
+      alters (working s (rec .half)) (halfBlockErased cells (halfBlockOf at))
+      (λ q. works (rec .half) (half-le rec) (unless true (s .wel) (q .enabled) refl) (only-if (s .asleep) false (q .awake) refl))
+      (λ i w. let h = half-block-fits rec cells at i w .1 in erased-only (length-halfBlockErased cells (halfBlockOf at) h) (half-block-erase cells (halfBlockOf at) h))
   kind EraseBlock =
       alters (working s (rec .block)) (blockErased cells (blockOf at))
       (λ q. works (rec .block) (block-le rec) (unless true (s .wel) (q .enabled) refl) (only-if (s .asleep) false (q .awake) refl))
@@ -147,7 +164,7 @@ module _ {rec : Record} {x : Chip} {c : Command} {at : Address} {bytes out : Lis
   changes-only (drove t from ys m) i w = record { long = refl; rest = λ k o. refl }
   changes-only (alters t xs m o) i w = o i w
 
-  pub moves : {u : Extent} {n : ℕ} {e : Effect} → Kind rec x c at bytes out u n e → Asked (x .state) c → Move rec (x .state) (e .reply .state)
+  pub moves : {u : Extent} {n : ℕ} {e : Effect} → Kind rec x c at bytes out u n e → Asked rec (x .state) c → Move rec (x .state) (e .reply .state)
   unfolding drives
   moves (turns t m) q = m q
   moves (drove t from ys m) q = m q

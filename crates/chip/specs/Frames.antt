@@ -11,12 +11,12 @@ use Rattle.commands.specs.Commands.{decodeOf, traitsOf, fewest}
 use Rattle.states.specs.declared.Record.{Record}
 use Rattle.states.specs.declared.State.{State}
 use Rattle.commands.specs.declared.Command.{Command}
-use Rattle.commands.specs.declared.Command.the-variants.{WriteEnable, WriteDisable, ReadStatus, WriteStatus, Read, FastRead, EraseSector, EraseBlock, EraseChip, Program, ReadId, Wake, ReadMaker, Sleep, Unknown}
+use Rattle.commands.specs.declared.Command.the-variants.{WriteEnable, WriteDisable, ReadStatus, ReadConfig, WriteStatus, Read, FastRead, EraseSector, EraseHalf, EraseBlock, EraseChip, Program, ReadId, Wake, ReadMaker, Sleep, Unknown}
 use Rattle.answers.specs.declared.Answer.{Answer}
 use Rattle.answers.specs.declared.Answer.the-variants.{Done}
 use Rattle.ladder.specs.Ladder.{refusalOf}
 use Rattle.ladder.specs.declared.Head.{Head}
-use Rattle.effects.specs.Effects.{Effect, shown, changed, turned, stateOnly, writeEnable, writeDisable, writeStatus, sleep, readStatus, readFrom, eraseSector, eraseBlock, eraseChip, programPage, readId, wake, readMaker, Room}
+use Rattle.effects.specs.Effects.{Effect, shown, changed, turned, stateOnly, writeEnable, writeDisable, writeStatus, sleep, refusalLeaves, readStatus, readConfig, readFrom, eraseSector, eraseHalf, eraseBlock, eraseChip, programPage, readId, wake, readMaker, Room}
 
 -- what lies between two calls: the chip's state and its array
 pub record Chip : Type 0 where
@@ -45,7 +45,7 @@ headFor model cells bytes tail wp room =
       tail = tail;
       wp = wp;
       room = room;
-      command = decodeOf (getD bytes 0 0);
+      command = decodeOf model (getD bytes 0 0);
       address = addressOf model (getD bytes 1 0) (getD bytes 2 0) (getD bytes 3 0);
     }
 
@@ -57,10 +57,12 @@ unfoldable pub acceptedOf : Record → Chip → Command → Address → List ℕ
 acceptedOf rec x WriteEnable at bytes out = turned (x .cells) out (writeEnable (x .state))
 acceptedOf rec x WriteDisable at bytes out = turned (x .cells) out (writeDisable (x .state))
 acceptedOf rec x ReadStatus at bytes out = shown (x .cells) (readStatus (x .state) bytes out)
+acceptedOf rec x ReadConfig at bytes out = shown (x .cells) (readConfig (x .state) bytes out)
 acceptedOf rec x WriteStatus at bytes out = turned (x .cells) out (writeStatus rec (x .state) bytes)
 acceptedOf rec x Read at bytes out = shown (x .cells) (readFrom 4 (x .state) (x .cells) at bytes out)
 acceptedOf rec x FastRead at bytes out = shown (x .cells) (readFrom 5 (x .state) (x .cells) at bytes out)
 acceptedOf rec x EraseSector at bytes out = changed out (eraseSector rec (x .state) (x .cells) at)
+acceptedOf rec x EraseHalf at bytes out = changed out (eraseHalf rec (x .state) (x .cells) at)
 acceptedOf rec x EraseBlock at bytes out = changed out (eraseBlock rec (x .state) (x .cells) at)
 acceptedOf rec x EraseChip at bytes out = changed out (eraseChip rec (x .state) (x .cells))
 acceptedOf rec x Program at bytes out = changed out (programPage rec (x .state) (x .cells) at bytes)
@@ -70,20 +72,20 @@ acceptedOf rec x ReadMaker at bytes out = shown (x .cells) (readMaker rec (x .st
 acceptedOf rec x Sleep at bytes out = turned (x .cells) out (sleep (x .state))
 acceptedOf rec x Unknown at bytes out = stateOnly Done (x .state) (x .cells) out
 
--- a refusal returns the state given, drives nothing and changes nothing, WEL included
-abbrev pub refusedOf : Answer → Chip → Sent → Effect
-refusedOf a x f = stateOnly a (x .state) (x .cells) (f .out)
+-- a refusal drives nothing and changes no cell; what it leaves of the state is one definition by model and answer
+abbrev pub refusedOf : Record → Answer → Chip → Sent → Effect
+refusedOf rec a x f = stateOnly a (refusalLeaves (rec .model) a (x .state)) (x .cells) (f .out)
 
 -- any frame
 unfoldable pub frameOf : Record → Chip → Sent → Effect
 frameOf rec x f =
     let h : Head = headOf rec x f in
     let a : Answer = refusalOf rec (x .state) h in
-    cond (isDone a) (acceptedOf rec x (h .command) (h .address) (f .bytes) (f .out)) (refusedOf a x f)
+    cond (isDone a) (acceptedOf rec x (h .command) (h .address) (f .bytes) (f .out)) (refusedOf rec a x f)
 
 -- what the refusals have shown of an accepted frame, for the code below them
 pub record Ready (rec : Record) (x : Chip) (c : Command) (at : Address) (bytes out : List ℕ) : Type 0 where
   pub level : x .state .bp ≤ 15
   pub whole : length (x .cells) ≡ modelOf (rec .model) .length
   pub inside : at .0 < length (x .cells)
-  pub fits : Room (fewest (traitsOf c)) bytes out
+  pub fits : Room (fewest (traitsOf (modelOf (rec .model) .register) c)) bytes out

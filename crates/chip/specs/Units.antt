@@ -1,9 +1,9 @@
 -- What a command can change and how much it drives: the cells of its unit, and a number of bytes. Assumes nothing.
 use Prim.Native.Nat.{ℕ, _-_}
 use Rattle.units.specs.declared.Address.{Address}
-use Rattle.units.specs.Kinds.{sectorOf, blockOf, pageStart, sectorStart, blockStart}
+use Rattle.units.specs.Kinds.{sectorOf, halfBlockOf, blockOf, pageStart, sectorStart, halfBlockStart, blockStart}
 use Rattle.commands.specs.declared.Command.{Command}
-use Rattle.commands.specs.declared.Command.the-variants.{WriteEnable, WriteDisable, ReadStatus, WriteStatus, Read, FastRead, EraseSector, EraseBlock, EraseChip, Program, ReadId, Wake, ReadMaker, Sleep, Unknown}
+use Rattle.commands.specs.declared.Command.the-variants.{WriteEnable, WriteDisable, ReadStatus, ReadConfig, WriteStatus, Read, FastRead, EraseSector, EraseHalf, EraseBlock, EraseChip, Program, ReadId, Wake, ReadMaker, Sleep, Unknown}
 
 -- the cells that a command can change: where they start, and how many there are
 pub record Extent : Type 0 where
@@ -17,10 +17,12 @@ unfoldable pub unitOf : Command → Address → ℕ → Extent
 unitOf WriteEnable at n = extent 0 0
 unitOf WriteDisable at n = extent 0 0
 unitOf ReadStatus at n = extent 0 0
+unitOf ReadConfig at n = extent 0 0
 unitOf WriteStatus at n = extent 0 0
 unitOf Read at n = extent 0 0
 unitOf FastRead at n = extent 0 0
 unitOf EraseSector at n = extent (sectorStart (sectorOf at)) 4096
+unitOf EraseHalf at n = extent (halfBlockStart (halfBlockOf at)) 32768
 unitOf EraseBlock at n = extent (blockStart (blockOf at)) 65536
 unitOf EraseChip at n = extent 0 n
 unitOf Program at n = extent (pageStart at) 256
@@ -35,10 +37,12 @@ unfoldable pub drivenBytes : Command → ℕ → ℕ
 drivenBytes WriteEnable n = 0
 drivenBytes WriteDisable n = 0
 drivenBytes ReadStatus n = n - 1
+drivenBytes ReadConfig n = n - 1
 drivenBytes WriteStatus n = 0
 drivenBytes Read n = n - 4
 drivenBytes FastRead n = n - 5
 drivenBytes EraseSector n = 0
+drivenBytes EraseHalf n = 0
 drivenBytes EraseBlock n = 0
 drivenBytes EraseChip n = 0
 drivenBytes Program n = 0

@@ -23,7 +23,7 @@ fn head(model: u32, cells: usize, bytes: &[u8], tail: u32, wp: bool, room: usize
         parts::byte_at(bytes, 2),
         parts::byte_at(bytes, 3),
     );
-    let command = commands::decode(parts::byte_at(bytes, 0));
+    let command = commands::decode(model, parts::byte_at(bytes, 0));
     Head {
         cells,
         count: bytes.len(),
@@ -52,10 +52,12 @@ fn accepted(
         Command::WriteEnable => effects::write_enable(st),
         Command::WriteDisable => effects::write_disable(st),
         Command::ReadStatus => shows::read_status(st, bytes, out),
+        Command::ReadConfig => shows::read_config(st, bytes, out),
         Command::WriteStatus => effects::write_status(rec, st, bytes),
         Command::Read => shows::read_from(4, st, array, at, bytes, out),
         Command::FastRead => shows::read_from(5, st, array, at, bytes, out),
         Command::EraseSector => changes::erase_sector(rec, st, array, at),
+        Command::EraseHalf => changes::erase_half(rec, st, array, at),
         Command::EraseBlock => changes::erase_block(rec, st, array, at),
         Command::EraseChip => changes::erase_chip(rec, st, array),
         Command::Program => changes::program_page(rec, st, array, at, bytes),
@@ -87,7 +89,7 @@ fn spoken(
         let at = h.address;
         accepted(rec, st, c, array, at, bytes, out)
     } else {
-        effects::quiet(answer, st)
+        effects::refuse(rec.model, answer, st)
     }
 }
 

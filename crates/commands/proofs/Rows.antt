@@ -3,11 +3,11 @@ use mathlib.Core.Path.{_≡_, refl}
 use mathlib.Core.Bool.{Bool, true, false, not, _&&_, _||_, and-eq-true-iff, or-true, false≢true}
 use Prim.Native.Nat.{ℕ, _≤_, _<_}
 use native.Mathlib.Omega.{arith}
-use lib.Dec.{eqb, leb}
+use lib.Dec.{eqb, leb, lit≤}
 use borrow.Author.Tests.{leb-true, leb-false, le-leb, lt-leb, not-true}
 use Rattle.commands.specs.declared.Traits.{Traits}
 use Rattle.commands.specs.declared.Command.{Command}
-use Rattle.commands.specs.declared.Command.the-variants.{WriteEnable, WriteDisable, ReadStatus, WriteStatus, Read, FastRead, EraseSector, EraseBlock, EraseChip, Program, ReadId, Wake, ReadMaker, Sleep, Unknown}
+use Rattle.commands.specs.declared.Command.the-variants.{WriteEnable, WriteDisable, ReadStatus, ReadConfig, WriteStatus, Read, FastRead, EraseSector, EraseHalf, EraseBlock, EraseChip, Program, ReadId, Wake, ReadMaker, Sleep, Unknown}
 use Rattle.commands.specs.Commands.{traitsOf, lengthOk, fewest}
 
 -- ---- which lengths are allowed
@@ -30,31 +30,43 @@ module _ (k : Traits) (n : ℕ) where
           let s : n < fewest k = leb-false (fewest k) n t in
           absurd (false≢true (rw (lt-leb (k .low) n (omega arith), lt-leb (k .least) n (omega arith)) at e))
 
--- ---- the rows: a frame of the fewest bytes is allowed, and the last three refusals ask nothing of a command that needs no WEL
+-- ---- the rows: a frame of the fewest bytes is allowed; the last three refusals ask nothing of a command that needs no WEL; one that needs it is
+-- not taken while busy
 rowTest : Traits → Bool
-rowTest k = lengthOk k (fewest k) 0 && (k .latch || (not (k .lock) && (not (k .unit) && not (k .whole))))
+rowTest k =
+    lengthOk k (fewest k) 0
+    && ((k .latch || (not (k .lock) && (not (k .unit) && not (k .whole)))) && not (k .latch && k .«while_busy»))
 
-row-test : (c : Command) → rowTest (traitsOf c) ≡ true
+row-test : (r : Bool) (c : Command) → rowTest (traitsOf r c) ≡ true
 unfolding traitsOf lengthOk rowTest
-row-test WriteEnable = refl
-row-test WriteDisable = refl
-row-test ReadStatus = refl
-row-test WriteStatus = refl
-row-test Read = refl
-row-test FastRead = refl
-row-test EraseSector = refl
-row-test EraseBlock = refl
-row-test EraseChip = refl
-row-test Program = refl
-row-test ReadId = refl
-row-test Wake = refl
-row-test ReadMaker = refl
-row-test Sleep = refl
-row-test Unknown = refl
+row-test r WriteEnable = refl
+row-test r WriteDisable = refl
+row-test r ReadStatus = refl
+row-test r ReadConfig = refl
+row-test true WriteStatus = refl
+row-test false WriteStatus = refl
+row-test r Read = refl
+row-test r FastRead = refl
+row-test r EraseSector = refl
+row-test r EraseHalf = refl
+row-test r EraseBlock = refl
+row-test r EraseChip = refl
+row-test r Program = refl
+row-test r ReadId = refl
+row-test r Wake = refl
+row-test r ReadMaker = refl
+row-test r Sleep = refl
+row-test r Unknown = refl
 
-pub fewest-allowed : (c : Command) → lengthOk (traitsOf c) (fewest (traitsOf c)) 0 ≡ true
+pub fewest-allowed : (r : Bool) (c : Command) → lengthOk (traitsOf r c) (fewest (traitsOf r c)) 0 ≡ true
 unfolding rowTest
-fewest-allowed c = and-eq-true-iff _ _ .0 (row-test c) .0
+fewest-allowed r c = and-eq-true-iff _ _ .0 (row-test r c) .0
+
+-- a status write of one data byte is allowed on every model
+pub one-byte-write : (r : Bool) → 2 ≤ traitsOf r WriteStatus .high
+unfolding traitsOf
+one-byte-write true = lit≤ tt
+one-byte-write false = lit≤ tt
 
 pub record Harmless (k : Traits) : Type 0 where
   pub latch : k .latch ≡ false
@@ -62,11 +74,18 @@ pub record Harmless (k : Traits) : Type 0 where
   pub unit : k .unit ≡ false
   pub whole : k .whole ≡ false
 
-pub no-latch : (c : Command) → traitsOf c .latch ≡ false → Harmless (traitsOf c)
+pub no-latch : (r : Bool) (c : Command) → traitsOf r c .latch ≡ false → Harmless (traitsOf r c)
 unfolding rowTest
-no-latch c e =
-    let k : Traits = traitsOf c in
-    let t : (k .latch || (not (k .lock) && (not (k .unit) && not (k .whole)))) ≡ true = and-eq-true-iff (lengthOk k (fewest k) 0) _ .0 (row-test c) .1 in
+no-latch r c e =
+    let k : Traits = traitsOf r c in
+    let t : (k .latch || (not (k .lock) && (not (k .unit) && not (k .whole)))) ≡ true = and-eq-true-iff _ _ .0 (and-eq-true-iff (lengthOk k (fewest k) 0) _ .0 (row-test r c) .1) .0 in
     let a = and-eq-true-iff (not (k .lock)) _ .0 (rw e at t) in
     let b = and-eq-true-iff (not (k .unit)) (not (k .whole)) .0 (a .1) in
     record { latch = e; lock = not-true _ (a .0); unit = not-true _ (b .0); whole = not-true _ (b .1) }
+
+pub latch-waits : (r : Bool) (c : Command) → traitsOf r c .latch ≡ true → traitsOf r c .«while_busy» ≡ false
+unfolding rowTest
+latch-waits r c e =
+    let k : Traits = traitsOf r c in
+    let t : not (k .latch && k .«while_busy») ≡ true = and-eq-true-iff (k .latch || (not (k .lock) && (not (k .unit) && not (k .whole)))) _ .0 (and-eq-true-iff (lengthOk k (fewest k) 0) _ .0 (row-test r c) .1) .1 in
+    rw e at (not-true (k .latch && k .«while_busy») t)

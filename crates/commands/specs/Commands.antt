@@ -1,11 +1,11 @@
--- The commands: 01, "Commands" (000 L158-187, 002 L304-340). Assumes nothing.
+-- The commands: 01, "Commands" (000 L158-187, 002 L304-340, 003 L497-540). Assumes nothing.
 use mathlib.Core.Bool.{Bool, true, false, _&&_, _||_, cond}
-use mathlib.Core.List.{List, [], _∷_}
+use mathlib.Core.List.{List, [], _∷_, _++_}
 use Prim.Native.Nat.{ℕ, min}
 use lib.Dec.{eqb, leb}
 use Rattle.commands.specs.declared.Traits.{Traits}
 use Rattle.commands.specs.declared.Command.{Command}
-use Rattle.commands.specs.declared.Command.the-variants.{WriteEnable, WriteDisable, ReadStatus, WriteStatus, Read, FastRead, EraseSector, EraseBlock, EraseChip, Program, ReadId, Wake, ReadMaker, Sleep, Unknown}
+use Rattle.commands.specs.declared.Command.the-variants.{WriteEnable, WriteDisable, ReadStatus, ReadConfig, WriteStatus, Read, FastRead, EraseSector, EraseHalf, EraseBlock, EraseChip, Program, ReadId, Wake, ReadMaker, Sleep, Unknown}
 
 -- the command bytes
 pub record Byte : Type 0 where
@@ -16,8 +16,9 @@ infix 20 _is_
 abbrev pub _is_ : ℕ → Command → Byte
 b is c = record { byte = b; means = c }
 
-abbrev pub commands : List Byte
-commands =
+-- the bytes that mean the same on every model
+abbrev pub common : List Byte
+common =
     (0x06 is WriteEnable)
     ∷ (0x04 is WriteDisable)
     ∷ (0x05 is ReadStatus)
@@ -25,7 +26,6 @@ commands =
     ∷ (0x03 is Read)
     ∷ (0x0B is FastRead)
     ∷ (0x20 is EraseSector)
-    ∷ (0x52 is EraseBlock)
     ∷ (0xD8 is EraseBlock)
     ∷ (0x60 is EraseChip)
     ∷ (0xC7 is EraseChip)
@@ -36,12 +36,17 @@ commands =
     ∷ (0xB9 is Sleep)
     ∷ []
 
+-- and those that do not: 52 erases 32 KiB on model 3 (003 L1233) and 64 KiB on models 1 and 2 (000 L327); 15 only model 3 has (003 L505)
+abbrev pub own : ℕ → List Byte
+own n = cond (eqb n 3) ((0x52 is EraseHalf) ∷ (0x15 is ReadConfig) ∷ []) ((0x52 is EraseBlock) ∷ [])
+
 abbrev pub lookUp : ℕ → List Byte → Command
 lookUp b [] = Unknown
 lookUp b (r ∷ rs) = cond (eqb b (r .byte)) (r .means) (lookUp b rs)
 
-unfoldable pub decodeOf : ℕ → Command
-decodeOf b = lookUp b commands
+-- what a byte means on the model of a number
+unfoldable pub decodeOf : ℕ → ℕ → Command
+decodeOf n b = lookUp b (common ++ own n)
 
 abbrev pub ■ : Bool
 ■ = true
@@ -61,7 +66,16 @@ abbrev pub row : Bool → Bool → Bool → Bool → Bool → Bool → ℕ → �
 row busy asleep latch lock unit whole low high least =
     record { known = true; «while_busy» = busy; «while_asleep» = asleep; latch = latch; lock = lock; unit = unit; whole = whole; low = low; high = high; least = least }
 
-unfoldable pub traitsOf : Command → Traits
+abbrev pub unknown : Traits
+unknown =
+    record { known = false; «while_busy» = □; «while_asleep» = □; latch = □; lock = □; unit = □; whole = □; low = 0; high = 0; least = 0 }
+
+-- with the configuration register a status write may have a second data byte (003 L510, L899)
+abbrev pub mostWritten : Bool → ℕ
+mostWritten register = cond register 3 2
+
+-- the table, of a model that has the configuration register and of one that has not
+unfoldable pub traitsOf : Bool → Command → Traits
 --      taken while busy
 --      | taken while asleep
 --      | | needs WEL
@@ -69,36 +83,39 @@ unfoldable pub traitsOf : Command → Traits
 --      | | | | changes the addressed unit
 --      | | | | | changes the whole chip
 --      | | | | | | bytes without tail: low to high; bytes with any tail: least and more
-traitsOf WriteEnable =  -- 06
+traitsOf r WriteEnable =  -- 06
     row □ □ □ □ □ □ 1 1 never
-traitsOf WriteDisable =  -- 04
+traitsOf r WriteDisable =  -- 04
     row □ □ □ □ □ □ 1 1 never
-traitsOf ReadStatus =  -- 05
+traitsOf r ReadStatus =  -- 05
     row ■ □ □ □ □ □ 1 1 1
-traitsOf WriteStatus =  -- 01
-    row □ □ ■ ■ □ □ 2 2 never
-traitsOf Read =  -- 03
+traitsOf r ReadConfig =  -- 15
+    row ■ □ □ □ □ □ 1 1 1
+traitsOf r WriteStatus =  -- 01
+    row □ □ ■ ■ □ □ 2 (mostWritten r) never
+traitsOf r Read =  -- 03
     row □ □ □ □ □ □ 4 4 4
-traitsOf FastRead =  -- 0B
+traitsOf r FastRead =  -- 0B
     row □ □ □ □ □ □ 5 5 5
-traitsOf EraseSector =  -- 20
+traitsOf r EraseSector =  -- 20
     row □ □ ■ □ ■ □ 4 4 never
-traitsOf EraseBlock =  -- 52, D8
+traitsOf r EraseHalf =  -- 52 of model 3
     row □ □ ■ □ ■ □ 4 4 never
-traitsOf EraseChip =  -- 60, C7
+traitsOf r EraseBlock =  -- D8, and 52 of models 1 and 2
+    row □ □ ■ □ ■ □ 4 4 never
+traitsOf r EraseChip =  -- 60, C7
     row □ □ ■ □ □ ■ 1 1 never
-traitsOf Program =  -- 02
+traitsOf r Program =  -- 02
     row □ □ ■ □ ■ □ 5 most never
-traitsOf ReadId =  -- 9F
+traitsOf r ReadId =  -- 9F
     row □ □ □ □ □ □ 1 1 1
-traitsOf Wake =  -- AB
+traitsOf r Wake =  -- AB
     row □ ■ □ □ □ □ 1 1 5
-traitsOf ReadMaker =  -- 90
+traitsOf r ReadMaker =  -- 90
     row □ □ □ □ □ □ 4 4 4
-traitsOf Sleep =  -- B9
+traitsOf r Sleep =  -- B9
     row □ □ □ □ □ □ 1 1 never
-traitsOf Unknown =
-    record { known = false; «while_busy» = □; «while_asleep» = □; latch = □; lock = □; unit = □; whole = □; low = 0; high = 0; least = 0 }
+traitsOf r Unknown = unknown
 
 -- whole bytes and tail bits that the command may have
 unfoldable pub lengthOk : Traits → ℕ → ℕ → Bool

@@ -1,15 +1,17 @@
 // The commands: what a byte means, and what the refusals ask of each command.
 ghost use mathlib.Core.Path.{_≡_};
-ghost use Rattle.commands.specs.Commands.{decodeOf, row as Commands·row, traitsOf, lengthOk};
+ghost use Rattle.commands.specs.Commands.{lookUp, own as Commands·own, decodeOf, row as Commands·row, unknown as Commands·unknown, mostWritten, traitsOf, lengthOk};
 
 pub enum Command {
     WriteEnable,
     WriteDisable,
     ReadStatus,
+    ReadConfig,
     WriteStatus,
     Read,
     FastRead,
     EraseSector,
+    EraseHalf,
     EraseBlock,
     EraseChip,
     Program,
@@ -20,9 +22,26 @@ pub enum Command {
     Unknown,
 }
 
-// The command of a frame's first byte.
-pub fn decode(byte: u8) -> Command
-    ensures { λ r. ⌜ r ≡ decodeOf byte ⌝ }
+// The bytes that do not mean the same on every model.
+fn own(model: u32, byte: u8) -> Command
+    ensures { λ r. ⌜ r ≡ lookUp byte (Commands·own model) ⌝ }
+{
+    if model == 3 {
+        return match byte {
+            0x52 => Command::EraseHalf,
+            0x15 => Command::ReadConfig,
+            _ => Command::Unknown,
+        };
+    }
+    match byte {
+        0x52 => Command::EraseBlock,
+        _ => Command::Unknown,
+    }
+}
+
+// The command of a frame's first byte on the model of that number.
+pub fn decode(model: u32, byte: u8) -> Command
+    ensures { λ r. ⌜ r ≡ decodeOf model byte ⌝ }
 {
     match byte {
         0x06 => Command::WriteEnable,
@@ -32,7 +51,6 @@ pub fn decode(byte: u8) -> Command
         0x03 => Command::Read,
         0x0B => Command::FastRead,
         0x20 => Command::EraseSector,
-        0x52 => Command::EraseBlock,
         0xD8 => Command::EraseBlock,
         0x60 => Command::EraseChip,
         0xC7 => Command::EraseChip,
@@ -41,7 +59,7 @@ pub fn decode(byte: u8) -> Command
         0xAB => Command::Wake,
         0x90 => Command::ReadMaker,
         0xB9 => Command::Sleep,
-        _ => Command::Unknown,
+        _ => own(model, byte),
     }
 }
 
@@ -98,7 +116,7 @@ fn row(
 }
 
 fn unknown() -> Traits
-    ensures { λ r. ⌜ r ≡ traitsOf Command.Unknown ⌝ }
+    ensures { λ r. ⌜ r ≡ Commands·unknown ⌝ }
 {
     Traits {
         known: false,
@@ -114,9 +132,16 @@ fn unknown() -> Traits
     }
 }
 
-// The command's row of the table.
-pub fn traits_of(c: Command) -> Traits
-    ensures { λ r. ⌜ r ≡ traitsOf c ⌝ }
+// The longest status write.
+fn most_written(register: bool) -> usize
+    ensures { λ r. ⌜ r ≡ mostWritten register ⌝ }
+{
+    if register { 3 } else { 2 }
+}
+
+// The command's row of the table. A model with the configuration register takes one data byte more in a status write.
+pub fn traits_of(register: bool, c: Command) -> Traits
+    ensures { λ r. ⌜ r ≡ traitsOf register c ⌝ }
 {
     match c {
         //      busy  latch unit  low, high, least
@@ -127,15 +152,19 @@ pub fn traits_of(c: Command) -> Traits
             row(N, N, N, N, N, N, 1, 1, NEVER),
         Command::ReadStatus => // 05
             row(Y, N, N, N, N, N, 1, 1, 1),
+        Command::ReadConfig => // 15
+            row(Y, N, N, N, N, N, 1, 1, 1),
         Command::WriteStatus => // 01
-            row(N, N, Y, Y, N, N, 2, 2, NEVER),
+            row(N, N, Y, Y, N, N, 2, most_written(register), NEVER),
         Command::Read => // 03
             row(N, N, N, N, N, N, 4, 4, 4),
         Command::FastRead => // 0B
             row(N, N, N, N, N, N, 5, 5, 5),
         Command::EraseSector => // 20
             row(N, N, Y, N, Y, N, 4, 4, NEVER),
-        Command::EraseBlock => // 52, D8
+        Command::EraseHalf => // 52 of model 3
+            row(N, N, Y, N, Y, N, 4, 4, NEVER),
+        Command::EraseBlock => // D8, and 52 of models 1 and 2
             row(N, N, Y, N, Y, N, 4, 4, NEVER),
         Command::EraseChip => // 60, C7
             row(N, N, Y, N, N, Y, 1, 1, NEVER),

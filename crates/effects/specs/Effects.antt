@@ -1,20 +1,21 @@
 -- What each command does once it is accepted, one definition a command in the order of 01's list. Assumes nothing.
-use mathlib.Core.Bool.{Bool, true, false, cond}
+use mathlib.Core.Bool.{Bool, true, false, _&&_, _||_, cond}
 use mathlib.Core.List.{List, [], _∷_}
 use mathlib.Core.Path.{_≡_}
-use Prim.Native.Nat.{ℕ, _-_, _/_, _%_, _≤_}
+use Prim.Native.Nat.{ℕ, _+_, _-_, _*_, _/_, _%_, _≤_}
 use lib.Dec.{eqb, ltb, leb}
 use lib.ListN.{length, getD, drop, replicate}
 use Rattle.units.specs.declared.Address.{Address}
 use Rattle.models.specs.declared.Model.{Model}
-use Rattle.units.specs.Kinds.{sectorOf, blockOf}
+use Rattle.units.specs.Kinds.{sectorOf, halfBlockOf, blockOf}
 use Rattle.models.specs.Models.{modelOf}
 use Rattle.parts.specs.Parts.{lay}
 use Rattle.rings.specs.Ring.{ring}
-use Rattle.flash.specs.Arrays.{sectorErased, blockErased, allErased, programmed}
-use Rattle.states.specs.States.{statusOf}
+use Rattle.flash.specs.Arrays.{sectorErased, halfBlockErased, blockErased, allErased, programmed}
+use Rattle.states.specs.States.{flag, statusOf}
 use Rattle.states.specs.declared.Record.{Record}
 use Rattle.states.specs.declared.State.{State}
+use Rattle.answers.specs.Answers.{saysProtected}
 use Rattle.answers.specs.declared.Answer.{Answer}
 use Rattle.answers.specs.declared.Answer.the-variants.{Done}
 use Rattle.effects.specs.declared.Reply.{Reply}
@@ -66,18 +67,32 @@ drives s from n = record { answer = Done; from = cond (ltb from n) from 0; count
 
 -- ---- states
 unfoldable pub latched : State → Bool → State
-latched s on = record { srwd = s .srwd; bp = s .bp; wel = on; asleep = s .asleep; busy = s .busy }
+latched s on = record { srwd = s .srwd; bp = s .bp; config = s .config; wel = on; asleep = s .asleep; busy = s .busy }
 
 unfoldable pub dozing : State → Bool → State
-dozing s on = record { srwd = s .srwd; bp = s .bp; wel = s .wel; asleep = on; busy = s .busy }
+dozing s on = record { srwd = s .srwd; bp = s .bp; config = s .config; wel = s .wel; asleep = on; busy = s .busy }
 
 -- an operation runs: WEL stays set until its time has run out (000 L110-117)
 unfoldable pub working : State → ℕ → State
-working s time = record { srwd = s .srwd; bp = s .bp; wel = s .wel; asleep = s .asleep; busy = time }
+working s time = record { srwd = s .srwd; bp = s .bp; config = s .config; wel = s .wel; asleep = s .asleep; busy = time }
 
--- SRWD, BP1 and BP0 from bits 7, 3 and 2; the rest is ignored (000 L264-268, 004 M289)
-unfoldable pub written : State → ℕ → ℕ → State
-written s b time = record { srwd = leb 128 b; bp = b / 4 % 4; wel = s .wel; asleep = s .asleep; busy = time }
+-- a second data byte: bits 7, 6, 4, 1 and 0 are replaced, TB (bit 3) can only become 1, bits 5 and 2 are reserved and 0 (003 L840-843, L828-864)
+unfoldable pub configWritten : ℕ → ℕ → ℕ
+configWritten old b =
+    b / 64 * 64 + (flag (eqb (b / 16 % 2) 1) 16 + (flag (eqb (old / 8 % 2) 1 || eqb (b / 8 % 2) 1) 8 + b % 4))
+
+-- without a second data byte the register stays (003 L899, silent), as where there is none
+unfoldable pub configAfter : ℕ → State → List ℕ → ℕ
+configAfter n s bytes = cond (modelOf n .register && leb 3 (length bytes)) (configWritten (s .config) (getD bytes 2 0)) (s .config)
+
+-- SRWD from bit 7, BP from bit 2 on: two bits, four where BP goes to 15; the rest is ignored (000 L264-268, 004 M289, 003 L813-816)
+unfoldable pub written : ℕ → State → ℕ → ℕ → ℕ → State
+written n s b config time =
+    record { srwd = leb 128 b; bp = b / 4 % (modelOf n .«highest_bp» + 1); config = config; wel = s .wel; asleep = s .asleep; busy = time }
+
+-- what a refusal leaves of the state: all of it, WEL included; but where WEL falls at a protected unit (003 L803), 17 clears it
+unfoldable pub refusalLeaves : ℕ → Answer → State → State
+refusalLeaves n a s = cond (modelOf n .«latch_falls» && saysProtected a) (latched s false) s
 
 -- both buffers are as they were
 abbrev pub stateOnly : Answer → State → List ℕ → List ℕ → Effect
@@ -99,9 +114,15 @@ unfoldable pub readStatus : State → List ℕ → List ℕ → Shown
 readStatus s bytes out =
     record { reply = drives s 1 (length bytes); out = lay out 1 (replicate (length bytes - 1) (statusOf s)) }
 
--- 01: the second byte is written (000 L264-268)
+-- 15: the configuration register from position 1 on (003 L505, L768)
+unfoldable pub readConfig : State → List ℕ → List ℕ → Shown
+readConfig s bytes out =
+    record { reply = drives s 1 (length bytes); out = lay out 1 (replicate (length bytes - 1) (s .config)) }
+
+-- 01: the second byte is written, and on a model with the register a third (000 L264-268, 003 L899)
 unfoldable pub writeStatus : Record → State → List ℕ → Reply
-writeStatus rec s bytes = quiet Done (written s (getD bytes 1 0) (rec .«status_write»))
+writeStatus rec s bytes =
+    quiet Done (written (rec .model) s (getD bytes 1 0) (configAfter (rec .model) s bytes) (rec .«status_write»))
 
 -- 03: array bytes from position 4, address rising by one, from the last address to 0. 0B: the same from position 5 (000 L301, L307)
 unfoldable pub readFrom : ℕ → State → List ℕ → Address → List ℕ → List ℕ → Shown
@@ -112,7 +133,11 @@ readFrom first s cells at bytes out =
 unfoldable pub eraseSector : Record → State → List ℕ → Address → Changed
 eraseSector rec s cells at = record { reply = quiet Done (working s (rec .sector)); cells = sectorErased cells (sectorOf at) }
 
--- 52 and D8: the whole block (000 L327)
+-- 52 of model 3: the whole half block (003 L1233)
+unfoldable pub eraseHalf : Record → State → List ℕ → Address → Changed
+eraseHalf rec s cells at = record { reply = quiet Done (working s (rec .half)); cells = halfBlockErased cells (halfBlockOf at) }
+
+-- D8, and 52 of models 1 and 2: the whole block (000 L327)
 unfoldable pub eraseBlock : Record → State → List ℕ → Address → Changed
 eraseBlock rec s cells at = record { reply = quiet Done (working s (rec .block)); cells = blockErased cells (blockOf at) }
 

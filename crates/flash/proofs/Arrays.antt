@@ -11,13 +11,14 @@ use borrow.Author.Tests.{ltb-true, ltb-false}
 use borrow.Rule.Slice.PartMut.{putMid, midOf}
 use Rattle.units.specs.declared.Address.{Address}
 use Rattle.units.specs.declared.Sector.{Sector}
+use Rattle.units.specs.declared.HalfBlock.{HalfBlock}
 use Rattle.units.specs.declared.Block.{Block}
-use Rattle.units.specs.Kinds.{sectorStart, blockStart, pageStart, pageOffset}
+use Rattle.units.specs.Kinds.{sectorStart, halfBlockStart, blockStart, pageStart, pageOffset}
 use Rattle.cells.specs.Cell.{FF, erased}
 use Rattle.fold.specs.Fold.{cellAfter, pageAfter}
 use Rattle.parts.specs.Parts.{Bytes, part, lay}
-use Rattle.flash.specs.Arrays.{sectorErased, blockErased, allErased, programmed}
-use Rattle.flash.specs.Sheet.{PageFolds, OutsideStays, ErasesOnly, SectorErase, BlockErase, ChipErase}
+use Rattle.flash.specs.Arrays.{sectorErased, halfBlockErased, blockErased, allErased, programmed}
+use Rattle.flash.specs.Sheet.{PageFolds, OutsideStays, ErasesOnly, SectorErase, HalfBlockErase, BlockErase, ChipErase}
 use Rattle.parts.proofs.Bytes.{bytes-replicate, bytes-part, bytes-lay}
 use Rattle.fold.proofs.Fold.{length-pageAfter, pageAfter-at, bytes-pageAfter, fresh-page}
 use Rattle.parts.proofs.Lay.{length-part, part-at, length-lay, lay-before, lay-inside, lay-after, lay-in-lay, lay-part, part-back}
@@ -65,6 +66,15 @@ bytes-sectorErased s b = bytes-lay (sectorStart s) b (bytes-erased 4096)
 pub sector-erase : SectorErase
 unfolding sectorErased
 sector-erase xs s h = erases-only xs (sectorStart s) 4096 h
+
+-- ---- a half block
+pub length-halfBlockErased : (xs : List ℕ) (b : HalfBlock) → halfBlockStart b + 32768 ≤ length xs → length (halfBlockErased xs b) ≡ length xs
+unfolding halfBlockErased
+length-halfBlockErased xs b h = length-erased xs (halfBlockStart b) 32768 h
+
+pub half-block-erase : HalfBlockErase
+unfolding halfBlockErased
+half-block-erase xs b h = erases-only xs (halfBlockStart b) 32768 h
 
 -- ---- a block
 module _ (xs : List ℕ) (b : Block) (h : blockStart b + 65536 ≤ length xs) where

@@ -5,8 +5,9 @@ use Prim.Native.Nat.{ℕ, _%_}
 use lib.ListN.{length}
 use Rattle.units.specs.declared.Address.{Address}
 use Rattle.units.specs.declared.Sector.{Sector}
+use Rattle.units.specs.declared.HalfBlock.{HalfBlock}
 use Rattle.units.specs.declared.Block.{Block}
-use Rattle.units.specs.Kinds.{sectorStart, blockStart, pageStart, pageOffset}
+use Rattle.units.specs.Kinds.{sectorStart, halfBlockStart, blockStart, pageStart, pageOffset}
 use Rattle.models.specs.Models.{isLength}
 use Rattle.cells.specs.Cell.{erased}
 use Rattle.fold.specs.Fold.{pageAfter}
@@ -16,7 +17,10 @@ use Rattle.parts.specs.Parts.{part, lay}
 unfoldable pub sectorErased : List ℕ → Sector → List ℕ
 sectorErased xs s = lay xs (sectorStart s) (erased 4096)
 
--- the same of the 65,536 cells of a block (000 L327)
+-- the same of the 32,768 cells of a half block (003 L1233), and of the 65,536 of a block (000 L327)
+unfoldable pub halfBlockErased : List ℕ → HalfBlock → List ℕ
+halfBlockErased xs b = lay xs (halfBlockStart b) (erased 32768)
+
 unfoldable pub blockErased : List ℕ → Block → List ℕ
 blockErased xs b = lay xs (blockStart b) (erased 65536)
 

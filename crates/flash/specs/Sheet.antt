@@ -5,11 +5,12 @@ use Prim.Native.Nat.{ℕ, _+_, _/_, _≤_, _<_}
 use lib.ListN.{length, getD}
 use Rattle.units.specs.declared.Address.{Address}
 use Rattle.units.specs.declared.Sector.{Sector}
+use Rattle.units.specs.declared.HalfBlock.{HalfBlock}
 use Rattle.units.specs.declared.Block.{Block}
-use Rattle.units.specs.Kinds.{sectorStart, blockStart, pageStart, pageOffset}
+use Rattle.units.specs.Kinds.{sectorStart, halfBlockStart, blockStart, pageStart, pageOffset}
 use Rattle.cells.specs.Cell.{FF}
 use Rattle.fold.specs.Fold.{cellAfter}
-use Rattle.flash.specs.Arrays.{sectorErased, blockErased, allErased, programmed}
+use Rattle.flash.specs.Arrays.{sectorErased, halfBlockErased, blockErased, allErased, programmed}
 
 -- "all transmitted data which goes beyond the end of the current page are programmed from the start address" of the same page (000 L343):
 -- the cells of the page are as the fold says, and a cell of another page stays
@@ -31,9 +32,13 @@ pub record ErasesOnly (start size : ℕ) (xs ys : List ℕ) : Type 0 where
   pub before : (k : ℕ) → k < start → getD ys k 0 ≡ getD xs k 0
   pub behind : (k : ℕ) → start + size ≤ k → getD ys k 0 ≡ getD xs k 0
 
--- "for erasing the data of the chosen sector to be "1"" (000 L315), of the chosen block (L327), of the whole chip (L335)
+-- "for erasing the data of the chosen sector to be "1"" (000 L315), of the chosen half block (003 L1233) or block (000 L327), of the whole chip (000 L335)
 abbrev pub SectorErase : Type 0
 SectorErase = (xs : List ℕ) (s : Sector) → sectorStart s + 4096 ≤ length xs → ErasesOnly (sectorStart s) 4096 xs (sectorErased xs s)
+
+abbrev pub HalfBlockErase : Type 0
+HalfBlockErase =
+    (xs : List ℕ) (b : HalfBlock) → halfBlockStart b + 32768 ≤ length xs → ErasesOnly (halfBlockStart b) 32768 xs (halfBlockErased xs b)
 
 abbrev pub BlockErase : Type 0
 BlockErase = (xs : List ℕ) (b : Block) → blockStart b + 65536 ≤ length xs → ErasesOnly (blockStart b) 65536 xs (blockErased xs b)

@@ -3,12 +3,13 @@
 ghost use mathlib.Core.Path.{_≡_};
 ghost use Prim.Native.Nat.{_+_, _-_, _≤_, _<_};
 ghost use lib.ListN.{length};
-ghost use Rattle.units.specs.Kinds.{sectorStart, blockStart, pageStart};
+ghost use Rattle.units.specs.Kinds.{sectorStart, halfBlockStart, blockStart, pageStart};
 ghost use Rattle.parts.specs.Parts.{lay};
 ghost use Rattle.rings.specs.Ring.{ring};
-ghost use Rattle.flash.specs.Arrays.{sectorErased, blockErased, allErased, programmed, pageOf};
+ghost use Rattle.flash.specs.Arrays.{sectorErased, halfBlockErased, blockErased, allErased, programmed, pageOf};
 use units::Address;
 use units::Block;
+use units::HalfBlock;
 use units::Sector;
 
 // Erases the sector: only its 4,096 bytes are passed to the fill.
@@ -19,6 +20,17 @@ pub fn erase_sector(array: &mut [u8], s: Sector)
     let first = s.first_address();
     let start = first.0 as usize;
     let end = start + 4096;
+    parts::fill(&mut array[start..end], 0xFF);
+}
+
+// Erases the half block: only its 32,768 bytes are passed to the fill.
+pub fn erase_half_block(array: &mut [u8], b: HalfBlock)
+    requires { ⌜ (b .0 < 131072) × (halfBlockStart b + 32768 ≤ length (now array)) ⌝ }
+    ensures { λ _. ⌜ now (array .exit) ≡ halfBlockErased (now (array .entry)) b ⌝ }
+{
+    let first = b.first_address();
+    let start = first.0 as usize;
+    let end = start + 32768;
     parts::fill(&mut array[start..end], 0xFF);
 }
 

@@ -1,22 +1,25 @@
 -- What a frame that nothing refuses has shown, by name: a new row moves only this place. Assumes nothing.
 use mathlib.Core.Path.{_≡_, refl, sym, _∙_}
-use mathlib.Core.Bool.{Bool, true, false, not, _&&_, cond, true≢false}
-use mathlib.Core.List.{List, [], _∷_}
+use mathlib.Core.Bool.{Bool, true, false, not, _&&_, cond, true≢false, false≢true}
+use mathlib.Core.List.{List, [], _∷_, _++_}
 use Prim.Native.Nat.{_≤_, _<_}
 use native.Mathlib.Nat.{pos-of-ne-zero}
 use lib.Dec.{eqb}
+use lib.ListN.{take, drop}
 use borrow.Author.Tests.{eqb-true, eqb-false, ltb-false, not-true, not-false}
-use Rattle.units.proofs.Bools.{both, neither}
+use Rattle.units.proofs.Bools.{both, neither, only-if}
 use Rattle.models.specs.Models.{modelOf}
-use Rattle.answers.specs.Answers.{isDone}
-use Rattle.commands.specs.Commands.{traitsOf, lengthOk}
+use Rattle.answers.specs.Answers.{isDone, saysProtected}
+use Rattle.commands.specs.Commands.{lengthOk}
+use Rattle.commands.proofs.Rows.{no-latch, latch-waits}
 use Rattle.states.specs.States.{recordOk, stateOk}
 use Rattle.states.specs.declared.Record.{Record}
 use Rattle.states.specs.declared.State.{State}
 use Rattle.answers.specs.declared.Answer.{Answer}
-use Rattle.answers.specs.declared.Answer.the-variants.{Done}
+use Rattle.answers.specs.declared.Answer.the-variants.{Done, Protected}
 use Rattle.ladder.specs.declared.Head.{Head}
-use Rattle.ladder.specs.Ladder.{Rung, firstOf, ladder, guarded, refusalOf}
+use Rattle.ladder.specs.Ladder.{Rung, firstOf, ladder, asks, guarded, refusalOf}
+use Rattle.ladder.specs.Stages.{givenOf}
 use Rattle.ladder.proofs.Stages.{honest}
 
 -- no test of the table holds
@@ -47,19 +50,19 @@ pub record Passed (rec : Record) (s : State) (h : Head) : Type 0 where
   pub tail : h .tail ≤ 7
   pub roomy : h .count ≤ h .room
   pub some : 0 < h .count
-  pub listens : (not (eqb (s .busy) 0) && not (traitsOf (h .command) .«while_busy»)) ≡ false
-  pub awake : (s .asleep && not (traitsOf (h .command) .«while_asleep»)) ≡ false
-  pub known : traitsOf (h .command) .known ≡ true
-  pub fits : lengthOk (traitsOf (h .command)) (h .count) (h .tail) ≡ true
-  pub enabled : (traitsOf (h .command) .latch && not (s .wel)) ≡ false
-  pub unlocked : (traitsOf (h .command) .lock && (s .srwd && not (h .wp))) ≡ false
-  pub free : guarded rec s (traitsOf (h .command)) h ≡ false
+  pub listens : (not (eqb (s .busy) 0) && not (asks rec h .«while_busy»)) ≡ false
+  pub awake : (s .asleep && not (asks rec h .«while_asleep»)) ≡ false
+  pub known : asks rec h .known ≡ true
+  pub fits : lengthOk (asks rec h) (h .count) (h .tail) ≡ true
+  pub enabled : (asks rec h .latch && not (s .wel)) ≡ false
+  pub unlocked : (asks rec h .lock && (s .srwd && not (h .wp))) ≡ false
+  pub free : guarded rec s (asks rec h) h ≡ false
 
 pub passed : (rec : Record) (s : State) (h : Head) → isDone (refusalOf rec s h) ≡ true
     → Passed rec s h
 unfolding refusalOf
 passed rec s h e =
-    let c = clear (ladder rec s h (traitsOf (h .command))) refl e in
+    let c = clear (ladder rec s h (asks rec h)) refl e in
     let d = c .1 .1 .1 .1 .1 in
     let f = d .1 .1 .1 .1 .1 in
     let long = neither _ _ (c .1 .1 .1 .0) in
@@ -79,3 +82,66 @@ passed rec s h e =
       unlocked = f .1 .0;
       free = f .1 .1 .0;
     }
+
+-- ---- what a frame that is answered 17 has shown
+-- no row of a table answers 17
+abbrev spares : List Rung → Bool
+spares [] = true
+spares (r ∷ rs) = not (saysProtected (r .says)) && spares rs
+
+past : (b : Bool) (x rest : Answer) → saysProtected x ≡ false → saysProtected (cond b x rest) ≡ true → (b ≡ false) × (saysProtected rest ≡ true)
+past true x rest n e = absurd (true≢false (sym e ∙ n))
+past false x rest n e = (refl, e)
+
+spared : (rs : List Rung) → spares rs ≡ true → saysProtected (firstOf rs) ≡ false
+spared [] h = refl
+spared (r ∷ rs) h =
+    let k = both (not (saysProtected (r .says))) (spares rs) h in
+    go (r .bad) (not-true _ (k .0)) (spared rs (k .1))
+  where
+    go : (b : Bool) → saysProtected (r .says) ≡ false → saysProtected (firstOf rs) ≡ false → saysProtected (cond b (r .says) (firstOf rs)) ≡ false
+    go true e f = e
+    go false e f = f
+
+-- the first rows do not answer it
+pub given-spares : (rec : Record) (s : State) (h : Head) → saysProtected (givenOf rec s h) ≡ false
+unfolding givenOf
+given-spares rec s h = spared (take 5 (ladder rec s h (asks rec h))) refl
+
+clear-to : (rs ys : List Rung) → spares rs ≡ true → saysProtected (firstOf (rs ++ ys)) ≡ true → Clear rs × (saysProtected (firstOf ys) ≡ true)
+clear-to [] ys h e = (tt, e)
+clear-to (r ∷ rs) ys h e =
+    let k = both (not (saysProtected (r .says))) (spares rs) h in
+    let s = past (r .bad) (r .says) (firstOf (rs ++ ys)) (not-true _ (k .0)) e in
+    let c = clear-to rs ys (k .1) (s .1) in
+    ((s .0, c .0), c .1)
+
+pub record Stopped (rec : Record) (s : State) : Type 0 where
+  pub right : recordOk rec ≡ true
+  pub valid : stateOk rec s ≡ true
+  pub idle : s .busy ≡ 0
+
+-- a command that changes a unit needs WEL, so it is not taken while busy
+waits-for : (rec : Record) (s : State) (h : Head) → guarded rec s (asks rec h) h ≡ true → asks rec h .«while_busy» ≡ false
+waits-for rec s h g = go (asks rec h .latch) refl
+  where
+    go : (b : Bool) → asks rec h .latch ≡ b → asks rec h .«while_busy» ≡ false
+    go true e = latch-waits _ (h .command) e
+    go false e = let k = no-latch _ (h .command) e in absurd (false≢true (rw (k .unit, k .whole) at g))
+
+pub stopped : (rec : Record) (s : State) (h : Head) → saysProtected (refusalOf rec s h) ≡ true → Stopped rec s
+unfolding refusalOf
+stopped rec s h e =
+    let rows = ladder rec s h (asks rec h) in
+    let t = clear-to (take 12 rows) (drop 12 rows) refl e in
+    let c = t .0 in
+    let g : guarded rec s (asks rec h) h ≡ true = reached (guarded rec s (asks rec h) h) (t .1) in
+    record {
+      right = not-false _ (c .0);
+      valid = not-false _ (c .1 .1 .0);
+      idle = eqb-true (s .busy) 0 (not-false _ (only-if (not (eqb (s .busy) 0)) _ (c .1 .1 .1 .1 .1 .1 .0) (waits-for rec s h g)));
+    }
+  where
+    reached : (b : Bool) → saysProtected (cond b Protected Done) ≡ true → b ≡ true
+    reached true f = refl
+    reached false f = absurd (false≢true f)

@@ -6,15 +6,13 @@ use lib.ListN.{take, drop}
 use borrow.Author.Tests.{not-true}
 use Rattle.units.proofs.Bools.{both}
 use Rattle.answers.specs.Answers.{isDone}
-use Rattle.commands.specs.Commands.{traitsOf}
 use Rattle.states.specs.declared.Record.{Record}
 use Rattle.states.specs.declared.State.{State}
 use Rattle.commands.specs.declared.Traits.{Traits}
-use Rattle.commands.specs.declared.Command.{Command}
 use Rattle.commands.proofs.Rows.{no-latch}
 use Rattle.answers.specs.declared.Answer.the-variants.{Done}
 use Rattle.ladder.specs.declared.Head.{Head}
-use Rattle.ladder.specs.Ladder.{Rung, firstOf, ladder, refusalOf}
+use Rattle.ladder.specs.Ladder.{Rung, firstOf, ladder, asks, refusalOf}
 use Rattle.ladder.specs.Stages.{givenOf, saidOf, heardOf, allowedOf}
 
 -- no row of a table answers 0
@@ -37,18 +35,18 @@ joined (r ∷ rs) ys h = go (r .bad) (joined rs ys (k .1))
 pub one-table : (rec : Record) (s : State) (h : Head)
     → refusalOf rec s h ≡ cond (isDone (givenOf rec s h)) (saidOf rec s h) (givenOf rec s h)
 unfolding refusalOf givenOf saidOf
-one-table rec s h = let rows = ladder rec s h (traitsOf (h .command)) in joined (take 5 rows) (drop 5 rows) refl
+one-table rec s h = let rows = ladder rec s h (asks rec h) in joined (take 5 rows) (drop 5 rows) refl
 
 pub two-stages : (rec : Record) (s : State) (h : Head)
-    → (let k : Traits = traitsOf (h .command) in
+    → (let k : Traits = asks rec h in
     saidOf rec s h ≡ cond (isDone (heardOf rec s h k)) (allowedOf rec s h k) (heardOf rec s h k))
 unfolding saidOf heardOf allowedOf
-two-stages rec s h = let rows = ladder rec s h (traitsOf (h .command)) in joined (take 5 (drop 5 rows)) (drop 10 rows) refl
+two-stages rec s h = let rows = ladder rec s h (asks rec h) in joined (take 5 (drop 5 rows)) (drop 10 rows) refl
 
 -- ---- where the code stops
 module _ (rec : Record) (s : State) (h : Head) where
   abbrev k : Traits
-  k = traitsOf (h .command)
+  k = asks rec h
 
   pub stops-given : isDone (givenOf rec s h) ≡ false → refusalOf rec s h ≡ givenOf rec s h
   stops-given e = one-table rec s h ∙ rw e
@@ -63,6 +61,6 @@ module _ (rec : Record) (s : State) (h : Head) where
   passes-heard e = two-stages rec s h ∙ rw e
 
 -- a command that needs no WEL is stopped by none of the last three rows
-pub harmless : (rec : Record) (s : State) (h : Head) (c : Command) → traitsOf c .latch ≡ false → allowedOf rec s h (traitsOf c) ≡ Done
+pub harmless : (rec : Record) (s : State) (h : Head) → asks rec h .latch ≡ false → allowedOf rec s h (asks rec h) ≡ Done
 unfolding allowedOf
-harmless rec s h c e = let k = no-latch c e in rw (k .latch, k .lock, k .unit, k .whole)
+harmless rec s h e = let k = no-latch _ (h .command) e in rw (k .latch, k .lock, k .unit, k .whole)

@@ -5,7 +5,7 @@ use lib.Dec.{eqb, ltb}
 use Rattle.units.specs.Kinds.{blockOf}
 use Rattle.models.specs.Models.{modelOf, isProtected}
 use Rattle.commands.specs.Commands.{traitsOf, lengthOk}
-use Rattle.states.specs.States.{recordOk, stateOk}
+use Rattle.states.specs.States.{recordOk, stateOk, tbOf}
 use Rattle.states.specs.declared.Record.{Record}
 use Rattle.states.specs.declared.State.{State}
 use Rattle.commands.specs.declared.Traits.{Traits}
@@ -27,9 +27,13 @@ abbrev pub firstOf : List Rung → Answer
 firstOf [] = Done
 firstOf (r ∷ rs) = cond (r .bad) (r .says) (firstOf rs)
 
+-- what they ask of its command
+abbrev pub asks : Record → Head → Traits
+asks rec h = traitsOf (modelOf (rec .model) .register) (h .command)
+
 -- 60 and C7 run only with BP 0; 02, 20, 52 and D8 look at the addressed unit, which lies in one block
 abbrev pub guarded : Record → State → Traits → Head → Bool
-guarded rec s k h = (k .unit && isProtected (rec .model) (s .bp) (blockOf (h .address))) || (k .whole && not (eqb (s .bp) 0))
+guarded rec s k h = (k .unit && isProtected (rec .model) (tbOf s) (s .bp) (blockOf (h .address))) || (k .whole && not (eqb (s .bp) 0))
 
 -- the table
 abbrev pub ladder : Record → State → Head → Traits → List Rung
@@ -50,4 +54,4 @@ ladder rec s h k =
     ∷ []
 
 unfoldable pub refusalOf : Record → State → Head → Answer
-refusalOf rec s h = firstOf (ladder rec s h (traitsOf (h .command)))
+refusalOf rec s h = firstOf (ladder rec s h (asks rec h))

@@ -2,20 +2,19 @@
 -- the one table.
 -- Assumes nothing.
 use lib.ListN.{take, drop}
-use Rattle.commands.specs.Commands.{traitsOf}
 use Rattle.states.specs.declared.Record.{Record}
 use Rattle.states.specs.declared.State.{State}
 use Rattle.commands.specs.declared.Traits.{Traits}
 use Rattle.answers.specs.declared.Answer.{Answer}
 use Rattle.ladder.specs.declared.Head.{Head}
-use Rattle.ladder.specs.Ladder.{firstOf, ladder}
+use Rattle.ladder.specs.Ladder.{firstOf, ladder, asks}
 
 -- no row of the first five looks at the command
 unfoldable pub givenOf : Record → State → Head → Answer
-givenOf rec s h = firstOf (take 5 (ladder rec s h (traitsOf (h .command))))
+givenOf rec s h = firstOf (take 5 (ladder rec s h (asks rec h)))
 
 unfoldable pub saidOf : Record → State → Head → Answer
-saidOf rec s h = firstOf (drop 5 (ladder rec s h (traitsOf (h .command))))
+saidOf rec s h = firstOf (drop 5 (ladder rec s h (asks rec h)))
 
 unfoldable pub heardOf : Record → State → Head → Traits → Answer
 heardOf rec s h k = firstOf (take 5 (drop 5 (ladder rec s h k)))

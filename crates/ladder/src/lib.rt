@@ -81,7 +81,8 @@ fn allowed(rec: Record, st: State, head: Head, t: Traits) -> Answer
     let model = rec.model;
     let bp = st.bp;
     let at = head.address;
-    if (t.unit & models::is_protected(model, bp, at.in_block())) | (t.whole & (bp != 0)) {
+    let tb = states::tb(st);
+    if (t.unit & models::is_protected(model, tb, bp, at.in_block())) | (t.whole & (bp != 0)) {
         return Answer::Protected;
     }
     Answer::Done
@@ -92,7 +93,8 @@ pub fn said(rec: Record, st: State, head: Head) -> Answer
     ensures { λ r. ⌜ r ≡ saidOf rec st head ⌝ }
 {
     let command = head.command;
-    let t = commands::traits_of(command);
+    let row = models::model_of(rec.model);
+    let t = commands::traits_of(row.register, command);
     let first = heard(rec, st, head, t);
     if !answers::is_done(first) {
         return first;

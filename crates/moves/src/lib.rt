@@ -20,7 +20,7 @@ fn number(high: u8, middle: u8, low: u8) -> u32
     wide(high) * 65536 + (wide(middle) * 256 + wide(low))
 }
 
-// The bench record of the model; of a number that no model has, one with that number.
+// The bench record of models 1 and 2; of any other number model 1's times with that number: model 3 wants a sixth time, and no other is a model.
 fn record_of(model: u8) -> Record {
     if model == 2 {
         return states::bench_kh25l2006e();
@@ -55,6 +55,7 @@ fn state_of(status: u8, asleep: u8, busy: u32) -> State {
     State {
         srwd: 128 <= status,
         bp: status / 4 % 32,
+        config: 0,
         wel: status / 2 % 2 == 1,
         asleep: asleep != 0,
         busy,

@@ -1,6 +1,6 @@
 -- Laws of the packed state. Assumes nothing.
 use mathlib.Core.Path.{_≡_, refl, sym, ap, _∙_}
-use mathlib.Core.Bool.{Bool, true, false, not, _&&_, cond, and-true, and-assoc}
+use mathlib.Core.Bool.{Bool, true, false, not, _&&_, and-true, and-assoc}
 use mathlib.Core.List.{List, [], _∷_}
 use Prim.Native.Nat.{ℕ, suc, _/_, _%_, _^_, _≤_, _<_}
 use native.Mathlib.Omega.{arith}
@@ -8,6 +8,7 @@ use lib.Dec.{eqb, leb}
 use lib.ListN.{length, getD, drop, drop-of-length-le}
 use lib.Seq.{sets, sets-eq}
 use mir.Val.{boolByte}
+use borrow.Author.Tests.{eq-eqb}
 use Rattle.states.specs.States.{flag, statusOf}
 use Rattle.states.specs.declared.State.{State}
 use Rattle.pod.specs.Packing.{bytesOf, spelt, packOf, readOf, isPacking, noState, unpackOf}
@@ -29,7 +30,7 @@ read-pack s h =
 -- the code's eight bytes, stored one after the other
 abbrev stores : State → ℕ → List ℕ
 stores s status =
-    status ∷ boolByte (s .asleep) ∷ 0 ∷ 0 ∷ s .busy % 256 ∷ s .busy / 256 % 256 ∷ s .busy / 65536 % 256 ∷ s .busy / 16777216 % 256 ∷ []
+    status ∷ boolByte (s .asleep) ∷ s .config ∷ 0 ∷ s .busy % 256 ∷ s .busy / 256 % 256 ∷ s .busy / 65536 % 256 ∷ s .busy / 16777216 % 256 ∷ []
 
 pub stored : (s : State) (xs : List ℕ) {status : ℕ} → length xs ≡ 8 → status ≡ statusOf s → sets xs 0 (stores s status) ≡ packOf s
 unfolding packOf
@@ -52,7 +53,7 @@ unfolding isPacking
 is-packing s h = rw (read-pack s h) (same-refl (packOf s))
 
 -- ---- unpacking
-unpack-read : (xs : List ℕ) → isPacking xs ≡ true → unpackOf xs ≡ readOf xs
+pub unpack-read : (xs : List ℕ) → isPacking xs ≡ true → unpackOf xs ≡ readOf xs
 unfolding unpackOf
 unpack-read xs e = rw e
 
@@ -67,18 +68,18 @@ pub unpack-pack : (s : State) → Small s → unpackOf (packOf s) ≡ s
 unpack-pack s h = unpack-read (packOf s) (is-packing s h) ∙ read-pack s h
 
 -- ---- the tests of the code
-pub wrong-length : (xs : List ℕ) → (length xs ≡ 8 → ⊥) → unpackOf xs ≡ noState
+pub wrong-length : (xs : List ℕ) → (length xs ≡ 8 → ⊥) → isPacking xs ≡ false
 wrong-length xs n = go (isPacking xs) refl
   where
-    go : (b : Bool) → isPacking xs ≡ b → unpackOf xs ≡ noState
+    go : (b : Bool) → isPacking xs ≡ b → isPacking xs ≡ false
     go true e = absurd (n (packing-length xs e))
-    go false e = unpack-none xs e
+    go false e = e
 
--- bit 6, WIP, the flag and the two zeros
+-- bit 6, WIP, the flag and the zero
 abbrev tests : List ℕ → ℕ → Bool
 tests xs wip =
     eqb (getD xs 0 0 / 64 % 2) 0
-    && (eqb (getD xs 0 0 % 2) wip && (leb (getD xs 1 0) 1 && (eqb (getD xs 2 0) 0 && eqb (getD xs 3 0) 0)))
+    && (eqb (getD xs 0 0 % 2) wip && (leb (getD xs 1 0) 1 && eqb (getD xs 3 0) 0))
 
 tests-right : (xs : List ℕ) → length xs ≡ 8 → ((i : ℕ) → getD xs i 0 < 256) → isPacking xs ≡ tests xs (flag (not (eqb (spelt (drop 4 xs)) 0)) 1)
 unfolding isPacking packOf readOf statusOf
@@ -89,15 +90,15 @@ tests-right (a ∷ b ∷ c ∷ []) n h = absurd (omega arith)
 tests-right (a ∷ b ∷ c ∷ d ∷ ts) n h =
     let four : length ts ≡ 4 = omega arith in
     let e : bytesOf 4 (spelt ts) ≡ ts = rw four at (bytes-spelt ts (λ (i : ℕ). h (suc (suc (suc (suc i)))))) in
-    rw (e, same-refl ts, flag-test b, status-test a (h 0) (not (eqb (spelt ts) 0)), and-true, and-assoc)
+    rw (e, same-refl ts, flag-test b, eq-eqb c c refl, status-test a (h 0) (not (eqb (spelt ts) 0)), and-true, and-assoc)
 
-module _ (xs : List ℕ) (n : length xs ≡ 8) (h : (i : ℕ) → getD xs i 0 < 256) where
-  pub tested : {time : ℕ} {b : Bool} → time ≡ spelt (getD xs 4 0 ∷ getD xs 5 0 ∷ getD xs 6 0 ∷ getD xs 7 0 ∷ [])
-      → tests xs (boolByte (not (eqb time 0))) ≡ b
-      → cond b (record { srwd = leb 128 (getD xs 0 0); bp = getD xs 0 0 / 4 % 16; wel = eqb (getD xs 0 0 / 2 % 2) 1; asleep = eqb (getD xs 1 0) 1; busy = time }) noState
-      ≡ unpackOf xs
-  unfolding unpackOf readOf
-  tested {time} {b} e f =
-      let t : time ≡ spelt (drop 4 xs) = e ∙ sym (ap spelt (last-four xs n)) in
-      let p : isPacking xs ≡ b = tests-right xs n h ∙ rw (← t, ← flag-byte (not (eqb time 0))) f in
-      rw (p, t)
+module _ (xs : List ℕ) (n : length xs ≡ 8) {time : ℕ} (e : time ≡ spelt (getD xs 4 0 ∷ getD xs 5 0 ∷ getD xs 6 0 ∷ getD xs 7 0 ∷ [])) where
+  time-is : time ≡ spelt (drop 4 xs)
+  time-is = e ∙ sym (ap spelt (last-four xs n))
+
+  pub tested : ((i : ℕ) → getD xs i 0 < 256) → tests xs (boolByte (not (eqb time 0))) ≡ isPacking xs
+  tested h = rw (flag-byte (not (eqb time 0)), time-is) (sym (tests-right xs n h))
+
+  pub spells : record { srwd = leb 128 (getD xs 0 0); bp = getD xs 0 0 / 4 % 16; config = getD xs 2 0; wel = eqb (getD xs 0 0 / 2 % 2) 1; asleep = eqb (getD xs 1 0) 1; busy = time } ≡ readOf xs
+  unfolding readOf
+  spells = rw time-is

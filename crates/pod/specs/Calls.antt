@@ -1,11 +1,11 @@
 -- What C calls, one effect a call: the number returned and what each lent place holds after. Assumes nothing.
-use mathlib.Core.Bool.{true, not, cond}
+use mathlib.Core.Bool.{Bool, true, not, _||_, cond}
 use mathlib.Core.List.{List}
 use mathlib.Core.Path.{_≡_}
 use Prim.Native.Nat.{ℕ, _≤_}
 use lib.Dec.{eqb}
 use lib.ListN.{length}
-use Rattle.answers.specs.Answers.{numberOf, isDone}
+use Rattle.answers.specs.Answers.{numberOf, isDone, saysProtected}
 use Rattle.states.specs.declared.Record.{Record}
 use Rattle.states.specs.declared.State.{State}
 use Rattle.answers.specs.declared.Answer.{Answer}
@@ -15,14 +15,18 @@ use Rattle.chip.specs.Frames.{Sent, chipOf, sentOf, frameOf}
 use Rattle.time.specs.Time.{waitOf, powerOf}
 use Rattle.pod.specs.Packing.{packOf, unpackOf}
 
--- the record of six numbers
-abbrev pub recordOf : ℕ → ℕ → ℕ → ℕ → ℕ → ℕ → Record
-recordOf model status page sector block chip =
-    record { model = model; «status_write» = status; page = page; sector = sector; block = block; chip = chip }
+-- the record of seven numbers
+abbrev pub recordOf : ℕ → ℕ → ℕ → ℕ → ℕ → ℕ → ℕ → Record
+recordOf model status page sector block chip half =
+    record { model = model; «status_write» = status; page = page; sector = sector; block = block; chip = chip; half = half }
 
--- the state bytes after: those of the state after, and where the call is refused those given
+-- the answers after which the state may differ: 0, and 17 where it clears WEL
+abbrev pub mayMove : Answer → Bool
+mayMove a = isDone a || saysProtected a
+
+-- the state bytes after: those of the state after; where the state cannot differ those given
 unfoldable pub keptOf : Answer → State → List ℕ → List ℕ
-keptOf a next state = cond (isDone a) (packOf next) state
+keptOf a next state = cond (mayMove a) (packOf next) state
 
 -- a frame: the number of 01's table, the state bytes, the array, the output, the first driven position and how many
 pub record Called : Type 0 where
@@ -76,7 +80,7 @@ pub record Answers (c : Answered) (number : ℕ) (state : List ℕ) : Type 0 whe
   pub number-is : number ≡ c .number
   pub state-is : state ≡ c .state
 
--- what the code asks before it packs: where nothing was refused there are 8 bytes, and BP fits the status byte
+-- what the code asks before it packs: where the state may differ there are 8 bytes, and BP fits the status byte
 pub record Packs (a : Answer) (next : State) (state : List ℕ) : Type 0 where
-  pub room : isDone a ≡ true → length state ≡ 8
-  pub level : isDone a ≡ true → next .bp ≤ 15
+  pub room : mayMove a ≡ true → length state ≡ 8
+  pub level : mayMove a ≡ true → next .bp ≤ 15

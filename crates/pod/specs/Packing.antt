@@ -16,9 +16,9 @@ abbrev pub spelt : List ℕ → ℕ
 spelt [] = 0
 spelt (b ∷ bs) = b + 256 * spelt bs
 
--- the status byte, the deep power-down flag 0 or 1, two zeros, and the busy time little-endian
+-- the status byte, the deep power-down flag 0 or 1, the configuration register, a zero, and the busy time little-endian
 unfoldable pub packOf : State → List ℕ
-packOf s = statusOf s ∷ flag (s .asleep) 1 ∷ 0 ∷ 0 ∷ bytesOf 4 (s .busy)
+packOf s = statusOf s ∷ flag (s .asleep) 1 ∷ s .config ∷ 0 ∷ bytesOf 4 (s .busy)
 
 -- the state that bytes spell: SRWD is bit 7, BP bits 5 to 2 (above the model's highest it is not valid), WEL bit 1. WIP is not read:
 -- it has to be what the busy time makes it
@@ -27,6 +27,7 @@ readOf xs =
     record {
       srwd = leb 128 (getD xs 0 0);
       bp = getD xs 0 0 / 4 % 16;
+      config = getD xs 2 0;
       wel = eqb (getD xs 0 0 / 2 % 2) 1;
       asleep = eqb (getD xs 1 0) 1;
       busy = spelt (drop 4 xs);
@@ -44,7 +45,7 @@ isPacking xs = same xs (packOf (readOf xs))
 
 -- no record makes it valid: no model has that BP
 abbrev pub noState : State
-noState = record { srwd = false; bp = 255; wel = false; asleep = false; busy = 0 }
+noState = record { srwd = false; bp = 255; config = 0; wel = false; asleep = false; busy = 0 }
 
 unfoldable pub unpackOf : List ℕ → State
 unpackOf xs = cond (isPacking xs) (readOf xs) noState

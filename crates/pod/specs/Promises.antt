@@ -1,6 +1,7 @@
 -- What is shown of the packing and of the calls; proofs/Promises.antt proves each under its name in small letters. Assumes nothing.
-use mathlib.Core.Bool.{true, cond}
+use mathlib.Core.Bool.{true, false, cond}
 use mathlib.Core.List.{List}
+use mathlib.Core.Logic.{_⊎_}
 use mathlib.Core.Path.{_≡_}
 use Prim.Native.Nat.{ℕ}
 use lib.Dec.{eqb}
@@ -9,6 +10,7 @@ use Rattle.models.specs.Models.{modelOf}
 use Rattle.states.specs.States.{recordOk, stateOk}
 use Rattle.states.specs.declared.Record.{Record}
 use Rattle.states.specs.declared.State.{State}
+use Rattle.effects.specs.Effects.{latched}
 use Rattle.chip.specs.Frames.{Sent, chipOf, frameOf}
 use Rattle.time.specs.Time.{waitOf, powerOf}
 use Rattle.pod.specs.Packing.{packOf, unpackOf}
@@ -43,12 +45,20 @@ WaitRefusesBytes = (rec : Record) (xs : List ℕ) (us : ℕ) → NoPacking rec x
 abbrev pub CycleRefusesBytes : Type 0
 CycleRefusesBytes = (rec : Record) (xs : List ℕ) → NoPacking rec xs → calledCycle rec xs ≡ answered (cond (recordOk rec) 3 1) xs
 
--- ---- a refused call leaves everything as it was, and *from and *count 0
+-- ---- a refused call leaves everything as it was, and *from and *count 0; but on model 3 the answer 17 clears WEL in the state bytes
 abbrev pub RefusedFrameStays : Type 0
 RefusedFrameStays =
     (rec : Record) (xs cells : List ℕ) (f : Sent)
     → (calledFrame rec xs cells f .number ≡ 0 → ⊥)
+    → (modelOf (rec .model) .«latch_falls» ≡ false) ⊎ (calledFrame rec xs cells f .number ≡ 17 → ⊥)
     → calledFrame rec xs cells f ≡ called (calledFrame rec xs cells f .number) xs cells (f .out) 0 0
+
+abbrev pub RefusedFrameClears : Type 0
+RefusedFrameClears =
+    (rec : Record) (xs cells : List ℕ) (f : Sent)
+    → modelOf (rec .model) .«latch_falls» ≡ true
+    → calledFrame rec xs cells f .number ≡ 17
+    → calledFrame rec xs cells f ≡ called 17 (packOf (latched (unpackOf xs) false)) cells (f .out) 0 0
 
 abbrev pub RefusedWaitStays : Type 0
 RefusedWaitStays = (rec : Record) (xs : List ℕ) (us : ℕ) → (calledWait rec xs us .number ≡ 0 → ⊥) → calledWait rec xs us .state ≡ xs

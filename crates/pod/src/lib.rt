@@ -4,7 +4,7 @@ ghost use mathlib.Core.List.{_∷_, []};
 ghost use Prim.Native.Nat.{_≤_};
 ghost use lib.ListN.{length};
 ghost use Rattle.answers.specs.Answers.{numberOf};
-ghost use Rattle.pod.specs.Packing.{spelt, packOf, unpackOf, noState};
+ghost use Rattle.pod.specs.Packing.{spelt, packOf, readOf, isPacking};
 ghost use Rattle.pod.specs.Calls.{recordOf, keptOf, Packs, Leaves, sentBy, Answers, calledFrame, calledWait, calledCycle};
 use answers::Answer;
 use parts::wide;
@@ -13,19 +13,6 @@ use states::State;
 
 // ---- the packed state
 
-// A state that no record makes valid.
-fn no_state() -> State
-    ensures { λ r. ⌜ r ≡ noState ⌝ }
-{
-    State {
-        srwd: false,
-        bp: 255,
-        wel: false,
-        asleep: false,
-        busy: 0,
-    }
-}
-
 // The number of four bytes, the low byte first.
 fn time_of(a: u8, b: u8, c: u8, d: u8) -> u32
     ensures { λ r. ⌜ r ≡ spelt (a ∷ b ∷ c ∷ d ∷ []) ⌝ }
@@ -33,29 +20,33 @@ fn time_of(a: u8, b: u8, c: u8, d: u8) -> u32
     wide(a) + 256 * (wide(b) + 256 * (wide(c) + 256 * wide(d)))
 }
 
-// The state of 8 lent bytes; of bytes that are no packing, one that no record makes valid.
-fn unpack(state: &[u8]) -> State
-    ensures { λ r. ⌜ r ≡ unpackOf (now (state .entry)) ⌝ }
+// Whether the lent bytes are a packing: 8 of them, bit 6 of the status clear, WIP as the time makes it, the flag 0 or 1, and a zero.
+fn is_packed(state: &[u8]) -> bool
+    ensures { λ r. ⌜ r ≡ isPacking (now (state .entry)) ⌝ }
 {
     if state.len() != 8 {
-        return no_state();
+        return false;
     }
     let status = state[0];
-    let flag = state[1];
     let busy = time_of(state[4], state[5], state[6], state[7]);
     let wip = (busy != 0) as u8;
-    if (status / 64 % 2 == 0)
-        & ((status % 2 == wip) & ((flag <= 1) & ((state[2] == 0) & (state[3] == 0))))
-    {
-        return State {
-            srwd: 128 <= status,
-            bp: status / 4 % 16,
-            wel: status / 2 % 2 == 1,
-            asleep: flag == 1,
-            busy,
-        };
+    (status / 64 % 2 == 0) & ((status % 2 == wip) & ((state[1] <= 1) & (state[3] == 0)))
+}
+
+// The state that 8 bytes spell.
+fn unpack(state: &[u8]) -> State
+    requires { ⌜ length (now state) ≡ 8 ⌝ }
+    ensures { λ r. ⌜ r ≡ readOf (now (state .entry)) ⌝ }
+{
+    let status = state[0];
+    State {
+        srwd: 128 <= status,
+        bp: status / 4 % 16,
+        config: state[2],
+        wel: status / 2 % 2 == 1,
+        asleep: state[1] == 1,
+        busy: time_of(state[4], state[5], state[6], state[7]),
     }
-    no_state()
 }
 
 // The state, packed into 8 lent bytes.
@@ -66,7 +57,7 @@ fn pack(st: State, state: &mut [u8])
     let busy = st.busy;
     state[0] = states::status(st);
     state[1] = st.asleep as u8;
-    state[2] = 0;
+    state[2] = st.config;
     state[3] = 0;
     state[4] = (busy % 256) as u8;
     state[5] = (busy / 256 % 256) as u8;
@@ -74,13 +65,13 @@ fn pack(st: State, state: &mut [u8])
     state[7] = (busy / 16777216 % 256) as u8;
 }
 
-// The answer's number. The state after is packed where nothing was refused; otherwise the lent bytes stay.
+// The answer's number. The state after is packed where it may differ: where nothing was refused, and at 17; otherwise the lent bytes stay.
 fn keep(answer: Answer, next: State, state: &mut [u8]) -> u32
     requires { ⌜ Packs answer next (now state) ⌝ }
     ensures { λ r. ⌜ (r ≡ numberOf answer) × (now (state .exit) ≡ keptOf answer next (now (state .entry))) ⌝ }
 {
     let number = answers::number_of(answer);
-    if number == 0 {
+    if (number == 0) | (number == 17) {
         pack(next, state);
     }
     number
@@ -95,8 +86,9 @@ fn record_of(
     sector_us: u32,
     block_us: u32,
     chip_us: u32,
+    half_us: u32,
 ) -> Record
-    ensures { λ r. ⌜ r ≡ recordOf model «status_us» «page_us» «sector_us» «block_us» «chip_us» ⌝ }
+    ensures { λ r. ⌜ r ≡ recordOf model «status_us» «page_us» «sector_us» «block_us» «chip_us» «half_us» ⌝ }
 {
     Record {
         model,
@@ -105,6 +97,7 @@ fn record_of(
         sector: sector_us,
         block: block_us,
         chip: chip_us,
+        half: half_us,
     }
 }
 
@@ -117,6 +110,7 @@ pub extern "C" fn gwo_frame(
     sector_us: u32,
     block_us: u32,
     chip_us: u32,
+    half_us: u32,
     state: &mut [u8],
     array: &mut [u8],
     frame: &[u8],
@@ -126,13 +120,31 @@ pub extern "C" fn gwo_frame(
     from: &mut u32,
     count: &mut u32,
 ) -> u32
-    ensures { λ r. ⌜ Leaves (calledFrame (recordOf model «status_us» «page_us» «sector_us» «block_us» «chip_us») (now (state .entry)) (now (array .entry)) (sentBy (now (frame .entry)) tail wp (now (out .entry)))) r (now (state .exit)) (now (array .exit)) (now (out .exit)) (now (from .exit)) (now (count .exit)) ⌝ }
+    ensures { λ r. ⌜ Leaves (calledFrame (recordOf model «status_us» «page_us» «sector_us» «block_us» «chip_us» «half_us») (now (state .entry)) (now (array .entry)) (sentBy (now (frame .entry)) tail wp (now (out .entry)))) r (now (state .exit)) (now (array .exit)) (now (out .exit)) (now (from .exit)) (now (count .exit)) ⌝ }
 {
-    let rec = record_of(model, status_us, page_us, sector_us, block_us, chip_us);
+    let rec = record_of(
+        model,
+        status_us,
+        page_us,
+        sector_us,
+        block_us,
+        chip_us,
+        half_us,
+    );
     if !states::record_ok(rec) {
         *from = 0;
         *count = 0;
         return 1;
+    }
+    if !is_packed(state) {
+        *from = 0;
+        *count = 0;
+        let row = models::model_of(rec.model);
+        return if array.len() == row.length as usize {
+            3
+        } else {
+            2
+        };
     }
     let st = unpack(state);
     let reply = chip::frame(rec, st, array, frame, tail, wp != 0, out);
@@ -152,12 +164,24 @@ pub extern "C" fn gwo_wait(
     sector_us: u32,
     block_us: u32,
     chip_us: u32,
+    half_us: u32,
     state: &mut [u8],
     us: u32,
 ) -> u32
-    ensures { λ r. ⌜ Answers (calledWait (recordOf model «status_us» «page_us» «sector_us» «block_us» «chip_us») (now (state .entry)) us) r (now (state .exit)) ⌝ }
+    ensures { λ r. ⌜ Answers (calledWait (recordOf model «status_us» «page_us» «sector_us» «block_us» «chip_us» «half_us») (now (state .entry)) us) r (now (state .exit)) ⌝ }
 {
-    let rec = record_of(model, status_us, page_us, sector_us, block_us, chip_us);
+    let rec = record_of(
+        model,
+        status_us,
+        page_us,
+        sector_us,
+        block_us,
+        chip_us,
+        half_us,
+    );
+    if !is_packed(state) {
+        return if states::record_ok(rec) { 3 } else { 1 };
+    }
     let st = unpack(state);
     let waited = time::wait(rec, st, us);
     let answer = waited.answer;
@@ -174,11 +198,23 @@ pub extern "C" fn gwo_power_cycle(
     sector_us: u32,
     block_us: u32,
     chip_us: u32,
+    half_us: u32,
     state: &mut [u8],
 ) -> u32
-    ensures { λ r. ⌜ Answers (calledCycle (recordOf model «status_us» «page_us» «sector_us» «block_us» «chip_us») (now (state .entry))) r (now (state .exit)) ⌝ }
+    ensures { λ r. ⌜ Answers (calledCycle (recordOf model «status_us» «page_us» «sector_us» «block_us» «chip_us» «half_us») (now (state .entry))) r (now (state .exit)) ⌝ }
 {
-    let rec = record_of(model, status_us, page_us, sector_us, block_us, chip_us);
+    let rec = record_of(
+        model,
+        status_us,
+        page_us,
+        sector_us,
+        block_us,
+        chip_us,
+        half_us,
+    );
+    if !is_packed(state) {
+        return if states::record_ok(rec) { 3 } else { 1 };
+    }
     let st = unpack(state);
     let cycled = time::power_cycle(rec, st);
     let answer = cycled.answer;

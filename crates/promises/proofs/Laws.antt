@@ -2,7 +2,8 @@
 use mathlib.Core.Path.{_≡_, refl, sym, ap, subst, _∙_}
 use mathlib.Core.Bool.{Bool, true, false, _&&_, _||_, cond, true≢false}
 use mathlib.Core.List.{List}
-use Prim.Native.Nat.{ℕ, _+_, _-_, _≤_, _<_}
+use mathlib.Core.Logic.{⊎-elim}
+use Prim.Native.Nat.{ℕ, _+_, _-_, _*_, _/_, _%_, _≤_, _<_}
 use native.Mathlib.Nat.{le-refl}
 use native.Mathlib.Omega.{arith}
 use lib.Dec.{eqb, ltb}
@@ -15,25 +16,29 @@ use Rattle.fold.specs.Fold.{cellAfter}
 use Rattle.flash.specs.Arrays.{programmed}
 use Rattle.fold.proofs.Counts.{only-falls}
 use Rattle.flash.proofs.Arrays.{page-folds, outside-stays}
-use Rattle.answers.specs.Answers.{isDone}
+use Rattle.answers.specs.Answers.{numberOf, isDone}
 use Rattle.commands.specs.Commands.{decodeOf}
-use Rattle.states.specs.States.{recordOk, stateOk}
+use Rattle.states.specs.States.{recordOk, stateOk, tbOf}
 use Rattle.states.specs.declared.Record.{Record}
 use Rattle.states.specs.declared.State.{State}
 use Rattle.answers.specs.declared.Answer.the-variants.{Done, BadRecord, BadState}
 use Rattle.commands.specs.declared.Command.{Command}
 use Rattle.commands.specs.declared.Command.the-variants.{Program}
+use Rattle.models.proofs.Rules.{latch-falls-model}
 use Rattle.states.proofs.States.{sound, valid}
+use Rattle.effects.proofs.Replies.{leaves-all, leaves-latch, clears-latch}
+use Rattle.effects.proofs.Register.{config-after-tb}
 use Rattle.effects.specs.declared.Reply.{Reply}
 use Rattle.time.specs.declared.After.{After}
-use Rattle.effects.specs.Effects.{Effect, programPage}
+use Rattle.effects.specs.Effects.{Effect, programPage, latched, dozing, working, written}
 use Rattle.chip.specs.Frames.{Chip, headFor, acceptedOf, refusedOf}
 use Rattle.chip.specs.Units.{drivenBytes}
 use Rattle.time.specs.Time.{later, cycled, ifValid, waitOf, powerOf}
 use Rattle.changes.proofs.Fits.{page-fits}
-use Rattle.chip.proofs.Sorts.{is-done, counts, changes-only}
-use Rattle.promises.specs.Laws.{WaitsAdd, RefusedFrame, RefusedWait, RefusedCycle, OnlyItsUnit, ProgramFalls, OneOutcome, OneEffect, OneWait, OneCycle, NumberFixed}
-use Rattle.chip.proofs.Cases.{head, frame-cases, sort, shown-ready}
+use Rattle.chip.proofs.Sorts.{is-done, counts, changes-only, moves, Move, stays, latches, dozes, works, writes}
+use Rattle.promises.specs.Laws.{WaitsAdd, RefusedFrame, RefusedWait, RefusedCycle, OnlyItsUnit, ProgramFalls, OneOutcome, OneEffect, OneWait, OneCycle, NumberFixed, RefusalKeeps, RefusalClears, LatchFalls, TbStays}
+use Rattle.chip.proofs.Cases.{head, frame-cases, sort, shown-ready, shown-asked, refused-moves}
+use Rattle.calls.specs.Calls.{sends, waits, cycles, after}
 use Rattle.calls.proofs.Valid.{later-sound}
 use Rattle.calls.proofs.Steps.{wait-taken}
 
@@ -93,8 +98,17 @@ waits-add rec s a b = go (recordOk rec) refl (stateOk rec s) refl
 -- ---- refused calls
 pub refused : RefusedFrame
 refused rec x f =
-    frame-cases rec x f (λ (e : Effect). isDone (e .reply .answer) ≡ false → e ≡ refusedOf (e .reply .answer) x f)
+    frame-cases rec x f (λ (e : Effect). isDone (e .reply .answer) ≡ false → e ≡ refusedOf rec (e .reply .answer) x f)
     (λ d q. absurd (true≢false (sym (is-done (sort rec x f)) ∙ q))) (λ d q. refl)
+
+pub refusal-keeps : RefusalKeeps
+refusal-keeps rec a s h = ⊎-elim (λ e. leaves-latch (rec .model) a s e) (λ n. leaves-all (rec .model) a s (ne-eqb (numberOf a) 17 n)) h
+
+pub refusal-clears : RefusalClears
+refusal-clears rec a s e n = clears-latch (rec .model) a s e (eq-eqb (numberOf a) 17 n)
+
+pub latch-falls : LatchFalls
+latch-falls n = latch-falls-model n
 
 if-valid-refused : (rec : Record) (s next : State) → isDone (ifValid rec s next .answer) ≡ false → ifValid rec s next .state ≡ s
 unfolding ifValid
@@ -113,6 +127,37 @@ refused-wait rec s us d = if-valid-refused rec s (later s us) d
 pub refused-cycle : RefusedCycle
 unfolding powerOf
 refused-cycle rec s d = if-valid-refused rec s (cycled s) d
+
+-- ---- TB
+moved-tb : {rec : Record} {s t : State} → Move rec s t → tbOf s ≡ true → tbOf t ≡ true
+unfolding tbOf latched dozing working written
+moved-tb stays h = h
+moved-tb (latches b z) h = h
+moved-tb (dozes b z) h = h
+moved-tb (works t l w a) h = h
+moved-tb {rec} {s} (writes bytes t l w a) h = config-after-tb (rec .model) s bytes h
+
+-- a wait keeps the register, a power cycle TB
+if-valid-tb : (rec : Record) (s next : State) → tbOf s ≡ true → tbOf next ≡ true → tbOf (ifValid rec s next .state) ≡ true
+unfolding ifValid
+if-valid-tb rec s next h k = go (recordOk rec) (stateOk rec s)
+  where
+    go : (a b : Bool) → tbOf (cond {A = After} a (cond b (record { answer = Done; state = next }) (record { answer = BadState; state = s })) (record { answer = BadRecord; state = s }) .state) ≡ true
+    go true true = k
+    go true false = h
+    go false b = h
+
+cycled-tb : (s : State) → tbOf s ≡ true → tbOf (cycled s) ≡ true
+unfolding tbOf cycled
+cycled-tb s h = let e : s .config / 8 % 2 ≡ 1 = eqb-true (s .config / 8 % 2) 1 h in eq-eqb (s .config / 8 % 2 * 8 / 8 % 2) 1 (omega arith)
+
+pub tb-stays : TbStays
+unfolding after waitOf powerOf later tbOf
+tb-stays rec (sends f) x h =
+    frame-cases rec x f (λ (e : Effect). tbOf (e .reply .state) ≡ true)
+    (λ d. moved-tb (moves (sort rec x f) (shown-asked rec x f d)) h) (λ d. moved-tb (refused-moves rec x f) h)
+tb-stays rec (waits us) x h = if-valid-tb rec (x .state) (later (x .state) us) h h
+tb-stays rec cycles x h = if-valid-tb rec (x .state) (cycled (x .state)) h (cycled-tb (x .state) h)
 
 -- ---- units
 pub only-its-unit : OnlyItsUnit
@@ -178,6 +223,6 @@ pub number-fixed : NumberFixed
 unfolding headFor
 number-fixed rec x f r xs os g d =
     ap (λ (q : Reply). q .count) (g .reply)
-    ∙ frame-cases rec x f (λ (e : Effect). isDone (e .reply .answer) ≡ true → e .reply .count ≡ drivenBytes (decodeOf (getD (f .bytes) 0 0)) (length (f .bytes)))
+    ∙ frame-cases rec x f (λ (e : Effect). isDone (e .reply .answer) ≡ true → e .reply .count ≡ drivenBytes (decodeOf (rec .model) (getD (f .bytes) 0 0)) (length (f .bytes)))
     (λ e p. counts (sort rec x f)) (λ e p. absurd (true≢false (sym p ∙ e)))
     (sym (ap (λ (q : Reply). isDone (q .answer)) (g .reply)) ∙ d)

@@ -1,38 +1,65 @@
 -- Laws of the model that are worth having in their own right. Assumes nothing.
 use mathlib.Core.Path.{_≡_}
 use mathlib.Core.Bool.{false, true}
-use mathlib.Core.List.{List}
+use mathlib.Core.List.{List, []}
 use mathlib.Core.Logic.{_⊎_}
 use Prim.Native.Nat.{ℕ, _+_, _≤_, _<_}
+use lib.Dec.{eqb}
 use lib.ListN.{length, getD}
+use Rattle.models.specs.Models.{modelOf}
 use Rattle.commands.specs.Commands.{decodeOf}
 use Rattle.cells.specs.Cell.{bit}
-use Rattle.answers.specs.Answers.{isDone}
+use Rattle.answers.specs.Answers.{numberOf, isDone}
+use Rattle.answers.specs.declared.Answer.{Answer}
+use Rattle.states.specs.States.{tbOf}
 use Rattle.states.specs.declared.Record.{Record}
 use Rattle.states.specs.declared.State.{State}
 use Rattle.commands.specs.declared.Command.the-variants.{Program}
 use Rattle.effects.specs.declared.Reply.{Reply}
 use Rattle.time.specs.declared.After.{After}
-use Rattle.effects.specs.Effects.{Gives}
+use Rattle.effects.specs.Effects.{Gives, latched, refusalLeaves}
 use Rattle.chip.specs.Frames.{Chip, Sent, headOf, refusedOf, frameOf}
 use Rattle.chip.specs.Units.{Extent, unitOf, drivenBytes}
 use Rattle.time.specs.Time.{waitOf, powerOf}
+use Rattle.calls.specs.Calls.{Call, ours, after}
 
 -- waiting a and then b is waiting a + b, for any record and state
 abbrev pub WaitsAdd : Type 0
 WaitsAdd = (rec : Record) (s : State) (a b : ℕ) → waitOf rec (waitOf rec s a .state) b ≡ waitOf rec s (a + b)
 
--- a refused call changes nothing
+-- a refused frame drives nothing and changes no cell, and leaves of the state what its answer leaves on that model
 abbrev pub RefusedFrame : Type 0
 RefusedFrame =
     (rec : Record) (x : Chip) (f : Sent) → isDone (frameOf rec x f .reply .answer) ≡ false
-    → frameOf rec x f ≡ refusedOf (frameOf rec x f .reply .answer) x f
+    → frameOf rec x f ≡ refusedOf rec (frameOf rec x f .reply .answer) x f
+
+-- that is the state given, on models 1 and 2, and on model 3 at every answer but 17
+abbrev pub RefusalKeeps : Type 0
+RefusalKeeps =
+    (rec : Record) (a : Answer) (s : State) → (modelOf (rec .model) .«latch_falls» ≡ false) ⊎ (numberOf a ≡ 17 → ⊥)
+    → refusalLeaves (rec .model) a s ≡ s
+
+-- at 17 on model 3 it is the state given with WEL 0
+abbrev pub RefusalClears : Type 0
+RefusalClears =
+    (rec : Record) (a : Answer) (s : State) → modelOf (rec .model) .«latch_falls» ≡ true → numberOf a ≡ 17
+    → refusalLeaves (rec .model) a s ≡ latched s false
+
+-- and WEL falls on model 3 alone
+abbrev pub LatchFalls : Type 0
+LatchFalls = (n : ℕ) → modelOf n .«latch_falls» ≡ eqb n 3
+
+-- a refused wait or power cycle changes nothing
 
 abbrev pub RefusedWait : Type 0
 RefusedWait = (rec : Record) (s : State) (us : ℕ) → isDone (waitOf rec s us .answer) ≡ false → waitOf rec s us .state ≡ s
 
 abbrev pub RefusedCycle : Type 0
 RefusedCycle = (rec : Record) (s : State) → isDone (powerOf rec s .answer) ≡ false → powerOf rec s .state ≡ s
+
+-- TB, once set, stays set under every call, whatever it is given
+abbrev pub TbStays : Type 0
+TbStays = (rec : Record) (c : Call) (x : Chip) → tbOf (x .state) ≡ true → tbOf (after ours rec [] c x .state) ≡ true
 
 -- a frame changes at most the unit that it addresses
 abbrev pub addressed : Record → Chip → Sent → Extent
@@ -69,4 +96,4 @@ OneCycle = (rec : Record) (s : State) (r t : After) → r ≡ powerOf rec s → 
 abbrev pub NumberFixed : Type 0
 NumberFixed =
     (rec : Record) (x : Chip) (f : Sent) (r : Reply) (xs os : List ℕ) → Gives (frameOf rec x f) r xs os → isDone (r .answer) ≡ true
-    → r .count ≡ drivenBytes (decodeOf (getD (f .bytes) 0 0)) (length (f .bytes))
+    → r .count ≡ drivenBytes (decodeOf (rec .model) (getD (f .bytes) 0 0)) (length (f .bytes))

@@ -12,7 +12,7 @@ use Rattle.models.specs.Models.{isModel, partOf, addressOf}
 use Rattle.cells.specs.Cell.{FF}
 use Rattle.parts.proofs.Bytes.{bytes-replicate}
 use Rattle.parts.proofs.Lay.{part-at}
-use Rattle.states.specs.States.{inRange, recordOk, powerOn, benchKH25L512}
+use Rattle.states.specs.States.{inRange, halfOk, recordOk, powerOn, benchKH25L512}
 use Rattle.states.specs.declared.Record.{Record}
 use Rattle.answers.specs.declared.Answer.{Answer}
 use Rattle.answers.specs.declared.Answer.the-variants.{Done}
@@ -48,7 +48,7 @@ zero-at : (k : ℕ) → k < 65536 → getD zeros k 0 ≡ 0
 zero-at k h = getD-replicate {A = ℕ} 65536 k 0 0 h
 
 bench : Bench benchKH25L512 start
-unfolding recordOk inRange isModel partOf
+unfolding recordOk inRange halfOk isModel partOf
 bench = record { right = refl; whole = length-replicate {A = ℕ} 65536 0; valid = valid-histories benchKH25L512 [] }
 
 fits : (d : ℕ) → d < 256 → JobFits (one d)

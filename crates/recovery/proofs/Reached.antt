@@ -1,5 +1,5 @@
 -- The first wait cannot be shorter: calls from power-on lead to a chip that is then still busy. Assumes nothing.
-use mathlib.Core.Path.{_≡_, refl, sym, subst, _∙_}
+use mathlib.Core.Path.{_≡_, refl, sym, ap, subst, _∙_}
 use mathlib.Core.Bool.{true}
 use mathlib.Core.List.{List, [], _∷_}
 use Prim.Native.Nat.{ℕ, _≤_, _<_}
@@ -8,16 +8,17 @@ use lib.ListN.{length, replicate}
 use Rattle.models.specs.Models.{modelOf, addressOf}
 use Rattle.states.specs.States.{recordOk, longestOf, powerOn}
 use Rattle.states.specs.declared.Record.{Record}
+use Rattle.states.specs.declared.State.{State}
 use Rattle.answers.specs.declared.Answer.the-variants.{Done}
-use Rattle.states.proofs.States.{times, longest-in-range, by-longest}
-use Rattle.effects.specs.Effects.{Effect, stateOnly, changed, written, working, eraseSector, eraseBlock, eraseChip, programPage}
+use Rattle.states.proofs.States.{times, has-half, longest-in-range, by-longest}
+use Rattle.effects.specs.Effects.{Effect, stateOnly, changed, written, working, eraseSector, eraseHalf, eraseBlock, eraseChip, programPage}
 use Rattle.chip.specs.Frames.{Chip, chipOf, frameOf}
 use Rattle.calls.specs.Calls.{Call, sends, ours, left, run, Bench, frame}
 use Rattle.recovery.specs.Recovery.{Job, JobFits}
 use Rattle.recovery.specs.Shorter.{TooShort, ReachedFirst}
 use Rattle.recovery.proofs.Histories.{valid-histories}
-use Rattle.calls.proofs.Steps.{Step, ends, goes, goes-run, sends-to, write-taken, erase-taken, block-taken, chip-taken, program-taken}
-use Rattle.recovery.proofs.Recovery.{running, enabled, enable}
+use Rattle.calls.proofs.Steps.{Step, ends, goes, goes-run, sends-to, write-taken, erase-taken, half-taken, block-taken, chip-taken, program-taken}
+use Rattle.recovery.proofs.Recovery.{running, enabled, enable, unprotects}
 use Rattle.recovery.proofs.Shorter.{still}
 
 -- ---- from power-on: 06 and an operation
@@ -28,53 +29,61 @@ module _ (rec : Record) (cells : List ℕ) (j : Job) (e : recordOk rec ≡ true)
   abbrev Reached : Type 0
   Reached = (calls : List Call) × TooShort rec j (run ours rec [] calls (chipOf powerOn cells))
 
-  arms : Step rec (sends (frame (0x06 ∷ []) room)) (chipOf powerOn cells) (chipOf enabled cells)
-  arms = enable rec cells room (record { right = e; whole = l; valid = valid-histories rec [] }) (lit≤ tt)
+  arms : Step rec (sends (frame (0x06 ∷ []) room)) (chipOf powerOn cells) (chipOf (enabled 0) cells)
+  arms = enable rec 0 cells room (record { right = e; whole = l; valid = valid-histories rec [] }) (lit≤ tt)
 
   abbrev armed : Chip
-  armed = chipOf enabled cells
+  armed = chipOf (enabled 0) cells
 
   -- an operation whose time is the longest
   by : (bytes : List ℕ) (g : Effect) (time : ℕ) → frameOf rec armed (frame bytes room) ≡ g → g .reply .answer ≡ Done
-      → left g ≡ chipOf (running time) (g .cells) → 0 < time → longestOf rec ≡ time → Reached
+      → left g ≡ chipOf (running 0 time) (g .cells) → 0 < time → longestOf rec ≡ time → Reached
   by bytes g time p d s t m =
       let b = sends-to rec armed (arms .bench) (frame bytes room) g p d in (
         sends (frame (0x06 ∷ []) room) ∷ sends (frame bytes room) ∷ [],
-        subst (TooShort rec j) (sym (goes-run [] (goes arms (goes b ends)) ∙ s)) (still rec (g .cells) j time t m (subst (Bench rec) s (b .bench)) f),
+        subst (TooShort rec j) (sym (goes-run [] (goes arms (goes b ends)) ∙ s)) (still rec 0 (g .cells) j time t m (subst (Bench rec) s (b .bench)) f),
       )
 
   by-status : longestOf rec ≡ rec .«status_write» → Reached
   unfolding written
   by-status m =
-      by (0x01 ∷ 0x00 ∷ []) (stateOnly Done (running (rec .«status_write»)) cells room) (rec .«status_write»)
-      (write-taken rec armed (arms .bench) refl room 0 refl refl (lit≤ tt)) refl refl (times rec e .status) m
+      by (0x01 ∷ 0x00 ∷ []) (stateOnly Done (running 0 (rec .«status_write»)) cells room) (rec .«status_write»)
+      (write-taken rec armed (arms .bench) refl room 0 refl refl (lit≤ tt) ∙ ap (λ (s : State). stateOnly Done s cells room) (unprotects rec (enabled 0) (rec .«status_write») refl refl)) refl refl (times rec e .status) m
 
   by-page : longestOf rec ≡ rec .page → Reached
   unfolding programPage working
   by-page m =
-      by (0x02 ∷ 0 ∷ 0 ∷ 0 ∷ 0 ∷ []) (changed room (programPage rec enabled cells (addressOf (rec .model) 0 0 0) (0x02 ∷ 0 ∷ 0 ∷ 0 ∷ 0 ∷ []))) (rec .page)
+      by (0x02 ∷ 0 ∷ 0 ∷ 0 ∷ 0 ∷ []) (changed room (programPage rec (enabled 0) cells (addressOf (rec .model) 0 0 0) (0x02 ∷ 0 ∷ 0 ∷ 0 ∷ 0 ∷ []))) (rec .page)
       (program-taken rec armed (arms .bench) refl room 0 0 0 (0 ∷ []) refl refl refl (lit≤ tt) (lit≤ tt) (lit≤ tt)) refl refl (times rec e .page) m
 
   by-sector : longestOf rec ≡ rec .sector → Reached
   unfolding eraseSector working
   by-sector m =
-      by (0x20 ∷ 0 ∷ 0 ∷ 0 ∷ []) (changed room (eraseSector rec enabled cells (addressOf (rec .model) 0 0 0))) (rec .sector)
+      by (0x20 ∷ 0 ∷ 0 ∷ 0 ∷ []) (changed room (eraseSector rec (enabled 0) cells (addressOf (rec .model) 0 0 0))) (rec .sector)
       (erase-taken rec armed (arms .bench) refl room 0 0 0 refl refl refl (lit≤ tt)) refl refl (times rec e .sector) m
 
   by-block : longestOf rec ≡ rec .block → Reached
   unfolding eraseBlock working
   by-block m =
-      by (0xD8 ∷ 0 ∷ 0 ∷ 0 ∷ []) (changed room (eraseBlock rec enabled cells (addressOf (rec .model) 0 0 0))) (rec .block)
+      by (0xD8 ∷ 0 ∷ 0 ∷ 0 ∷ []) (changed room (eraseBlock rec (enabled 0) cells (addressOf (rec .model) 0 0 0))) (rec .block)
       (block-taken rec armed (arms .bench) refl room 0 0 0 refl refl refl (lit≤ tt)) refl refl (times rec e .block) m
 
   by-chip : longestOf rec ≡ rec .chip → Reached
   unfolding eraseChip working
   by-chip m =
-      by (0xC7 ∷ []) (changed room (eraseChip rec enabled cells)) (rec .chip)
+      by (0xC7 ∷ []) (changed room (eraseChip rec (enabled 0) cells)) (rec .chip)
       (chip-taken rec armed (arms .bench) refl room refl refl refl (lit≤ tt)) refl refl (times rec e .chip) m
+
+  -- a model that has the sixth time has that erase
+  by-half : longestOf rec ≡ rec .half → Reached
+  unfolding eraseHalf working
+  by-half m =
+      let t : 0 < rec .half = subst (λ (us : ℕ). 0 < us) m (longest-in-range rec e .some) in
+      by (0x52 ∷ 0 ∷ 0 ∷ 0 ∷ []) (changed room (eraseHalf rec (enabled 0) cells (addressOf (rec .model) 0 0 0))) (rec .half)
+      (half-taken rec armed (arms .bench) refl room 0 0 0 (has-half rec e t) refl refl refl (lit≤ tt)) refl refl t m
 
 -- the longest of the times is one of them
 pub reached-first : ReachedFirst
 reached-first rec cells j e l f =
     by-longest rec (longest-in-range rec e .some)
-    (by-status rec cells j e l f, (by-page rec cells j e l f, (by-sector rec cells j e l f, (by-block rec cells j e l f, (by-chip rec cells j e l f, tt)))))
+    (by-status rec cells j e l f, (by-page rec cells j e l f, (by-sector rec cells j e l f, (by-block rec cells j e l f, (by-chip rec cells j e l f, (by-half rec cells j e l f, tt))))))

@@ -3,7 +3,7 @@ use mathlib.Core.Path.{_≡_, refl, sym, ap, subst, _∙_}
 use mathlib.Core.Bool.{true, false}
 use mathlib.Core.List.{List, [], _∷_}
 use Prim.Native.Nat.{ℕ, _+_, _-_, _*_, _%_, _≤_, _<_}
-use native.Mathlib.Nat.{mod-lt, mod-mod-of-dvd, dvd-mul-right}
+use native.Mathlib.Nat.{mod-lt, zero-mod, mod-mod-of-dvd, dvd-mul-right}
 use native.Mathlib.Omega.{arith}
 use lib.ListN.{length, getD}
 use borrow.Author.Tests.{ne-eqb, le-ltb, lt-ltb}
@@ -19,7 +19,7 @@ use Rattle.flash.specs.Sheet.{ErasesOnly}
 use Rattle.flash.proofs.Arrays.{length-sectorErased, part-sectorErased, sector-erase, length-programmed, programmed-fresh}
 use Rattle.parts.proofs.Lay.{lay-before, lay-after, part-lay}
 use Rattle.rings.proofs.Ring.{length-ring, ring-straight}
-use Rattle.states.specs.States.{longestOf, powerOn}
+use Rattle.states.specs.States.{longestOf}
 use Rattle.states.specs.declared.Record.{Record}
 use Rattle.states.specs.declared.State.{State}
 use Rattle.answers.specs.declared.Answer.the-variants.{Done}
@@ -31,32 +31,40 @@ use Rattle.calls.specs.Calls.{sends, ours, effectAfter, Bench, frame}
 use Rattle.recovery.specs.Recovery.{Job, JobFits, wakeUp, enableUnlock, unlock, enableErase, erase, enableProgram, program, readBack, waitLongest, waitUnlock, waitErase, waitProgram, toUnlock, toErase, toProgram, toRead, recovery, target, base, Won, Recovers, WinsBack}
 use Rattle.calls.proofs.Steps.{Goes, ends, goes, goes-on, goes-run, goes-answers, Step, sends-to, waits-to, wake-taken, enable-taken, write-taken, erase-taken, program-taken, read-taken}
 
--- a chip that is awake with protection off, and runs an operation for so long
-abbrev pub running : ℕ → State
-running time = record { srwd = false; bp = 0; wel = true; asleep = false; busy = time }
+-- a chip that is awake with protection off: idle, and running an operation for so long; the calls of the list leave its register v as it is
+abbrev pub calm : ℕ → State
+calm v = record { srwd = false; bp = 0; config = v; wel = false; asleep = false; busy = 0 }
 
-abbrev pub enabled : State
-enabled = running 0
+abbrev pub running : ℕ → ℕ → State
+running v time = record { srwd = false; bp = 0; config = v; wel = true; asleep = false; busy = time }
 
--- when its time has run out it is as from the factory
-pub run-out : (time : ℕ) → 0 < time → later (running time) time ≡ powerOn
+abbrev pub enabled : ℕ → State
+enabled v = running v 0
+
+-- when its time has run out it is idle
+pub run-out : (v time : ℕ) → 0 < time → later (running v time) time ≡ calm v
 unfolding later
-run-out time p =
+run-out v time p =
     let e : time - time ≡ 0 = omega arith in
     rw (ne-eqb time 0 (λ z. omega arith), le-ltb time time (omega arith), e)
 
 -- and a microsecond before it is still busy
-pub not-yet : (time : ℕ) → 0 < time → later (running time) (time - 1) .busy ≡ 1
+pub not-yet : (v time : ℕ) → 0 < time → later (running v time) (time - 1) .busy ≡ 1
 unfolding later
-not-yet time p = omega arith
+not-yet v time p = omega arith
 
--- 06 on a chip as from the factory
-pub enable : (rec : Record) (cells out : List ℕ) → Bench rec (chipOf powerOn cells) → 1 ≤ length out
-    → Step rec (sends (frame (0x06 ∷ []) out)) (chipOf powerOn cells) (chipOf enabled cells)
+-- 06 on an idle chip
+pub enable : (rec : Record) (v : ℕ) (cells out : List ℕ) → Bench rec (chipOf (calm v) cells) → 1 ≤ length out
+    → Step rec (sends (frame (0x06 ∷ []) out)) (chipOf (calm v) cells) (chipOf (enabled v) cells)
 unfolding latched
-enable rec cells out c r =
-    let y : Chip = chipOf powerOn cells in
-    sends-to rec y c (frame (0x06 ∷ []) out) (stateOnly Done enabled cells out) (enable-taken rec y c refl out refl r) refl
+enable rec v cells out c r =
+    let y : Chip = chipOf (calm v) cells in
+    sends-to rec y c (frame (0x06 ∷ []) out) (stateOnly Done (enabled v) cells out) (enable-taken rec y c refl out refl r) refl
+
+-- 01 00 takes protection off
+pub unprotects : (rec : Record) (s : State) (time : ℕ) → s .wel ≡ true → s .asleep ≡ false → written (rec .model) s 0 (s .config) time ≡ running (s .config) time
+unfolding written
+unprotects rec s time w a = rw (w, a, zero-mod (modelOf (rec .model) .«highest_bp» + 1))
 
 module _ (rec : Record) (j : Job) (x : Chip) (b : Bench rec x) (f : JobFits j) where
   -- ---- up to the unlocking: whatever the valid state was, a status write runs and protection is off
@@ -65,6 +73,10 @@ module _ (rec : Record) (j : Job) (x : Chip) (b : Bench rec x) (f : JobFits j) w
 
   abbrev rested : State
   rested = later (x .state) (longestOf rec)
+
+  -- its register, which stays
+  abbrev v : ℕ
+  v = x .state .config
 
   abbrev woken : State
   woken = dozing rested false
@@ -90,18 +102,18 @@ module _ (rec : Record) (j : Job) (x : Chip) (b : Bench rec x) (f : JobFits j) w
       let out = j .outs .enableUnlock in
       sends-to rec (on woken) (wakes .bench) (enableUnlock j) (stateOnly Done armed (x .cells) out) (enable-taken rec (on woken) (wakes .bench) idle-after out refl (f .rooms .enableUnlock)) refl
 
-  pub unlocks : Step rec (sends (unlock j)) (on armed) (chipOf (running (rec .«status_write»)) (x .cells))
-  unfolding dozing latched written
+  pub unlocks : Step rec (sends (unlock j)) (on armed) (chipOf (running v (rec .«status_write»)) (x .cells))
+  unfolding dozing latched written later
   unlocks =
       let out = j .outs .unlock in
-      sends-to rec (on armed) (arms .bench) (unlock j) (stateOnly Done (running (rec .«status_write»)) (x .cells) out) (write-taken rec (on armed) (arms .bench) idle-after out 0 refl refl (f .rooms .unlock)) refl
+      sends-to rec (on armed) (arms .bench) (unlock j) (stateOnly Done (running v (rec .«status_write»)) (x .cells) out) (write-taken rec (on armed) (arms .bench) idle-after out 0 refl refl (f .rooms .unlock) ∙ ap (λ (s : State). stateOnly Done s (x .cells) out) (unprotects rec armed (rec .«status_write») refl refl)) refl
 
   -- ---- up to the erase
-  unlocked : Step rec (waitUnlock rec j) (on (running (rec .«status_write»))) (on powerOn)
-  unlocked = waits-to rec (on (running (rec .«status_write»))) (unlocks .bench) (rec .«status_write») powerOn (run-out (rec .«status_write») (times rec (b .right) .status))
+  unlocked : Step rec (waitUnlock rec j) (on (running v (rec .«status_write»))) (on (calm v))
+  unlocked = waits-to rec (on (running v (rec .«status_write»))) (unlocks .bench) (rec .«status_write») (calm v) (run-out v (rec .«status_write») (times rec (b .right) .status))
 
-  erase-enabled : Step rec (sends (enableErase j)) (on powerOn) (on enabled)
-  erase-enabled = enable rec (x .cells) (j .outs .enableErase) (unlocked .bench) (f .rooms .enableErase)
+  erase-enabled : Step rec (sends (enableErase j)) (on (calm v)) (on (enabled v))
+  erase-enabled = enable rec v (x .cells) (j .outs .enableErase) (unlocked .bench) (f .rooms .enableErase)
 
   abbrev to : Address
   to = target rec j
@@ -109,39 +121,39 @@ module _ (rec : Record) (j : Job) (x : Chip) (b : Bench rec x) (f : JobFits j) w
   abbrev cleared : List ℕ
   cleared = sectorErased (x .cells) (sectorOf to)
 
-  pub erases : Step rec (sends (erase j)) (on enabled) (chipOf (running (rec .sector)) cleared)
+  pub erases : Step rec (sends (erase j)) (on (enabled v)) (chipOf (running v (rec .sector)) cleared)
   unfolding eraseSector working
   erases =
       let out = j .outs .erase in
-      sends-to rec (on enabled) (erase-enabled .bench) (erase j) (changed out (eraseSector rec enabled (x .cells) to))
-      (erase-taken rec (on enabled) (erase-enabled .bench) refl out (j .high) (j .middle) (j .low) refl refl refl (f .rooms .erase)) refl
+      sends-to rec (on (enabled v)) (erase-enabled .bench) (erase j) (changed out (eraseSector rec (enabled v) (x .cells) to))
+      (erase-taken rec (on (enabled v)) (erase-enabled .bench) refl out (j .high) (j .middle) (j .low) refl refl refl (f .rooms .erase)) refl
 
   -- ---- up to the program
-  erased : Step rec (waitErase rec j) (chipOf (running (rec .sector)) cleared) (chipOf powerOn cleared)
-  erased = waits-to rec (chipOf (running (rec .sector)) cleared) (erases .bench) (rec .sector) powerOn (run-out (rec .sector) (times rec (b .right) .sector))
+  erased : Step rec (waitErase rec j) (chipOf (running v (rec .sector)) cleared) (chipOf (calm v) cleared)
+  erased = waits-to rec (chipOf (running v (rec .sector)) cleared) (erases .bench) (rec .sector) (calm v) (run-out v (rec .sector) (times rec (b .right) .sector))
 
-  program-enabled : Step rec (sends (enableProgram j)) (chipOf powerOn cleared) (chipOf enabled cleared)
-  program-enabled = enable rec cleared (j .outs .enableProgram) (erased .bench) (f .rooms .enableProgram)
+  program-enabled : Step rec (sends (enableProgram j)) (chipOf (calm v) cleared) (chipOf (enabled v) cleared)
+  program-enabled = enable rec v cleared (j .outs .enableProgram) (erased .bench) (f .rooms .enableProgram)
 
   abbrev stored : List ℕ
   stored = programmed cleared to (j .bytes)
 
-  pub programs : Step rec (sends (program j)) (chipOf enabled cleared) (chipOf (running (rec .page)) stored)
+  pub programs : Step rec (sends (program j)) (chipOf (enabled v) cleared) (chipOf (running v (rec .page)) stored)
   unfolding programPage working
   programs =
       let out = j .outs .program in
-      sends-to rec (chipOf enabled cleared) (program-enabled .bench) (program j) (changed out (programPage rec enabled cleared to (program j .bytes)))
-      (program-taken rec (chipOf enabled cleared) (program-enabled .bench) refl out (j .high) (j .middle) (j .low) (j .bytes) refl refl refl (f .some) (omega (arith, f .page)) (f .rooms .program)) refl
+      sends-to rec (chipOf (enabled v) cleared) (program-enabled .bench) (program j) (changed out (programPage rec (enabled v) cleared to (program j .bytes)))
+      (program-taken rec (chipOf (enabled v) cleared) (program-enabled .bench) refl out (j .high) (j .middle) (j .low) (j .bytes) refl refl refl (f .some) (omega (arith, f .page)) (f .rooms .program)) refl
 
   -- ---- the read
   abbrev ended : Chip
-  ended = chipOf powerOn stored
+  ended = chipOf (calm v) stored
 
-  all-programmed : Step rec (waitProgram rec j) (chipOf (running (rec .page)) stored) ended
-  all-programmed = waits-to rec (chipOf (running (rec .page)) stored) (programs .bench) (rec .page) powerOn (run-out (rec .page) (times rec (b .right) .page))
+  all-programmed : Step rec (waitProgram rec j) (chipOf (running v (rec .page)) stored) ended
+  all-programmed = waits-to rec (chipOf (running v (rec .page)) stored) (programs .bench) (rec .page) (calm v) (run-out v (rec .page) (times rec (b .right) .page))
 
   abbrev shows : Effect
-  shows = shown stored (readFrom 4 powerOn stored to (readBack j .bytes) (j .outs .readBack))
+  shows = shown stored (readFrom 4 (calm v) stored to (readBack j .bytes) (j .outs .readBack))
 
   read : frameOf rec ended (readBack j) ≡ shows
   read =
@@ -153,13 +165,13 @@ module _ (rec : Record) (j : Job) (x : Chip) (b : Bench rec x) (f : JobFits j) w
   reads = sends-to rec ended (all-programmed .bench) (readBack j) shows read refl
 
   -- ---- the list
-  pub to-unlock : Goes rec (toUnlock rec j) x (chipOf (running (rec .«status_write»)) (x .cells))
+  pub to-unlock : Goes rec (toUnlock rec j) x (chipOf (running v (rec .«status_write»)) (x .cells))
   to-unlock = goes rests (goes wakes (goes arms (goes unlocks ends)))
 
-  pub to-erase : Goes rec (toErase rec j) x (chipOf (running (rec .sector)) cleared)
+  pub to-erase : Goes rec (toErase rec j) x (chipOf (running v (rec .sector)) cleared)
   to-erase = goes-on to-unlock (goes unlocked (goes erase-enabled (goes erases ends)))
 
-  pub to-program : Goes rec (toProgram rec j) x (chipOf (running (rec .page)) stored)
+  pub to-program : Goes rec (toProgram rec j) x (chipOf (running v (rec .page)) stored)
   to-program = goes-on to-erase (goes erased (goes program-enabled (goes programs ends)))
 
   to-read : Goes rec (toRead rec j) x ended

@@ -1,4 +1,5 @@
--- The bench sheet's cases marked ●: 01, "Bench sheet". One table, and one statement over it. Assumes nothing.
+-- The bench sheet's cases marked ●: 01, "Bench sheet", and those of model 3 (003 L285-323, L803, L505, L840-864). One table, and one statement
+-- over it. Assumes nothing.
 use mathlib.Core.Path.{_≡_}
 use mathlib.Core.Bool.{Bool, true, false, cond}
 use mathlib.Core.List.{List, [], _∷_, _++_}
@@ -10,21 +11,24 @@ use Rattle.models.specs.Models.{modelOf}
 use Rattle.cells.specs.Cell.{erased}
 use Rattle.parts.specs.Parts.{part}
 use Rattle.answers.specs.Answers.{numberOf}
-use Rattle.states.specs.States.{statusOf, powerOn, benchKH25L512, benchKH25L2006E}
+use Rattle.states.specs.States.{statusOf, powerOn, benchKH25L512, benchKH25L2006E, benchKH25L12845G}
 use Rattle.states.specs.declared.Record.{Record}
 use Rattle.states.specs.declared.State.{State}
 use Rattle.effects.specs.Effects.{Effect}
 use Rattle.chip.specs.Frames.{Sent, chipOf, sentOf, frameOf}
-use Rattle.time.specs.Time.{later}
+use Rattle.time.specs.Time.{later, cycled}
 
--- what comes out: the answer, the first driven position, the driven bytes, the status byte after, the status byte after a wait, and
--- the first cells of the array
+-- what comes out: the answer, the first driven position, the driven bytes, the status byte and the register after, both after a wait, the register
+-- after a power cycle, and the first cells of the array
 pub record Outcome : Type 0 where
   pub answer : ℕ
   pub from : ℕ
   pub drives : List ℕ
   pub status : ℕ
+  pub config : ℕ
   pub then : ℕ
+  pub then-config : ℕ
+  pub last-config : ℕ
   pub cells : List ℕ
 
 -- what is given: model, state, the array's first cells (the others are any), the frame, a wait after it, and how many cells are
@@ -39,7 +43,7 @@ pub record Case : Type 0 where
   pub wants : List ℕ → Outcome
 
 abbrev pub bench : ℕ → Record
-bench m = cond (eqb m 2) benchKH25L2006E benchKH25L512
+bench m = cond (eqb m 3) benchKH25L12845G (cond (eqb m 2) benchKH25L2006E benchKH25L512)
 
 abbrev pub comesOut : Case → List ℕ → Outcome
 comesOut c array =
@@ -49,7 +53,10 @@ comesOut c array =
       from = e .reply .from;
       drives = part (e .out) (e .reply .from) (e .reply .count);
       status = statusOf (e .reply .state);
+      config = e .reply .state .config;
       then = statusOf (later (e .reply .state) (c .wait));
+      then-config = later (e .reply .state) (c .wait) .config;
+      last-config = cycled (later (e .reply .state) (c .wait)) .config;
       cells = take (c .look) (e .cells);
     }
 
@@ -60,18 +67,21 @@ AllRight (c ∷ cs) =
     ((rest : List ℕ) → length rest ≡ modelOf (c .model) .length - length (c .front) → comesOut c (c .front ++ rest) ≡ c .wants (c .front ++ rest))
     × AllRight cs
 
--- states of the sheet: SRWD, BP and WEL of an idle chip that is awake; and one in deep power-down
+-- states of the sheet: SRWD, BP and WEL of an idle chip that is awake; one with TB 1; and one in deep power-down
 abbrev pub idle : Bool → ℕ → Bool → State
-idle srwd bp wel = record { srwd = srwd; bp = bp; wel = wel; asleep = false; busy = 0 }
+idle srwd bp wel = record { srwd = srwd; bp = bp; config = 0; wel = wel; asleep = false; busy = 0 }
+
+abbrev pub bottomUp : ℕ → Bool → State
+bottomUp bp wel = record { srwd = false; bp = bp; config = 0x08; wel = wel; asleep = false; busy = 0 }
 
 abbrev pub sleeping : State
-sleeping = record { srwd = false; bp = 0; wel = false; asleep = true; busy = 0 }
+sleeping = record { srwd = false; bp = 0; config = 0; wel = false; asleep = true; busy = 0 }
 
 -- an output of 300 bytes AA
 abbrev pub blank : List ℕ
 blank = replicate 300 0xAA
 
--- a case with no wait that looks at no cell
+-- a case with no wait that looks at no cell and leaves the register, which has no more than TB, as it is
 abbrev pub simple : ℕ → State → Sent → ℕ → ℕ → List ℕ → ℕ → Case
 simple model state sent answer from drives status =
     record {
@@ -81,7 +91,7 @@ simple model state sent answer from drives status =
       sent = sent;
       wait = 0;
       look = 0;
-      wants = λ (array : List ℕ). record { answer = answer; from = from; drives = drives; status = status; then = status; cells = [] };
+      wants = λ (array : List ℕ). record { answer = answer; from = from; drives = drives; status = status; config = state .config; then = status; then-config = state .config; last-config = state .config; cells = [] };
     }
 
 -- model, state, frame: answer, first driven position, driven bytes, status after
@@ -103,7 +113,7 @@ sheet =
       sent = frame (0x02 ∷ 0 ∷ 0 ∷ 0 ∷ 0x11 ∷ replicate 256 0x22) blank;
       wait = 5000;
       look = 256;
-      wants = λ (array : List ℕ). record { answer = 0; from = 0; drives = []; status = 0x03; then = 0x00; cells = replicate 256 0x22 };
+      wants = λ (array : List ℕ). record { answer = 0; from = 0; drives = []; status = 0x03; config = 0; then = 0x00; then-config = 0; last-config = 0; cells = replicate 256 0x22 };
     }
     -- cell F0, data 3C: 30
     ∷ record {
@@ -113,7 +123,7 @@ sheet =
       sent = frame (0x02 ∷ 0 ∷ 0 ∷ 0 ∷ 0x3C ∷ []) blank;
       wait = 5000;
       look = 1;
-      wants = λ (array : List ℕ). record { answer = 0; from = 0; drives = []; status = 0x03; then = 0x00; cells = 0x30 ∷ [] };
+      wants = λ (array : List ℕ). record { answer = 0; from = 0; drives = []; status = 0x03; config = 0; then = 0x00; then-config = 0; last-config = 0; cells = 0x30 ∷ [] };
     }
     -- WEL 1, BP 1, 20 at 0: 17, WEL still 1
     ∷ simple 1 (idle false 1 true) (frame (0x20 ∷ 0 ∷ 0 ∷ 0 ∷ []) blank) 17 0 [] 0x06
@@ -131,7 +141,7 @@ sheet =
       sent = frame (0x01 ∷ 0xFF ∷ []) blank;
       wait = 15000;
       look = 0;
-      wants = λ (array : List ℕ). record { answer = 0; from = 0; drives = []; status = 0x8F; then = 0x8C; cells = [] };
+      wants = λ (array : List ℕ). record { answer = 0; from = 0; drives = []; status = 0x8F; config = 0; then = 0x8C; then-config = 0; last-config = 0; cells = [] };
     }
     -- deep power-down: 05 00 is 12; AB and four bytes drives 05
     ∷ simple 1 sleeping (frame (0x05 ∷ 0x00 ∷ []) blank) 12 0 [] 0x00
@@ -144,7 +154,26 @@ sheet =
       sent = frame (0x03 ∷ 0x00 ∷ 0xFF ∷ 0xFF ∷ 0 ∷ 0 ∷ []) blank;
       wait = 0;
       look = 0;
-      wants = λ (array : List ℕ). record { answer = 0; from = 4; drives = getD array 65535 0 ∷ getD array 0 0 ∷ []; status = 0x00; then = 0x00; cells = [] };
+      wants = λ (array : List ℕ). record { answer = 0; from = 4; drives = getD array 65535 0 ∷ getD array 0 0 ∷ []; status = 0x00; config = 0; then = 0x00; then-config = 0; last-config = 0; cells = [] };
+    }
+    -- model 3, TB 0, BP 1, WEL 1: 20 at FEFFFF is 0, at FF0000 is 17, and WEL is 0
+    ∷ simple 3 (idle false 1 true) (frame (0x20 ∷ 0xFE ∷ 0xFF ∷ 0xFF ∷ []) blank) 0 0 [] 0x07
+    ∷ simple 3 (idle false 1 true) (frame (0x20 ∷ 0xFF ∷ 0x00 ∷ 0x00 ∷ []) blank) 17 0 [] 0x04
+    -- TB 1, BP 1, WEL 1: 20 at 0 is 17, and WEL is 0; at 010000 it is 0
+    ∷ simple 3 (bottomUp 1 true) (frame (0x20 ∷ 0x00 ∷ 0x00 ∷ 0x00 ∷ []) blank) 17 0 [] 0x04
+    ∷ simple 3 (bottomUp 1 true) (frame (0x20 ∷ 0x01 ∷ 0x00 ∷ 0x00 ∷ []) blank) 0 0 [] 0x07
+    -- 15 drives the register, and on model 1 it is 13
+    ∷ simple 3 (bottomUp 0 false) (frame (0x15 ∷ 0x00 ∷ 0x00 ∷ []) blank) 0 1 (0x08 ∷ 0x08 ∷ []) 0x00
+    ∷ simple 1 powerOn (frame (0x15 ∷ 0x00 ∷ []) blank) 13 0 [] 0x00
+    -- 01 FF FF: status BF and register DB, after the wait BC and DB; after a power cycle the register is 08
+    ∷ record {
+      model = 3;
+      state = idle false 0 true;
+      front = [];
+      sent = frame (0x01 ∷ 0xFF ∷ 0xFF ∷ []) blank;
+      wait = 40000;
+      look = 0;
+      wants = λ (array : List ℕ). record { answer = 0; from = 0; drives = []; status = 0xBF; config = 0xDB; then = 0xBC; then-config = 0xDB; last-config = 0x08; cells = [] };
     }
     ∷ []
 

@@ -2,7 +2,7 @@
 ghost use mathlib.Core.Path.{_≡_};
 ghost use Prim.Native.Nat.{_≤_, _<_};
 ghost use lib.ListN.{length};
-ghost use Rattle.effects.specs.Effects.{Shows, Room, readStatus, readFrom, readId, wake as Effects·wake, makerBytes, readMaker};
+ghost use Rattle.effects.specs.Effects.{Shows, Room, readStatus, readConfig, readFrom, readId, wake as Effects·wake, makerBytes, readMaker};
 use answers::Answer;
 use effects::Reply;
 use models::Model;
@@ -17,6 +17,16 @@ pub fn read_status(st: State, bytes: &[u8], out: &mut [u8]) -> Reply
 {
     let n = bytes.len();
     parts::fill_part(out, 1, n, states::status(st));
+    effects::driven(st, 1, n as u32)
+}
+
+// 15
+pub fn read_config(st: State, bytes: &[u8], out: &mut [u8]) -> Reply
+    requires { ⌜ Room 1 (now bytes) (now out) ⌝ }
+    ensures { λ r. ⌜ Shows (readConfig st (now (bytes .entry)) (now (out .entry))) r (now (out .exit)) ⌝ }
+{
+    let n = bytes.len();
+    parts::fill_part(out, 1, n, st.config);
     effects::driven(st, 1, n as u32)
 }
 

@@ -1,24 +1,24 @@
 -- Laws of records and states that the layers above cite. Assumes nothing.
 use mathlib.Core.Path.{_≡_, refl, _∙_}
-use mathlib.Core.Bool.{Bool, true, false, not, _&&_, _||_, or-true}
+use mathlib.Core.Bool.{Bool, true, false, not, _&&_, _||_, cond, or-true}
 use mathlib.Core.Logic.{_⊎_, inl, inr, ⊎-elim}
-use mathlib.Core.List.{List, [], _∷_}
-use Prim.Native.Nat.{ℕ, zero, suc, _≤_, _<_}
+use mathlib.Core.List.{List, [], _∷_, _++_}
+use Prim.Native.Nat.{ℕ, zero, suc, _*_, _/_, _%_, _≤_, _<_}
 use native.Mathlib.Nat.{le-trans, le-of-lt, le-max-left, le-max-right, max-le, max-eq-left, max-eq-right, not-suc-le-zero, le-of-suc-le-suc}
 use native.Mathlib.Omega.{arith}
 use lib.Dec.{eqb, leb, lit≤}
 use lib.ListN.{length, getD}
 use borrow.Author.Tests.{eqb-true, leb-true, leb-false, not-true, eq-eqb, le-leb}
-use Rattle.models.specs.Models.{isModel, modelOf, models, kh25l512, partOf, Part}
+use Rattle.models.specs.Models.{isModel, modelOf}
 use Rattle.units.proofs.Bools.{both, either}
-use Rattle.models.proofs.Table.{found}
-use Rattle.states.specs.States.{timesOf, inRange, all, recordOk, largest, longestOf, stateOk}
+use Rattle.states.specs.States.{commonTimes, timesOf, inRange, all, halfOk, recordOk, largest, longestOf, configOk, stateOk}
 use Rattle.states.specs.declared.Record.{Record}
 use Rattle.states.specs.declared.State.{State}
 
 -- a valid state, in parts
 pub record Sound (rec : Record) (s : State) : Type 0 where
   pub level : s .bp ≤ modelOf (rec .model) .«highest_bp»
+  pub register : configOk (modelOf (rec .model) .register) (s .config) ≡ true
   pub time : s .busy ≤ longestOf rec
   pub mood : (s .busy ≡ 0) ⊎ ((s .wel ≡ true) × (s .asleep ≡ false))
 
@@ -26,10 +26,13 @@ pub sound : (rec : Record) (s : State) → stateOk rec s ≡ true → Sound rec 
 unfolding stateOk
 sound rec s e =
     let top = modelOf (rec .model) .«highest_bp» in
-    let k = both (leb (s .bp) top && leb (s .busy) (longestOf rec)) (eqb (s .busy) 0 || (s .wel && not (s .asleep))) e in
-    let l = both (leb (s .bp) top) (leb (s .busy) (longestOf rec)) (k .0) in
+    let has = modelOf (rec .model) .register in
+    let k = both ((leb (s .bp) top && configOk has (s .config)) && leb (s .busy) (longestOf rec)) (eqb (s .busy) 0 || (s .wel && not (s .asleep))) e in
+    let l = both (leb (s .bp) top && configOk has (s .config)) (leb (s .busy) (longestOf rec)) (k .0) in
+    let m = both (leb (s .bp) top) (configOk has (s .config)) (l .0) in
     record {
-      level = leb-true (s .bp) top (l .0);
+      level = leb-true (s .bp) top (m .0);
+      register = m .1;
       time = leb-true (s .busy) (longestOf rec) (l .1);
       mood =
           ⊎-elim (λ p. inl (eqb-true (s .busy) 0 p))
@@ -41,8 +44,23 @@ sound rec s e =
 pub valid : (rec : Record) (s : State) → Sound rec s → stateOk rec s ≡ true
 unfolding stateOk
 valid rec s p =
-    rw (le-leb (s .bp) (modelOf (rec .model) .«highest_bp») (p .level), le-leb (s .busy) (longestOf rec) (p .time))
+    rw (le-leb (s .bp) (modelOf (rec .model) .«highest_bp») (p .level), p .register, le-leb (s .busy) (longestOf rec) (p .time))
     (⊎-elim (λ e. rw (eq-eqb (s .busy) 0 e)) (λ e. rw (e .0, e .1) (or-true (eqb (s .busy) 0))) (p .mood))
+
+-- ---- the register
+pub config-0-ok : (r : Bool) → configOk r 0 ≡ true
+unfolding configOk
+config-0-ok true = refl
+config-0-ok false = refl
+
+-- with all of it cleared but TB it is still in its range
+pub only-tb-ok : (r : Bool) (c : ℕ) → configOk r c ≡ true → configOk r (c / 8 % 2 * 8) ≡ true
+unfolding configOk
+only-tb-ok true c h =
+    let a : c / 8 % 2 * 8 / 32 % 2 ≡ 0 = omega arith in
+    let b : c / 8 % 2 * 8 / 4 % 2 ≡ 0 = omega arith in
+    rw (a, b)
+only-tb-ok false c h = let z = eqb-true c 0 h in eq-eqb (c / 8 % 2 * 8) 0 (omega arith)
 
 -- ---- the times
 -- every time is at most the longest
@@ -70,6 +88,9 @@ module _ (r : Record) where
 
   pub chip-le : r .chip ≤ longestOf r
   chip-le = time-le r 4
+
+  pub half-le : r .half ≤ longestOf r
+  half-le = time-le r 5
 
 -- the longest is one of them: what follows from each of them follows
 abbrev pub Each : (ℕ → Type 0) → List ℕ → Type 0
@@ -102,9 +123,37 @@ all-ranged [] e k h = absurd (not-suc-le-zero h)
 all-ranged (x ∷ xs) e zero h = ranged x (both (inRange x) (all inRange xs) e .0)
 all-ranged (x ∷ xs) e (suc k) h = all-ranged xs (both (inRange x) (all inRange xs) e .1) k (le-of-suc-le-suc h)
 
-pub time-in-range : (r : Record) → recordOk r ≡ true → (k : ℕ) → k < length (timesOf r) → InRange (getD (timesOf r) k 0)
+-- a good record, in parts
+record Good (r : Record) : Type 0 where
+  five : all inRange (commonTimes r) ≡ true
+  last : halfOk (r .model) (r .half) ≡ true
+
+good : (r : Record) → recordOk r ≡ true → Good r
 unfolding recordOk
-time-in-range r e k h = all-ranged (timesOf r) (both (isModel (r .model)) (all inRange (timesOf r)) e .1) k h
+good r e =
+    let a = both (isModel (r .model)) (all inRange (commonTimes r) && halfOk (r .model) (r .half)) e in
+    let b = both (all inRange (commonTimes r)) (halfOk (r .model) (r .half)) (a .1) in
+    record { five = b .0; last = b .1 }
+
+time-in-range : (r : Record) → recordOk r ≡ true → (k : ℕ) → k < length (commonTimes r) → InRange (getD (commonTimes r) k 0)
+time-in-range r e k h = all-ranged (commonTimes r) (good r e .five) k h
+
+-- the sixth time: a model that has one has the erase of a half block
+pub has-half : (r : Record) → recordOk r ≡ true → 0 < r .half → modelOf (r .model) .«half_erase» ≡ true
+unfolding halfOk
+has-half r e h = go (modelOf (r .model) .«half_erase») refl (good r e .last)
+  where
+    go : (b : Bool) → modelOf (r .model) .«half_erase» ≡ b → cond b (inRange (r .half)) (eqb (r .half) 0) ≡ true → modelOf (r .model) .«half_erase» ≡ true
+    go true p t = p
+    go false p t = let z = eqb-true (r .half) 0 t in absurd (omega arith)
+
+half-short : (r : Record) → recordOk r ≡ true → r .half ≤ 1000000000
+unfolding halfOk
+half-short r e = go (modelOf (r .model) .«half_erase») (good r e .last)
+  where
+    go : (b : Bool) → cond b (inRange (r .half)) (eqb (r .half) 0) ≡ true → r .half ≤ 1000000000
+    go true t = ranged (r .half) t .short
+    go false t = let z = eqb-true (r .half) 0 t in omega arith
 
 pub record Times (r : Record) : Type 0 where
   pub status : 0 < r .«status_write»
@@ -124,16 +173,16 @@ times r e =
     }
 
 -- and so is the longest
-largest-short : (xs : List ℕ) → all inRange xs ≡ true → largest xs ≤ 1000000000
-largest-short [] e = omega arith
-largest-short (x ∷ xs) e =
+largest-short : (xs : List ℕ) (last : ℕ) → all inRange xs ≡ true → last ≤ 1000000000 → largest (xs ++ (last ∷ [])) ≤ 1000000000
+largest-short [] last e h = max-le h (omega arith)
+largest-short (x ∷ xs) last e h =
     let b = both (inRange x) (all inRange xs) e in
-    max-le (ranged x (b .0) .short) (largest-short xs (b .1))
+    max-le (ranged x (b .0) .short) (largest-short xs last (b .1) h)
 
 pub longest-in-range : (r : Record) → recordOk r ≡ true → InRange (longestOf r)
-unfolding recordOk longestOf
+unfolding longestOf
 longest-in-range r e =
     record {
       some = le-trans (times r e .status) (status-write-le r);
-      short = largest-short (timesOf r) (both (isModel (r .model)) (all inRange (timesOf r)) e .1);
+      short = largest-short (commonTimes r) (r .half) (good r e .five) (half-short r e);
     }

@@ -1,15 +1,18 @@
 -- Records, states and the status byte: 01, "Record, state, frame". Assumes nothing.
-use mathlib.Core.Bool.{Bool, true, false, not, _&&_, _||_}
-use mathlib.Core.List.{List, [], _∷_}
-use Prim.Native.Nat.{ℕ, _+_, _*_, max}
+use mathlib.Core.Bool.{Bool, true, false, not, _&&_, _||_, cond}
+use mathlib.Core.List.{List, [], _∷_, _++_}
+use Prim.Native.Nat.{ℕ, _+_, _*_, _/_, _%_, max}
 use lib.Dec.{eqb, leb}
 use Rattle.models.specs.Models.{isModel, modelOf}
 use Rattle.states.specs.declared.Record.{Record}
 use Rattle.states.specs.declared.State.{State}
 
--- the busy times
+-- the busy times that every model has, and all of them: the erase of a half block stands last
+abbrev pub commonTimes : Record → List ℕ
+commonTimes r = r .«status_write» ∷ r .page ∷ r .sector ∷ r .block ∷ r .chip ∷ []
+
 abbrev pub timesOf : Record → List ℕ
-timesOf r = r .«status_write» ∷ r .page ∷ r .sector ∷ r .block ∷ r .chip ∷ []
+timesOf r = commonTimes r ++ (r .half ∷ [])
 
 -- each is 1 to 1,000,000,000 microseconds
 unfoldable pub inRange : ℕ → Bool
@@ -19,8 +22,12 @@ abbrev pub all : (ℕ → Bool) → List ℕ → Bool
 all test [] = true
 all test (us ∷ more) = test us && all test more
 
+-- a model without the erase of a half block has 0 in its place, which counts for nothing
+unfoldable pub halfOk : ℕ → ℕ → Bool
+halfOk n us = cond (modelOf n .«half_erase») (inRange us) (eqb us 0)
+
 unfoldable pub recordOk : Record → Bool
-recordOk r = isModel (r .model) && all inRange (timesOf r)
+recordOk r = isModel (r .model) && (all inRange (commonTimes r) && halfOk (r .model) (r .half))
 
 abbrev pub largest : List ℕ → ℕ
 largest [] = 0
@@ -29,13 +36,22 @@ largest (us ∷ more) = max us (largest more)
 unfoldable pub longestOf : Record → ℕ
 longestOf r = largest (timesOf r)
 
--- BP is in its range, the busy time is at most the longest, and a busy chip has WEL set and is not in deep power-down
+-- the configuration register: bits 7 and 6 (DC), 4 (PBE), 3 (TB), 1 and 0 (ODS); 5 and 2 are reserved and 0 (003 L840-843, L828-864). A model
+-- without it has 0 in its place
+unfoldable pub configOk : Bool → ℕ → Bool
+configOk register config = cond register (eqb (config / 32 % 2) 0 && eqb (config / 4 % 2) 0) (eqb config 0)
+
+-- TB 0: the protected range is at the top; TB 1: at the bottom
+unfoldable pub tbOf : State → Bool
+tbOf s = eqb (s .config / 8 % 2) 1
+
+-- BP and the register are in their range, the busy time is at most the longest, and a busy chip has WEL set and is not in deep power-down
 unfoldable pub stateOk : Record → State → Bool
 stateOk r s =
-    (leb (s .bp) (modelOf (r .model) .«highest_bp») && leb (s .busy) (longestOf r))
+    ((leb (s .bp) (modelOf (r .model) .«highest_bp») && configOk (modelOf (r .model) .register) (s .config)) && leb (s .busy) (longestOf r))
     && (eqb (s .busy) 0 || (s .wel && not (s .asleep)))
 
--- 128·SRWD + 4·BP + 2·WEL + WIP, and WIP is 1 exactly when busy time is left (000 L250-253, 004 M289)
+-- 128·SRWD + 4·BP + 2·WEL + WIP, and WIP is 1 exactly when busy time is left (000 L250-253, 004 M289, 003 L813-816)
 abbrev pub flag : Bool → ℕ → ℕ
 flag true value = value
 flag false value = 0
@@ -45,11 +61,15 @@ statusOf s = flag (s .srwd) 128 + (4 * s .bp + (flag (s .wel) 2 + flag (not (eqb
 
 -- power-on from the factory (000 L548)
 abbrev pub powerOn : State
-powerOn = record { srwd = false; bp = 0; wel = false; asleep = false; busy = 0 }
+powerOn = record { srwd = false; bp = 0; config = 0; wel = false; asleep = false; busy = 0 }
 
--- the sheets' maxima: 000 L521-525; 002 L807-812
+-- the sheets' maxima: 000 L521-525; 002 L807-812; 003 L2135-2141
 abbrev pub benchKH25L512 : Record
-benchKH25L512 = record { model = 1; «status_write» = 15000; page = 5000; sector = 120000; block = 2000000; chip = 2000000 }
+benchKH25L512 = record { model = 1; «status_write» = 15000; page = 5000; sector = 120000; block = 2000000; chip = 2000000; half = 0 }
 
 abbrev pub benchKH25L2006E : Record
-benchKH25L2006E = record { model = 2; «status_write» = 40000; page = 3000; sector = 200000; block = 2000000; chip = 3800000 }
+benchKH25L2006E = record { model = 2; «status_write» = 40000; page = 3000; sector = 200000; block = 2000000; chip = 3800000; half = 0 }
+
+abbrev pub benchKH25L12845G : Record
+benchKH25L12845G =
+    record { model = 3; «status_write» = 40000; page = 750; sector = 400000; block = 2000000; chip = 100000000; half = 1000000 }

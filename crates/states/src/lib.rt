@@ -1,9 +1,9 @@
 // Records, states and the status byte.
 ghost use mathlib.Core.Path.{_≡_};
 ghost use Prim.Native.Nat.{max, _<_, _≤_};
-ghost use Rattle.states.specs.States.{inRange, recordOk, longestOf, stateOk, flag as States·flag, statusOf, powerOn, benchKH25L512, benchKH25L2006E};
+ghost use Rattle.states.specs.States.{inRange, halfOk, recordOk, longestOf, configOk, stateOk, tbOf, flag as States·flag, statusOf, powerOn, benchKH25L512, benchKH25L2006E, benchKH25L12845G};
 
-// The model's number, and the five busy times in microseconds.
+// The model's number, and the busy times in microseconds; that of a half block's erase is 0 on a model that has none.
 pub struct Record {
     pub model: u32,
     pub status_write: u32,
@@ -11,15 +11,17 @@ pub struct Record {
     pub sector: u32,
     pub block: u32,
     pub chip: u32,
+    pub half: u32,
 }
 
-// SRWD, BP, the write enable latch, the deep power-down flag, and the microseconds still busy.
+// SRWD, BP, the write enable latch, the deep power-down flag, the microseconds still busy, and the configuration register.
 pub struct State {
     pub srwd: bool,
     pub bp: u8,
     pub wel: bool,
     pub asleep: bool,
     pub busy: u32,
+    pub config: u8,
 }
 
 fn in_range(us: u32) -> bool
@@ -28,14 +30,26 @@ fn in_range(us: u32) -> bool
     (1 <= us) & (us <= 1000000000)
 }
 
+// The sixth time is in its range on a model with the erase of a half block, and 0 on the others.
+fn half_ok(model: u32, us: u32) -> bool
+    ensures { λ r. ⌜ r ≡ halfOk model us ⌝ }
+{
+    let row = models::model_of(model);
+    if row.half_erase {
+        return in_range(us);
+    }
+    us == 0
+}
+
 // Whether the model exists and each busy time is in its range.
 pub fn record_ok(rec: Record) -> bool
     ensures { λ r. ⌜ r ≡ recordOk rec ⌝ }
 {
     models::is_model(rec.model)
-        & (in_range(rec.status_write)
+        & ((in_range(rec.status_write)
             & (in_range(rec.page)
                 & (in_range(rec.sector) & (in_range(rec.block) & in_range(rec.chip)))))
+            & half_ok(rec.model, rec.half))
 }
 
 fn larger(a: u32, b: u32) -> u32
@@ -50,8 +64,28 @@ pub fn longest(rec: Record) -> u32
 {
     larger(
         rec.status_write,
-        larger(rec.page, larger(rec.sector, larger(rec.block, rec.chip))),
+        larger(
+            rec.page,
+            larger(rec.sector, larger(rec.block, larger(rec.chip, rec.half))),
+        ),
     )
+}
+
+// The register's reserved bits, 5 and 2, are 0; where there is no register all are.
+fn config_ok(register: bool, config: u8) -> bool
+    ensures { λ r. ⌜ r ≡ configOk register config ⌝ }
+{
+    if register {
+        return (config / 32 % 2 == 0) & (config / 4 % 2 == 0);
+    }
+    config == 0
+}
+
+// Whether the protected range is at the bottom of the array: TB, bit 3 of the register.
+pub fn tb(st: State) -> bool
+    ensures { λ r. ⌜ r ≡ tbOf st ⌝ }
+{
+    st.config / 8 % 2 == 1
 }
 
 // Whether the state is valid under the record.
@@ -59,14 +93,15 @@ pub fn state_ok(rec: Record, st: State) -> bool
     ensures { λ r. ⌜ r ≡ stateOk rec st ⌝ }
 {
     let row = models::model_of(rec.model);
-    let level = st.bp <= row.highest_bp;
+    let level = (st.bp <= row.highest_bp) & config_ok(row.register, st.config);
     if st.busy == 0 {
         return level;
     }
     (level & (st.busy <= longest(rec))) & (st.wel & !st.asleep)
 }
 
-fn flag(on: bool, value: u8) -> u8
+// The value where the flag is on, and 0 where it is off.
+pub fn flag(on: bool, value: u8) -> u8
     ensures { λ r. ⌜ (r ≡ States·flag on value) × (r ≤ value) ⌝ }
 {
     if on { value } else { 0 }
@@ -87,6 +122,7 @@ pub fn power_on() -> State
     State {
         srwd: false,
         bp: 0,
+        config: 0,
         wel: false,
         asleep: false,
         busy: 0,
@@ -104,6 +140,7 @@ pub fn bench_kh25l512() -> Record
         sector: 120000,
         block: 2000000,
         chip: 2000000,
+        half: 0,
     }
 }
 
@@ -118,5 +155,21 @@ pub fn bench_kh25l2006e() -> Record
         sector: 200000,
         block: 2000000,
         chip: 3800000,
+        half: 0,
+    }
+}
+
+// The bench record of model 3.
+pub fn bench_kh25l12845g() -> Record
+    ensures { λ r. ⌜ r ≡ benchKH25L12845G ⌝ }
+{
+    Record {
+        model: 3,
+        status_write: 40000,
+        page: 750,
+        sector: 400000,
+        block: 2000000,
+        chip: 100000000,
+        half: 1000000,
     }
 }

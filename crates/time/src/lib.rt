@@ -33,6 +33,7 @@ fn cycle(st: State) -> State
     State {
         srwd: st.srwd,
         bp: st.bp,
+        config: st.config / 8 % 2 * 8,
         wel: false,
         asleep: false,
         busy: 0,

@@ -1,12 +1,16 @@
--- Addresses, sectors, blocks and pages: 01, "Units" (000 L173-179, 002 L208-223). Assumes nothing.
+-- Addresses, sectors, half blocks, blocks and pages: 01, "Units" (000 L173-179, 002 L208-223, 003 L346-394). Assumes nothing.
 use Prim.Native.Nat.{ℕ, _*_, _/_, _%_}
 use Rattle.units.specs.declared.Address.{Address}
 use Rattle.units.specs.declared.Sector.{Sector}
+use Rattle.units.specs.declared.HalfBlock.{HalfBlock}
 use Rattle.units.specs.declared.Block.{Block}
 
--- a sector is 4,096 bytes, a block 65,536, a page 256
+-- a sector is 4,096 bytes, a half block 32,768, a block 65,536, a page 256
 abbrev pub sectorOf : Address → Sector
 sectorOf a = record { 0 = a .0 / 4096 }
+
+abbrev pub halfBlockOf : Address → HalfBlock
+halfBlockOf a = record { 0 = a .0 / 32768 }
 
 abbrev pub blockOf : Address → Block
 blockOf a = record { 0 = a .0 / 65536 }
@@ -17,12 +21,18 @@ pageStart a = a .0 / 256 * 256
 abbrev pub pageOffset : Address → ℕ
 pageOffset a = a .0 % 256
 
--- so a block is 16 sectors
+-- so a block is 16 sectors, and two half blocks
 abbrev pub blockOfSector : Sector → Block
 blockOfSector s = record { 0 = s .0 / 16 }
 
+abbrev pub blockOfHalf : HalfBlock → Block
+blockOfHalf h = record { 0 = h .0 / 2 }
+
 abbrev pub sectorStart : Sector → ℕ
 sectorStart s = s .0 * 4096
+
+abbrev pub halfBlockStart : HalfBlock → ℕ
+halfBlockStart h = h .0 * 32768
 
 abbrev pub blockStart : Block → ℕ
 blockStart b = b .0 * 65536

@@ -1,12 +1,14 @@
-// The numbers of the sheets as kinds of their own: addresses, sectors and blocks.
+// The numbers of the sheets as kinds of their own: addresses, sectors, half blocks and blocks.
 ghost use mathlib.Core.Path.{_≡_};
 ghost use Prim.Native.Nat.{_<_};
-ghost use Rattle.units.specs.Kinds.{sectorOf, blockOf, pageStart, pageOffset, blockOfSector, sectorStart, blockStart};
+ghost use Rattle.units.specs.Kinds.{sectorOf, halfBlockOf, blockOf, pageStart, pageOffset, blockOfSector, blockOfHalf, sectorStart, halfBlockStart, blockStart};
 
-// A byte address, a sector number and a block number: three kinds, so that none passes for another.
+// A byte address, and the numbers of a sector, of a half block of 32 KiB and of a block: four kinds, so that none passes for another.
 pub struct Address(pub u32);
 
 pub struct Sector(pub u32);
+
+pub struct HalfBlock(pub u32);
 
 pub struct Block(pub u32);
 
@@ -16,6 +18,13 @@ impl Address {
         ensures { λ r. ⌜ r ≡ sectorOf self ⌝ }
     {
         Sector(self.0 / 4096)
+    }
+
+    // The half block that holds it.
+    pub fn in_half_block(self) -> HalfBlock
+        ensures { λ r. ⌜ r ≡ halfBlockOf self ⌝ }
+    {
+        HalfBlock(self.0 / 32768)
     }
 
     // The block that holds it.
@@ -54,6 +63,23 @@ impl Sector {
         ensures { λ r. ⌜ r .0 ≡ sectorStart self ⌝ }
     {
         Address(self.0 * 4096)
+    }
+}
+
+impl HalfBlock {
+    // The block that holds the half block.
+    pub fn in_block(self) -> Block
+        ensures { λ r. ⌜ r ≡ blockOfHalf self ⌝ }
+    {
+        Block(self.0 / 2)
+    }
+
+    // Half blocks of 32-bit addresses are below 131,072.
+    pub fn first_address(self) -> Address
+        requires { ⌜ self .0 < 131072 ⌝ }
+        ensures { λ r. ⌜ r .0 ≡ halfBlockStart self ⌝ }
+    {
+        Address(self.0 * 32768)
     }
 }
 

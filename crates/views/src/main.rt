@@ -1,9 +1,9 @@
-// The page view of arrays of both models and of none: a row for each length and address, with how many cells the view has and what they hold.
+// The page view of arrays of models 1 and 2 and of none (an array of model 3 is too long for a stack): a row for each length and address, with how many cells the view has and what they hold.
 // Cell i holds i, plus 3 for each page before it and 7 for each block, modulo 256.
 use libc::STDOUT_FILENO;
 use units::Address;
 
-// The two models' arrays, and lengths that no model has.
+// The arrays of models 1 and 2, and lengths that no model has.
 const LENGTHS: [usize; 8] = [65536, 262144, 0, 1, 256, 65535, 65537, 131072];
 
 // The first page, one in the middle and the last of each model, and addresses beyond the array.

@@ -19,7 +19,7 @@ returns c =
 returns-2 : tie.Need-returns-2
 returns-2 c =
     let a = c .before .before .before .before .before .before .before .before .args in
-    refuse (a .rec) (chipOf (a .st) (a .array .now)) (sentOf (a .bytes .now) (a .tail) (a .wp) (a .out .now)) (c .before .before .before .before .before .before .before .before .pre) (c .before .before .before .before .head .ensures) (c .before .before .before .said .ensures) (sym (c .before .before .is-done .ensures) ∙ c .before .if1 .left) (c .quiet .ensures)
+    refuse (a .rec) (chipOf (a .st) (a .array .now)) (sentOf (a .bytes .now) (a .tail) (a .wp) (a .out .now)) (c .before .before .before .before .before .before .before .before .pre) (c .before .before .before .before .head .ensures) (c .before .before .before .said .ensures) (sym (c .before .before .is-done .ensures) ∙ c .before .if1 .left) (c .refuse .ensures)
 
 pub spoken-spec : {M : Type 1} → statement M
 spoken-spec =

@@ -1,5 +1,7 @@
 -- `commands::decode` meets its contract. Assumes nothing.
+use mathlib.Core.Path.{_∙_}
 use borrow.Author.Tests.{ne-eqb}
+use borrow.Author.Needs.{needs}
 use Rattle.commands.specs.Commands.{decodeOf}
 use Rattle.commands.proofs.decode.Statement.{statement}
 use Rattle.commands.proofs.decode.Tie as tie
@@ -66,13 +68,10 @@ returns-15 c = rw (c .match .keys15)
 
 returns-16 : tie.Need-returns-16
 unfolding decodeOf
-returns-16 c = rw (c .match .keys16)
-
-returns-17 : tie.Need-returns-17
-unfolding decodeOf
-returns-17 c =
-    let r = c .match .rest in
-    simp (
+returns-16 c =
+    let r = c .before .match .rest in
+    c .own .ensures
+    ∙ simp (
       ne-eqb _ _ (r .1),
       ne-eqb _ _ (r .0 .1),
       ne-eqb _ _ (r .0 .0 .1),
@@ -88,13 +87,13 @@ returns-17 c =
       ne-eqb _ _ (r .0 .0 .0 .0 .0 .0 .0 .0 .0 .0 .0 .0 .1),
       ne-eqb _ _ (r .0 .0 .0 .0 .0 .0 .0 .0 .0 .0 .0 .0 .0 .1),
       ne-eqb _ _ (r .0 .0 .0 .0 .0 .0 .0 .0 .0 .0 .0 .0 .0 .0 .1),
-      ne-eqb _ _ (r .0 .0 .0 .0 .0 .0 .0 .0 .0 .0 .0 .0 .0 .0 .0 .1),
     )
 
 pub decode-spec : {M : Type 1} → statement M
 decode-spec =
     tie.close
     (tie.spec
+    (λ c κs. search needs)
     returns
     returns-2
     returns-3
@@ -110,5 +109,4 @@ decode-spec =
     returns-13
     returns-14
     returns-15
-    returns-16
-    returns-17)
+    returns-16)

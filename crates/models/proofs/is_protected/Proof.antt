@@ -9,7 +9,7 @@ use Rattle.models.proofs.is_protected.Tie as tie
 add-result : tie.Need-add-result
 add-result c =
     let s = c .before .before .before in
-    rw (s .range-of .ensures) (record { fits = omega (arith, range-small (s .before .args .number) (s .before .args .bp)) })
+    rw (s .range-of .ensures) (record { fits = omega (arith, range-small (s .before .args .number) (s .before .args .bottom) (s .before .args .bp)) })
 
 returns : tie.Need-returns
 unfolding isProtected

@@ -1,19 +1,47 @@
 -- `pod::gwo_power_cycle` meets its contract. Assumes nothing.
-use Rattle.pod.proofs.Calls.{fits-cycle, answers-cycle}
-use Rattle.pod.specs.Calls.{recordOf}
+use mathlib.Core.Path.{_≡_, sym, _∙_}
+use mathlib.Core.Bool.{true, false}
 use borrow.Author.Needs.{needs}
+use borrow.Author.Tests.{not-true, not-false}
+use Rattle.pod.specs.Packing.{isPacking}
+use Rattle.pod.specs.Calls.{recordOf}
+use Rattle.pod.proofs.Packing.{packing-length, unpack-read}
+use Rattle.pod.proofs.Calls.{bad-bytes-cycle, fits-cycle, answers-cycle}
 use Rattle.pod.proofs.gwo_power_cycle.Statement.{statement}
 use Rattle.pod.proofs.gwo_power_cycle.Tie as tie
 
-keep-requires : tie.Need-keep-requires
-keep-requires c κs =
-    let given = c .before .before .before .before .before .before .before .args in
-    fits-cycle (recordOf (given .model) (given .status-us) (given .page-us) (given .sector-us) (given .block-us) (given .chip-us)) (given .state .now) (c .before .before .before .before .before .record-of .ensures) (c .before .before .before .unpack .ensures) (c .before .before .power-cycle .ensures)
-
 returns : tie.Need-returns
 returns c =
-    let given = c .before .before .before .before .before .before .before .before .before .before .args in
-    answers-cycle (recordOf (given .model) (given .status-us) (given .page-us) (given .sector-us) (given .block-us) (given .chip-us)) (given .state .now) (c .before .before .before .before .before .before .before .before .record-of .ensures) (c .before .before .before .before .before .before .unpack .ensures) (c .before .before .before .before .before .power-cycle .ensures)
+    let t = c .before .before in
+    let given = t .before .before .before .before .before .args in
+    bad-bytes-cycle (recordOf (given .model) (given .status-us) (given .page-us) (given .sector-us) (given .block-us) (given .chip-us) (given .half-us)) (given .state .now) true (t .before .before .before .record-of .ensures) (sym (t .before .is-packed .ensures) ∙ not-true _ (t .if1 .taken)) (sym (c .before .record-ok .ensures) ∙ c .if2 .taken)
+
+returns-2 : tie.Need-returns-2
+returns-2 c =
+    let t = c .before .before in
+    let given = t .before .before .before .before .before .args in
+    bad-bytes-cycle (recordOf (given .model) (given .status-us) (given .page-us) (given .sector-us) (given .block-us) (given .chip-us) (given .half-us)) (given .state .now) false (t .before .before .before .record-of .ensures) (sym (t .before .is-packed .ensures) ∙ not-true _ (t .if1 .taken)) (sym (c .before .record-ok .ensures) ∙ c .if2 .left)
+
+-- the bytes are a packing
+packed : (c : tie.Else1) → (let given = c .before .before .before .before .before .args in isPacking (given .state .now) ≡ true)
+packed c = sym (c .before .is-packed .ensures) ∙ not-false _ (c .if1 .left)
+
+unpack-requires : tie.Need-unpack-requires
+unpack-requires c κs = packing-length _ (packed (c .before))
+
+keep-requires : tie.Need-keep-requires
+keep-requires c κs =
+    let u = c .before .before .before in
+    let e = u .before .before in
+    let given = e .before .before .before .before .before .args in
+    fits-cycle (recordOf (given .model) (given .status-us) (given .page-us) (given .sector-us) (given .block-us) (given .chip-us) (given .half-us)) (given .state .now) (e .before .before .before .record-of .ensures) (u .unpack .ensures ∙ sym (unpack-read _ (packed e))) (c .before .before .power-cycle .ensures)
+
+returns-3 : tie.Need-returns-3
+returns-3 c =
+    let u = c .before .before .before .before .before .before in
+    let e = u .before .before in
+    let given = e .before .before .before .before .before .args in
+    answers-cycle (recordOf (given .model) (given .status-us) (given .page-us) (given .sector-us) (given .block-us) (given .chip-us) (given .half-us)) (given .state .now) (e .before .before .before .record-of .ensures) (u .unpack .ensures ∙ sym (unpack-read _ (packed e))) (c .before .before .before .before .before .power-cycle .ensures)
     (c .before .before .keep .ensures .0) (c .before .before .keep .ensures .1)
 
 pub gwo-power-cycle-spec : {M : Type 1} → statement M
@@ -23,6 +51,12 @@ gwo-power-cycle-spec =
     (λ c κs. search needs)
     (λ c κs. search needs)
     (λ c κs. search needs)
+    (λ c. search needs)
+    returns
+    (λ c. search needs)
+    returns-2
+    unpack-requires
+    (λ c κs. search needs)
     keep-requires
     (λ c. search needs)
-    returns)
+    returns-3)

@@ -1,28 +1,36 @@
 -- `pod::keep` meets its contract. Assumes nothing.
-use mathlib.Core.Path.{_≡_, sym, _∙_}
-use mathlib.Core.Bool.{true, false}
-use borrow.Author.Tests.{eq-eqb, ne-eqb}
-use Rattle.answers.specs.Answers.{isDone}
-use Rattle.pod.specs.Calls.{keptOf}
+use mathlib.Core.Path.{_≡_, sym, ap, _∙_}
+use mathlib.Core.Bool.{Bool, true, false, _||_}
+use Prim.Native.Nat.{ℕ}
+use lib.Dec.{eqb}
+use Rattle.answers.specs.Answers.{numberOf}
+use Rattle.answers.specs.declared.Answer.{Answer}
+use Rattle.pod.specs.Calls.{mayMove, keptOf}
 use borrow.Author.Needs.{needs}
 use Rattle.pod.proofs.keep.Statement.{statement}
 use Rattle.pod.proofs.keep.Tie as tie
 
+-- the number's test is the answer's
+moves-if : (a : Answer) (n : ℕ) (b : Bool) → n ≡ numberOf a → (eqb n 0 || eqb n 17) ≡ b → mayMove a ≡ b
+moves-if a n b e t = ap (λ (k : ℕ). eqb k 0 || eqb k 17) (sym e) ∙ t
+
 pack-requires : tie.Need-pack-requires
 pack-requires c κs =
-    let d : isDone (c .before .before .before .before .args .answer) ≡ true = eq-eqb _ 0 (sym (c .before .before .number-of .ensures) ∙ c .before .if1 .taken) in
-    (c .before .before .before .before .pre .level d, c .before .before .before .before .pre .room d)
+    let given = c .before .before .before .before in
+    let d = moves-if (given .args .answer) _ true (c .before .before .number-of .ensures) (c .before .if1 .taken) in
+    (given .pre .level d, given .pre .room d)
 
 returns : tie.Need-returns
 unfolding keptOf
 returns c =
-    let d : isDone (c .before .before .before .before .before .before .before .args .answer) ≡ true = eq-eqb _ 0 (sym (c .before .before .before .before .before .number-of .ensures) ∙ c .before .before .before .before .if1 .taken) in
-    (c .before .before .before .before .before .number-of .ensures, c .before .before .pack .ensures ∙ rw d)
+    let n = c .before .before .before .before .before in
+    let d = moves-if (n .before .before .args .answer) _ true (n .number-of .ensures) (c .before .before .before .before .if1 .taken) in
+    (n .number-of .ensures, c .before .before .pack .ensures ∙ rw d)
 
 returns-2 : tie.Need-returns-2
 unfolding keptOf
 returns-2 c =
-    let d : isDone (c .before .before .before .args .answer) ≡ false = ne-eqb _ 0 (λ e. c .if1 .left (c .before .number-of .ensures ∙ e)) in
+    let d = moves-if (c .before .before .before .args .answer) _ false (c .before .number-of .ensures) (c .if1 .left) in
     (c .before .number-of .ensures, rw d)
 
 pub keep-spec : {M : Type 1} → statement M

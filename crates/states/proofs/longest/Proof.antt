@@ -8,10 +8,10 @@ use Rattle.states.proofs.longest.Tie as tie
 returns : tie.Need-returns
 unfolding longestOf
 returns c =
-    let a = c .before .before .before in
-    rw (c .larger4 .ensures, c .before .larger3 .ensures, c .before .before .larger2 .ensures, a .larger .ensures, max-zero (a .before .args .rec .chip))
+    let a = c .before .before .before .before in
+    rw (c .larger5 .ensures, c .before .larger4 .ensures, c .before .before .larger3 .ensures, c .before .before .before .larger2 .ensures, a .larger .ensures, max-zero (a .before .args .rec .half))
 
 pub longest-spec : {M : Type 1} → statement M
 longest-spec =
     tie.close
-    (tie.spec (λ c κs. search needs) (λ c κs. search needs) (λ c κs. search needs) (λ c κs. search needs) returns)
+    (tie.spec (λ c κs. search needs) (λ c κs. search needs) (λ c κs. search needs) (λ c κs. search needs) (λ c κs. search needs) returns)

@@ -10,12 +10,13 @@ unfolding recordOk
 returns c =
     let b = c .before .before in
     let a = b .before .before in
-    rw (a .before .is-model .ensures, a .in-range .ensures, b .before .in-range2 .ensures, b .in-range3 .ensures, c .before .in-range4 .ensures, c .in-range5 .ensures, and-true (inRange (a .before .before .args .rec .chip)))
+    rw (a .before .before .is-model .ensures, a .before .in-range .ensures, a .in-range2 .ensures, b .before .in-range3 .ensures, b .in-range4 .ensures, c .before .in-range5 .ensures, c .half-ok .ensures, and-true (inRange (a .before .before .before .args .rec .chip)))
 
 pub record-ok-spec : {M : Type 1} → statement M
 record-ok-spec =
     tie.close
     (tie.spec
+    (λ c κs. search needs)
     (λ c κs. search needs)
     (λ c κs. search needs)
     (λ c κs. search needs)

@@ -11,12 +11,15 @@ use Rattle.states.proofs.state_ok.Tie as tie
 returns : tie.Need-returns
 unfolding stateOk
 returns c =
-    let a = c .before .before .before .before .before .args in
-    rw (c .if1 .taken, c .before .before .before .before .model-of .ensures, leb·zero (longestOf (a .rec))) (sym (and-true _ ∙ and-true _))
+    let m = c .before .before .before .before .before in
+    let a = m .before .args in
+    rw (c .if1 .taken, c .before .before .config-ok .ensures, m .model-of .ensures, leb·zero (longestOf (a .rec))) (sym (and-true _ ∙ and-true _))
 
 returns-2 : tie.Need-returns-2
 unfolding stateOk
-returns-2 c = rw (ne-eqb _ _ (c .before .before .before .before .if1 .left), c .before .before .before .longest .ensures, c .before .before .before .before .before .before .before .before .model-of .ensures)
+returns-2 c =
+    let k = c .before .before .before .before .before .before in
+    rw (ne-eqb _ _ (c .before .before .before .before .if1 .left), c .before .before .before .longest .ensures, k .config-ok .ensures, k .before .before .before .model-of .ensures)
 
 pub state-ok-spec : {M : Type 1} → statement M
-state-ok-spec = tie.close (tie.spec (λ c κs. search needs) returns (λ c κs. search needs) returns-2)
+state-ok-spec = tie.close (tie.spec (λ c κs. search needs) (λ c κs. search needs) returns (λ c κs. search needs) returns-2)

@@ -1,0 +1,21 @@
+-- `effects::config_written` meets its contract. Assumes nothing.
+use borrow.Author.Needs.{needs}
+use Rattle.effects.specs.Effects.{configWritten}
+use Rattle.effects.proofs.config_written.Statement.{statement}
+use Rattle.effects.proofs.config_written.Tie as tie
+
+returns : tie.Need-returns
+unfolding configWritten
+returns c = rw (c .before .flag .ensures .0, c .flag2 .ensures .0)
+
+pub config-written-spec : {M : Type 1} → statement M
+config-written-spec =
+    tie.close
+    (tie.spec
+    (λ c. search needs)
+    (λ c κs. search needs)
+    (λ c κs. search needs)
+    (λ c. search needs)
+    (λ c. search needs)
+    (λ c. search needs)
+    returns)

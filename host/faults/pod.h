@@ -1,0 +1,40 @@
+/* A pod with a fault: the independent model with a patch around it. */
+#ifndef POD_H
+#define POD_H
+
+#include "gwo.h"
+
+/* The arguments of gwo_frame, gwo_wait or gwo_power_cycle. */
+struct call {
+    struct gwo_record record;
+    uint8_t *state;
+    size_t state_len;
+    uint8_t *array;
+    size_t array_len;
+    const uint8_t *frame;
+    size_t frame_len;
+    uint32_t tail, wp;
+    uint8_t *out;
+    size_t out_len;
+    uint32_t *from, *count;
+    uint32_t us;
+};
+
+typedef uint32_t answers(const struct call *c);
+
+/* A pod answers its calls so; where it has no function it is right. */
+struct pod {
+    answers *frame, *wait, *power_cycle;
+};
+
+/* 1 to 11, and those of model 3, from 12 on. */
+enum { MISTAKES = 11, MISTAKES_OF_MODEL_3 = 9 };
+extern const struct pod mistakes[MISTAKES], mistakes_of_model_3[MISTAKES_OF_MODEL_3];
+
+/* Without a fault. */
+answers right_frame, right_wait, right_power_cycle;
+
+/* The address in a frame of 4 bytes or more, modulo the array. */
+uint32_t address_in(const struct call *c);
+
+#endif

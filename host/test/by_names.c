@@ -1,0 +1,82 @@
+/*
+ * Firmware from the time when the header had two chips and the record five times. It fills the
+ * record by field names and calls through the gwo_record_ functions, and is not to be edited: with
+ * a later header it has to compile without a warning and to run as it did.
+ */
+#include "gwo.h"
+
+#include <stdio.h>
+#include <string.h>
+
+static const struct gwo_record kh25l512 = {
+    .model = 1, .status_us = 15000, .page_us = 5000, .sector_us = 120000, .block_us = 2000000, .chip_us = 2000000};
+
+/* Typical times in place of the longest. */
+static const struct gwo_record kh25l2006e = {
+    .model = 2, .chip_us = 2000000, .block_us = 400000, .sector_us = 40000, .page_us = 1400, .status_us = 5000};
+
+static const struct gwo_record *chip;
+static uint8_t state[GWO_STATE_LENGTH], array[GWO_MODEL_2_LENGTH], in[16];
+static int failed;
+
+static void check(int ok, const char *what)
+{
+    if (ok)
+        return;
+    printf("by names: FAIL: model %lu, %s\n", (unsigned long)chip->model, what);
+    failed = 1;
+}
+
+/* CS# low, n bytes out and in, CS# high. */
+static uint32_t transfer(const uint8_t *out, size_t n)
+{
+    uint32_t from, count;
+
+    return gwo_record_frame(chip, state, sizeof state, array, gwo_array_length(chip->model), out, n, 0, 1, in, n,
+                            &from, &count);
+}
+
+/* 06 and the frame; the chip is busy for exactly so long. */
+static void write_and_wait(const uint8_t *out, size_t n, uint32_t us, const char *what)
+{
+    static const uint8_t write_enable[] = {0x06};
+
+    check(transfer(write_enable, 1) == GWO_DONE, "06");
+    check(transfer(out, n) == GWO_DONE, what);
+    check(gwo_record_wait(chip, state, sizeof state, us - 1) == GWO_DONE, "a wait");
+    check(transfer(write_enable, 1) == GWO_BUSY, "06 one microsecond early");
+    check(gwo_record_wait(chip, state, sizeof state, 1) == GWO_DONE, "the last microsecond");
+}
+
+/* Every kind of write, a read, and a power cycle; the status write protects the chip at the end. */
+static void use(const struct gwo_record *record)
+{
+    static const uint8_t chip_erase[] = {0xC7}, block_erase[] = {0x52, 0x00, 0x80, 0x00},
+                         sector_erase[] = {0x20, 0x00, 0x20, 0x00}, program[] = {0x02, 0x00, 0x20, 0xFE, 'o', 'k'},
+                         read[] = {0x03, 0x00, 0x20, 0xFE, 0, 0, 0}, protect[] = {0x01, 0x0C}, status[] = {0x05, 0};
+
+    chip = record;
+    memset(state, 0, sizeof state);
+    memset(array, 0, sizeof array);
+    write_and_wait(chip_erase, 1, record->chip_us, "C7");
+    write_and_wait(block_erase, 4, record->block_us, "52");
+    write_and_wait(sector_erase, 4, record->sector_us, "20");
+    write_and_wait(program, 6, record->page_us, "02");
+    check(transfer(read, 7) == GWO_DONE && memcmp(in + 4, "ok\xFF", 3) == 0, "03");
+    write_and_wait(protect, 2, record->status_us, "01");
+    check(gwo_record_power_cycle(chip, state, sizeof state) == GWO_DONE, "a power cycle");
+    check(transfer(status, 2) == GWO_DONE && in[1] == 0x0C, "05");
+}
+
+int main(void)
+{
+    struct gwo_record slow = gwo_bench_model_1;
+
+    slow.sector_us = 900000;
+    use(&kh25l512);
+    use(&kh25l2006e);
+    use(&gwo_bench_model_2);
+    use(&slow);
+    printf("by names: firmware of the five times %s\n", failed ? "failed" : "compiles without a warning and runs");
+    return failed;
+}

@@ -1,0 +1,88 @@
+/* What the random calls met, so that a run that tested too little is seen. */
+#include "compare.h"
+
+#include <stdio.h>
+
+/* How often each number was answered and each command accepted, by model. */
+static unsigned long answered[MODELS + 1][32], accepted[MODELS + 1][256];
+
+/* What only model 3 has, and how often it was met. */
+enum rare { TWO_BYTES, TB_KEPT, REGISTER_WHILE_BUSY, TOP_REFUSED, BOTTOM_REFUSED, RARE };
+static unsigned long met[RARE];
+
+/* Counts what a frame on model 3 met, by the state before it; its packed bytes 0 and 2 have WIP and TB. */
+static void note_rare(const struct call *c, const uint8_t *state, uint32_t number)
+{
+    const uint8_t *frame = last_of(&model.frame, c->frame_len);
+    int tb = (state[2] & 0x08) != 0;
+
+    if (number == 0 && frame[0] == 0x01 && c->frame_len == 3) {
+        met[TWO_BYTES]++;
+        met[TB_KEPT] += tb && (frame[2] & 0x08) == 0;
+    }
+    met[REGISTER_WHILE_BUSY] += number == 0 && frame[0] == 0x15 && (state[0] & 1) != 0;
+    met[TOP_REFUSED] += number == 17 && !tb;
+    met[BOTTOM_REFUSED] += number == 17 && tb;
+}
+
+void note(const struct call *c, const uint8_t *state, uint32_t number)
+{
+    uint32_t chip = c->record.model <= MODELS ? c->record.model : 0;
+
+    answered[chip][number % 32]++;
+    if (c->kind != FRAME || (number != 0 && number != 17))
+        return;
+    if (number == 0)
+        accepted[chip][*last_of(&model.frame, c->frame_len)]++;
+    if (chip == 3)
+        note_rare(c, state, number);
+}
+
+static void numbers_met(uint32_t chip)
+{
+    static const uint8_t numbers[] = {0, 1, 2, 3, 4, 5, 10, 11, 12, 13, 14, 15, 16, 17};
+    size_t i;
+
+    printf("  model %lu, answers:", (unsigned long)chip);
+    for (i = 0; i < sizeof numbers; i++) {
+        printf(" %u:%lu", numbers[i], answered[chip][numbers[i]]);
+        if (answered[chip][numbers[i]] == 0)
+            fail("model %lu: number %u was never answered", (unsigned long)chip, numbers[i]);
+    }
+    printf("\n");
+}
+
+/* The last command is model 3's. */
+static void commands_met(uint32_t chip)
+{
+    static const uint8_t commands[] = {0x01, 0x02, 0x03, 0x04, 0x05, 0x06, 0x0B, 0x20, 0x52,
+                                       0x60, 0x90, 0x9F, 0xAB, 0xB9, 0xC7, 0xD8, 0x15};
+    size_t i;
+
+    printf("  accepted:");
+    for (i = 0; i < sizeof commands - (chip == 3 ? 0 : 1); i++) {
+        printf(" %02X:%lu", commands[i], accepted[chip][commands[i]]);
+        if (accepted[chip][commands[i]] == 0)
+            fail("model %lu: command %02X was never accepted", (unsigned long)chip, commands[i]);
+    }
+    printf("\n");
+}
+
+void check_variety(void)
+{
+    static const char *const names[RARE] = {"01 with two data bytes", "01 that would clear TB", "15 while busy",
+                                            "17 with TB 0", "17 with TB 1"};
+    uint32_t chip;
+    int i;
+
+    for (chip = 1; chip <= MODELS; chip++) {
+        numbers_met(chip);
+        commands_met(chip);
+    }
+    for (i = 0; i < RARE; i++) {
+        printf("%s%s: %lu", i == 0 ? "  on model 3: " : ", ", names[i], met[i]);
+        if (met[i] == 0)
+            fail("%s was never met", names[i]);
+    }
+    printf("\n");
+}

@@ -1,0 +1,35 @@
+/* The two halves of twelve.c. */
+#ifndef TWELVE_H
+#define TWELVE_H
+
+#include "gwo.h"
+#include "rig.h"
+
+/* One run of the calls. */
+struct run {
+    struct gwo_record record;
+    uint8_t before[8];
+    uint32_t address; /* of the array, or an image of it above */
+    const uint8_t *bytes;
+    size_t n;
+    int shorter;      /* the number of the wait that is one short, 0: none */
+};
+
+/* How many there were. */
+extern unsigned long runs;
+
+void put_state(uint8_t *p, unsigned status, unsigned asleep, unsigned config, uint32_t busy);
+
+/* The longest of the times that count. */
+uint32_t longest(const struct gwo_record *r);
+
+/* The array of a model: random cells. */
+void lend_array(uint32_t model);
+
+/* The twelve calls as they are, and with each of the four waits one microsecond shorter. */
+void run_all_ways(struct run r);
+
+/* Every cell of a model's array is as it was before the runs. */
+void all_put_back(uint32_t model);
+
+#endif
