@@ -89,7 +89,7 @@ by_names() {
 example() {
     "$host" run "$bin/example" >"$GWO_BUILD/example.got" &&
         diff "$here/example/output.txt" "$GWO_BUILD/example.got" &&
-        echo "example: the first record of last spring's table is overwritten, the mended one is whole"
+        echo "example: last spring's fold is said and overwrites the table's first record, the mended table is whole"
 }
 
 # The C of README.md, as it stands there, prints what is said there.

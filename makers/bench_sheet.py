@@ -25,6 +25,7 @@ class Sheet(Cases):
     def row(self, line, note, answer, first, driven):
         if note is None:
             self.lines.append(line)
+            self.chip.folded = False
             return
         super().row(line, note, answer, first, driven)
         chip = self.chip
@@ -137,7 +138,7 @@ def main():
     with open("crates/bench_sheet/stdin", "w", newline="") as f:
         f.write("\n".join(b.lines) + "\n")
     with open("crates/bench_sheet/stdout", "w", newline="") as f:
-        f.write("step|case|wanted|answer\tfrom\tcount\tbytes\tstatus\tasleep\tbusy\tcells\n")
+        f.write("step|case|wanted|answer\tfrom\tcount\tbytes\tnote\tstatus\tasleep\tbusy\tcells\n")
         f.write("\n".join(b.rows) + "\n")
 
 

@@ -27,6 +27,7 @@ class Chip:
         self.times = TIMES.get(model, TIMES[1])
         self.cells = bytearray(b"\xff" * (BLOCK * blocks))
         self.srwd, self.bp, self.wel, self.asleep, self.busy = 0, 0, 0, 0, 0
+        self.folded = False
 
     def status(self):
         return 128 * self.srwd + 4 * self.bp + 2 * self.wel + (1 if self.busy else 0)
@@ -144,6 +145,7 @@ class Chip:
         return 0, first, driven
 
     def program(self, a, sent):
+        self.folded = any(a % PAGE + i >= PAGE for i in range(len(sent)))
         last = {}
         for i, byte in enumerate(sent):
             last[(a + i) % PAGE] = byte
@@ -191,6 +193,8 @@ class Cases:
         c = self.chip
         shown = driven if len(driven) <= 300 else driven[-16:]
         fields = ("%d\t%d\t%s" % (first, len(driven), shown.hex().upper())) if driven else "-\t-\t-"
+        fields += "\tfold" if c.folded else "\t-"
+        c.folded = False
         n = len(c.cells)
         eight = bytes(c.cells[(self.at + i) % n] for i in range(8)) if n else b""
         self.lines.append("%s|%s" % (line, note))
@@ -431,7 +435,7 @@ def main():
     with open("crates/frames/stdin", "w", newline="") as f:
         f.write(text)
     with open("crates/frames/stdout", "w", newline="") as f:
-        f.write("step|model, status before|answer\tfrom\tcount\tbytes\tstatus\tasleep\tbusy\tcells\n")
+        f.write("step|model, status before|answer\tfrom\tcount\tbytes\tnote\tstatus\tasleep\tbusy\tcells\n")
         f.write("\n".join(b.rows) + "\n")
 
 

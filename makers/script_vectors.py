@@ -49,7 +49,7 @@ def bad():
     yield from (b"W\t4294967296", b"W\t4294967300", b"W\t9999999999", b"W\t42949672950", b"W\t18446744073709551615")
     yield from (b"W\t18446744073709551616", b"W\t18446744073709551617", b"W\t99999999999999999999", b"W\t0x10", b"W\t1e3", b"W\tA", b"W\t1/", b"W\t1:")
     # letters
-    yield from (b"f\t1\t0\t06", b"w\t1", b"p", b"X", b"Q\t1", b"E\t1\t0\t06", b"G\t1\t0\t06", b"# a note", b"//", b"line\tanswer\tfrom\tbytes")
+    yield from (b"f\t1\t0\t06", b"w\t1", b"p", b"X", b"Q\t1", b"E\t1\t0\t06", b"G\t1\t0\t06", b"# a note", b"//", b"line\tanswer\tfrom\tbytes\tnote")
     # other bytes
     yield from (b"F\t1\t0\t06\r", b"W\t1\r", b"P\r", b"\r", b"P\0", b"\0P", b"\0", b"F\t1\t0\t06\0", b"F\0001\t0\t06", b"W\t1\0", b" P", b"P ", b" ")
     yield from (b"\xff", b"\x80", b"F\t1\t0\t\xb06", b"W\t\xb1", b"\xd0", "W\t１".encode(), b"\x0b", b"\x7f", b"F\x09\x31\x0b0\t06")
@@ -100,12 +100,13 @@ def expected(number, line):
     if f:
         data = f[3].decode()
         row = (f[2].decode(), data) if data else ("-", "-")
-        return "%d\t0\t%s\t%s\nframe %s %s %d\n" % (number, *row, f[1].decode(), f[2].decode(), len(data) // 2)
+        note = "fold" if f[1] == b"1" else "-"  # the program's own rule: a frame with WP# high is noted
+        return "%d\t0\t%s\t%s\t%s\nframe %s %s %d\n" % (number, *row, note, f[1].decode(), f[2].decode(), len(data) // 2)
     if w and int(w[1]) <= 4294967295:
-        return "%d\t0\t-\t-\nwait %d\n" % (number, int(w[1]))
+        return "%d\t0\t-\t-\t-\nwait %d\n" % (number, int(w[1]))
     if line == b"P":
-        return "%d\t0\t-\t-\npower\n" % number
-    return "%d\t20\t-\t-\nbad\n" % number
+        return "%d\t0\t-\t-\t-\npower\n" % number
+    return "%d\t20\t-\t-\t-\nbad\n" % number
 
 
 def main():
@@ -113,7 +114,7 @@ def main():
     with open("crates/script_vectors/stdin", "wb") as f:
         f.write(b"\n".join(lines))
     with open("crates/script_vectors/stdout", "w", newline="") as f:
-        f.write("line\tanswer\tfrom\tbytes\n")
+        f.write("line\tanswer\tfrom\tbytes\tnote\n")
         for i, line in enumerate(lines):
             f.write(expected(i + 1, line))
 

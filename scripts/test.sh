@@ -7,7 +7,7 @@ set -u
 cd "$(dirname "$0")/.." || exit
 
 runner=${GWO_RUNNER:-target/bin/runner} # never quoted: it may be several words
-header=$'line\tanswer\tfrom\tbytes'
+header=$'line\tanswer\tfrom\tbytes\tnote'
 patience=30       # seconds for what has to come by itself
 most_memory=65536 # kB, an emulator's own memory included; the long line has more
 passed=0
@@ -73,9 +73,9 @@ finish() {
 # Each row is there before the next line is typed; a line typed in two halves is one line.
 typed_lines() {
     local well=0
-    start && printf 'F\t1\t0\t06\n' >&3 && row $'1\t0\t-\t-' &&
-        printf 'W\t5' >&3 && sleep 0.2 && printf '\n' >&3 && row $'2\t0\t-\t-' &&
-        printf 'F\t1\t0\t05' >&3 && sleep 0.2 && printf '00\n' >&3 && row $'3\t0\t1\t02' || well=1
+    start && printf 'F\t1\t0\t06\n' >&3 && row $'1\t0\t-\t-\t-' &&
+        printf 'W\t5' >&3 && sleep 0.2 && printf '\n' >&3 && row $'2\t0\t-\t-\t-' &&
+        printf 'F\t1\t0\t05' >&3 && sleep 0.2 && printf '00\n' >&3 && row $'3\t0\t1\t02\t-' || well=1
     finish || well=1
     return $well
 }
@@ -83,10 +83,10 @@ typed_lines() {
 # 100 MB without a newline are one bad line: one row, the state as before, and the line is not kept in memory.
 long_line() {
     local well=0
-    start && printf 'F\t1\t0\t06\n' >&3 && row $'1\t0\t-\t-' &&
+    start && printf 'F\t1\t0\t06\n' >&3 && row $'1\t0\t-\t-\t-' &&
         printf 'F\t1\t0\t04' >&3 && head -c 100000000 /dev/zero | timeout "$patience" tr '\0' 0 >&3 &&
-        printf '\n' >&3 && row $'2\t20\t-\t-' && small_enough &&
-        printf 'F\t1\t0\t0500\n' >&3 && row $'3\t0\t1\t02' || well=1
+        printf '\n' >&3 && row $'2\t20\t-\t-\t-' && small_enough &&
+        printf 'F\t1\t0\t0500\n' >&3 && row $'3\t0\t1\t02\t-' || well=1
     finish || well=1
     return $well
 }

@@ -120,7 +120,7 @@ differs() {
     ends 1 '' tools/compare.sh scripts/fold.txt "$work/log" || return 1
     printf 'line 10 differs: F\t1\t0\t030020000000000000000000\n' | diff -a - <(head -n 1 "$work/out") || return 1
     ends 1 '' tools/compare.sh scripts/fold.txt scripts/fold-mended.log || return 1
-    grep -q '2 more rows differ' "$work/out"
+    grep -q '3 more rows differ' "$work/out"
 }
 
 same() {

@@ -15,13 +15,6 @@
 #include <stdlib.h>
 #include <string.h>
 
-typedef uint32_t frame_call(uint32_t, uint32_t, uint32_t, uint32_t, uint32_t, uint32_t, uint32_t, uint8_t *, size_t,
-                            uint8_t *, size_t, const uint8_t *, size_t, uint32_t, uint32_t, uint8_t *, size_t,
-                            uint32_t *, uint32_t *);
-typedef uint32_t wait_call(uint32_t, uint32_t, uint32_t, uint32_t, uint32_t, uint32_t, uint32_t, uint8_t *, size_t,
-                           uint32_t);
-typedef uint32_t power_cycle_call(uint32_t, uint32_t, uint32_t, uint32_t, uint32_t, uint32_t, uint32_t, uint8_t *,
-                                  size_t);
 typedef void *copy_call(void *, const void *, size_t);
 typedef void *set_call(void *, int, size_t);
 
@@ -117,7 +110,7 @@ static uint8_t out[65600] __attribute__((aligned(4096)));
 static uint8_t state[GWO_STATE_LENGTH];
 static struct gwo_record record;
 static size_t array_len;
-static uint32_t from, count;
+static uint32_t from, count, fold;
 
 /* A number that is no model has the first one's record and array. */
 static void prepare(const struct row *r)
@@ -149,7 +142,7 @@ static STRETCH uint32_t count_frame(frame_call *f, const struct row *r, int stre
     MARK_START(stretch);
     answer = f(record.model, record.status_us, record.page_us, record.sector_us, record.block_us, record.chip_us,
                record.half_us, state, sizeof state, array, array_len, frame, r->frame_len, r->tail, r->wp,
-               out, r->frame_len, &from, &count);
+               out, r->frame_len, &from, &count, &fold);
     MARK_END(stretch, name);
     return answer;
 }

@@ -4,8 +4,9 @@
  * the sixth lies across a page end.
  *
  * The chip does not go on to the next page. A page program that runs past the end of
- * its page goes on at the start of the same page, over the first record of the table.
- * Run once as the firmware was last spring, and once mended.
+ * its page goes on at the start of the same page, over the first record of the table:
+ * it folds, and the model says so with its answer. Run once as the firmware was last
+ * spring, and once mended.
  */
 #include "gwo.h"
 
@@ -48,14 +49,15 @@ static void flash_power_on(struct flash *f)
     memset(f->array, 0xFF, sizeof f->array);
 }
 
-/* CS# low, n bytes out and in, CS# high. */
-static void transfer(struct flash *f, const uint8_t *out, uint8_t *in, size_t n)
+/* CS# low, n bytes out and in, CS# high; 1 where it was a program that folded. */
+static uint32_t transfer(struct flash *f, const uint8_t *out, uint8_t *in, size_t n)
 {
-    uint32_t from, count;
+    uint32_t from, count, fold;
 
     memset(in, 0, n);
-    stop_unless_done(gwo_record_frame(&f->record, f->state, sizeof f->state, f->array, sizeof f->array,
-                                      out, n, 0, 1, in, n, &from, &count));
+    stop_unless_done(gwo_record_frame_fold(&f->record, f->state, sizeof f->state, f->array, sizeof f->array,
+                                           out, n, 0, 1, in, n, &from, &count, &fold));
+    return fold;
 }
 
 static void write_enable(struct flash *f)
@@ -97,7 +99,7 @@ static void erase_sector(struct flash *f, uint32_t address)
     wait_until_ready(f);
 }
 
-/* One page program. */
+/* One page program; a fold is said at once. */
 static void program(struct flash *f, uint32_t address, const uint8_t *bytes, size_t n)
 {
     uint8_t frame[4 + RECORD_LENGTH], in[4 + RECORD_LENGTH];
@@ -105,7 +107,9 @@ static void program(struct flash *f, uint32_t address, const uint8_t *bytes, siz
 
     memcpy(frame + at, bytes, n);
     write_enable(f);
-    transfer(f, frame, in, at + n);
+    if (transfer(f, frame, in, at + n))
+        printf("  FOLD: %lu bytes at %04lX run past the page's end, on to the page's start\n", (unsigned long)n,
+               (unsigned long)address);
     wait_until_ready(f);
 }
 

@@ -12,12 +12,13 @@
 #include <stdlib.h>
 #include <string.h>
 
-enum { SCRIPT_WIDTH = 34, SHORT_WIDTH = 20, DIGITS = 32, ROW_FIELDS = 4 };
+enum { SCRIPT_WIDTH = 34, SHORT_WIDTH = 20, DIGITS = 32, ROW_FIELDS = 5 };
 
 /* A row of the log. */
 struct row {
     unsigned long number, answer, from;
     struct text bytes;
+    int folded;
 };
 
 /* How many lines there were of each kind. */
@@ -79,10 +80,17 @@ static int from_windows(struct text script)
     return ended > 0;
 }
 
-/* The four fields of a row; 0 where it has another number of them. */
+/* The note of a row; 0 where it is neither `fold` nor `-`. */
+static int read_note(const char *note, size_t n, struct row *row)
+{
+    row->folded = n == 4 && memcmp(note, "fold", 4) == 0;
+    return row->folded || (n == 1 && note[0] == '-');
+}
+
+/* The five fields of a row; 0 where it has another number of them, or another note. */
 static int read_row(struct text line, struct row *row)
 {
-    const char *field[ROW_FIELDS] = {line.at, NULL, NULL, NULL};
+    const char *field[ROW_FIELDS] = {line.at, NULL, NULL, NULL, NULL};
     size_t count = 1, i;
 
     for (i = 0; i < line.n; i++)
@@ -94,8 +102,8 @@ static int read_row(struct text line, struct row *row)
     row->answer = strtoul(field[1], NULL, 10);
     row->from = strtoul(field[2], NULL, 10);
     row->bytes.at = field[3];
-    row->bytes.n = (size_t)(line.at + line.n - field[3]);
-    return 1;
+    row->bytes.n = (size_t)(field[4] - 1 - field[3]);
+    return read_note(field[4], (size_t)(line.at + line.n - field[4]), row);
 }
 
 /* A line's number and text, shortened where it is long. */
@@ -110,7 +118,7 @@ static void show_line(unsigned long number, struct text line)
     printf("%5lu  %-*s", number, SCRIPT_WIDTH, shown);
 }
 
-/* The answer in words, and the bytes that were driven. */
+/* The answer in words, the bytes that were driven, and a fold. */
 static void show_answer(const struct row *row)
 {
     char shown[DIGITS + 4];
@@ -123,6 +131,8 @@ static void show_answer(const struct row *row)
         if (!whole)
             printf(" (%zu bytes)", row->bytes.n / 2);
     }
+    if (row->folded)
+        printf(", folded: past its page's end it went on at the page's start");
 }
 
 /* One line of the script with its row; 0 where the two cannot belong together. */

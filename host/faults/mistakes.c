@@ -9,6 +9,7 @@ static uint32_t says(const struct call *c, uint32_t number)
 {
     *c->from = 0;
     *c->count = 0;
+    *c->fold = 0;
     return number;
 }
 

@@ -15,7 +15,7 @@ uint32_t right_frame(const struct call *c)
 
     return ref_frame(r->model, r->status_us, r->page_us, r->sector_us, r->block_us, r->chip_us, r->half_us,
                      c->state, c->state_len, c->array, c->array_len, c->frame, c->frame_len, c->tail, c->wp,
-                     c->out, c->out_len, c->from, c->count);
+                     c->out, c->out_len, c->from, c->count, c->fold);
 }
 
 uint32_t right_wait(const struct call *c)
@@ -39,6 +39,8 @@ uint32_t address_in(const struct call *c)
     return ((uint32_t)c->frame[1] << 16 | (uint32_t)c->frame[2] << 8 | c->frame[3]) % (uint32_t)c->array_len;
 }
 
+enum { FIRST_OF_MODEL_3 = 1 + MISTAKES, FIRST_OF_FOLD = FIRST_OF_MODEL_3 + MISTAKES_OF_MODEL_3 };
+
 static const struct pod *choose_pod(void)
 {
     static const struct pod none;
@@ -47,10 +49,12 @@ static const struct pod *choose_pod(void)
 
     if (fault == 0)
         return &none;
-    if (fault >= 1 && fault <= MISTAKES)
+    if (fault >= 1 && fault < FIRST_OF_MODEL_3)
         return &mistakes[fault - 1];
-    if (fault > MISTAKES && fault <= MISTAKES + MISTAKES_OF_MODEL_3)
-        return &mistakes_of_model_3[fault - MISTAKES - 1];
+    if (fault >= FIRST_OF_MODEL_3 && fault < FIRST_OF_FOLD)
+        return &mistakes_of_model_3[fault - FIRST_OF_MODEL_3];
+    if (fault >= FIRST_OF_FOLD && fault < FIRST_OF_FOLD + MISTAKES_OF_FOLD)
+        return &mistakes_of_fold[fault - FIRST_OF_FOLD];
     printf("there is no fault %d\n", fault);
     exit(2);
 }
@@ -68,10 +72,10 @@ uint32_t gwo_frame(uint32_t model, uint32_t status_us, uint32_t page_us, uint32_
                    uint32_t block_us, uint32_t chip_us, uint32_t half_us,
                    uint8_t *state, size_t state_len, uint8_t *array, size_t array_len,
                    const uint8_t *frame, size_t frame_len, uint32_t tail, uint32_t wp,
-                   uint8_t *out, size_t out_len, uint32_t *from, uint32_t *count)
+                   uint8_t *out, size_t out_len, uint32_t *from, uint32_t *count, uint32_t *fold)
 {
     const struct call c = {{model, status_us, page_us, sector_us, block_us, chip_us, half_us}, state, state_len, array,
-                           array_len, frame, frame_len, tail, wp, out, out_len, from, count, 0};
+                           array_len, frame, frame_len, tail, wp, out, out_len, from, count, fold, 0};
 
     return pod()->frame != NULL ? pod()->frame(&c) : right_frame(&c);
 }

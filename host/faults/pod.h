@@ -16,7 +16,7 @@ struct call {
     uint32_t tail, wp;
     uint8_t *out;
     size_t out_len;
-    uint32_t *from, *count;
+    uint32_t *from, *count, *fold;
     uint32_t us;
 };
 
@@ -27,9 +27,10 @@ struct pod {
     answers *frame, *wait, *power_cycle;
 };
 
-/* 1 to 11, and those of model 3, from 12 on. */
-enum { MISTAKES = 11, MISTAKES_OF_MODEL_3 = 9 };
-extern const struct pod mistakes[MISTAKES], mistakes_of_model_3[MISTAKES_OF_MODEL_3];
+/* 1 to 11; those of model 3, from 12 on; and those of the fold, from 21 on. */
+enum { MISTAKES = 11, MISTAKES_OF_MODEL_3 = 9, MISTAKES_OF_FOLD = 4 };
+extern const struct pod mistakes[MISTAKES], mistakes_of_model_3[MISTAKES_OF_MODEL_3],
+    mistakes_of_fold[MISTAKES_OF_FOLD];
 
 /* Without a fault. */
 answers right_frame, right_wait, right_power_cycle;

@@ -1,6 +1,6 @@
 #!/bin/sh
-# Faulty pods (mistakes.c, mistakes_of_model_3.c) under the host tests: each must be caught by every test that is
-# named for it, by its exit status and a message; the same pod without a fault must pass them all.
+# Faulty pods (mistakes.c, mistakes_of_model_3.c, mistakes_of_fold.c) under the host tests: each must be caught by every
+# test that is named for it, by its exit status and a message; the same pod without a fault must pass them all.
 #   host/faults/run.sh
 # GWO_BUILD is where host/test.sh has left the tests' object files.
 set -eu
@@ -21,7 +21,7 @@ for source in "$here"/*.c; do
     "$host" cc -std=c99 -O2 -Wall -Wextra -Wpedantic -I"$root/host/include" -I"$root/host/model" -c "$source" \
         -o "$out/$(basename "$source" .c).o"
 done
-pod="$out/pod.o $out/mistakes.o $out/mistakes_of_model_3.o $obj/model.o"
+pod="$out/*.o $obj/model.o"
 "$host" cc "$obj"/rules*.o "$obj"/jig*.o "$obj"/rig.o $pod -o "$out/rules"
 for program in compare twelve; do
     "$host" cc "$obj/$program"*.o "$obj"/rig.o $pod -o "$out/$program"
@@ -101,5 +101,9 @@ fault 17 "the protected area one block too small" "rules:protected areas" compar
 fault 18 "the protected area one block too large" "rules:protected areas" compare
 fault 19 "the protected area at the top whatever TB says" "rules:protected areas" "rules:bench sheet" compare
 fault 20 "a cell far from the erased sector cleared on model 3" rules:erasing compare twelve
+fault 21 "a fold is never said" rules:folds rules:programming "rules:bench sheet" compare example
+fault 22 "a fold is said of exactly 256 bytes from offset 0" rules:folds rules:programming compare twelve
+fault 23 "a fold is said of a refused program" rules:folds compare
+fault 24 "a fold is said of a read across a page's end" rules:folds "rules:reading commands" compare
 echo "$passed passed, $failed failed"
 [ $failed -eq 0 ]

@@ -9,11 +9,11 @@
  * The caller's duties are those of C, and no others:
  *  - each pointer points to as many bytes as its length says, and may be null
  *    where the length is 0;
- *  - from and count each point to a number of their own;
+ *  - from, count and fold each point to a number of their own;
  *  - no two of the lent buffers overlap: the output is not the frame.
  *
- * A refused call changes nothing but *from and *count, which become 0. The one exception is
- * the KH25L12845G's own: on model 3 a program or erase that protection refuses (17) clears
+ * A refused call changes nothing but *from, *count and *fold, which become 0. The one exception
+ * is the KH25L12845G's own: on model 3 a program or erase that protection refuses (17) clears
  * the write enable latch in the state, and 06 has to come again.
  *
  * The 8 bytes of a state: the status register; 1 in deep power-down, else 0; the configuration
@@ -90,12 +90,16 @@ static inline const char *gwo_text(uint32_t number)
  * wp 0 is WP# low, any other number high. out[i] is the byte driven while frame[i]
  * goes in; *from is the first driven position, *count how many are driven, both 0
  * when none. Positions not driven keep their contents. A frame takes no time.
+ *
+ * *fold is 1 when a page program was taken that ran past the end of its page, so that it went on
+ * at the start of the same page: the low address byte and the number of data bytes add up to
+ * more than 256. It is 0 for every other frame.
  */
 uint32_t gwo_frame(uint32_t model, uint32_t status_us, uint32_t page_us, uint32_t sector_us,
                    uint32_t block_us, uint32_t chip_us, uint32_t half_us,
                    uint8_t *state, size_t state_len, uint8_t *array, size_t array_len,
                    const uint8_t *frame, size_t frame_len, uint32_t tail, uint32_t wp,
-                   uint8_t *out, size_t out_len, uint32_t *from, uint32_t *count);
+                   uint8_t *out, size_t out_len, uint32_t *from, uint32_t *count, uint32_t *fold);
 
 /* us microseconds pass. Only 1 and 3 can refuse it. */
 uint32_t gwo_wait(uint32_t model, uint32_t status_us, uint32_t page_us, uint32_t sector_us,
@@ -144,6 +148,19 @@ static inline size_t gwo_array_length(uint32_t model)
 }
 
 /* gwo_frame under a record. */
+static inline uint32_t gwo_record_frame_fold(const struct gwo_record *r, uint8_t *state, size_t state_len,
+                                             uint8_t *array, size_t array_len,
+                                             const uint8_t *frame, size_t frame_len,
+                                             uint32_t tail, uint32_t wp,
+                                             uint8_t *out, size_t out_len,
+                                             uint32_t *from, uint32_t *count, uint32_t *fold)
+{
+    return gwo_frame(r->model, r->status_us, r->page_us, r->sector_us, r->block_us, r->chip_us, r->half_us,
+                     state, state_len, array, array_len, frame, frame_len, tail, wp,
+                     out, out_len, from, count, fold);
+}
+
+/* The same for firmware that does not ask for the fold. */
 static inline uint32_t gwo_record_frame(const struct gwo_record *r, uint8_t *state, size_t state_len,
                                         uint8_t *array, size_t array_len,
                                         const uint8_t *frame, size_t frame_len,
@@ -151,9 +168,10 @@ static inline uint32_t gwo_record_frame(const struct gwo_record *r, uint8_t *sta
                                         uint8_t *out, size_t out_len,
                                         uint32_t *from, uint32_t *count)
 {
-    return gwo_frame(r->model, r->status_us, r->page_us, r->sector_us, r->block_us, r->chip_us, r->half_us,
-                     state, state_len, array, array_len, frame, frame_len, tail, wp,
-                     out, out_len, from, count);
+    uint32_t fold;
+
+    return gwo_record_frame_fold(r, state, state_len, array, array_len, frame, frame_len, tail, wp,
+                                 out, out_len, from, count, &fold);
 }
 
 /* gwo_wait under a record. */

@@ -228,9 +228,10 @@ static void read_cells(const uint8_t *array, uint32_t size, uint32_t at, uint8_t
 
 /*
  * Byte i goes to offset (a + i) mod 256, the last one counts: of n bytes only the last
- * 256 can, and no two of those share an offset. New cell = old AND data.
+ * 256 can, and no two of those share an offset. New cell = old AND data. True when a byte
+ * went past the page's end.
  */
-static void program_page(uint8_t *array, uint32_t at, const uint8_t *sent, size_t n)
+static bool program_page(uint8_t *array, uint32_t at, const uint8_t *sent, size_t n)
 {
     uint8_t *page = array + at / PAGE * PAGE;
     uint32_t a = at % PAGE;
@@ -238,6 +239,7 @@ static void program_page(uint8_t *array, uint32_t at, const uint8_t *sent, size_
 
     for (i = n > PAGE ? n - PAGE : 0; i < n; i++)
         page[(a + i) % PAGE] &= sent[i];
+    return n > PAGE - a;
 }
 
 static void erase_unit(uint8_t *array, uint32_t at, uint32_t unit)
@@ -316,10 +318,12 @@ static void write_status(const struct chip *chip, struct state *s, const uint8_t
         s->config = (data[1] & VOLATILE) | ((s->config | data[1]) & TB);
 }
 
-/* The commands that change the state or the array. */
-static void carry_out(const struct chip *chip, const struct record *r, struct state *s,
+/* The commands that change the state or the array; true when a program folded. */
+static bool carry_out(const struct chip *chip, const struct record *r, struct state *s,
                       uint8_t *array, const uint8_t *frame, size_t len)
 {
+    bool folded = false;
+
     switch (frame[0]) {
     case WRITE_ENABLE: s->wel = 1; break;
     case WRITE_DISABLE: s->wel = 0; break;
@@ -330,7 +334,7 @@ static void carry_out(const struct chip *chip, const struct record *r, struct st
         s->busy_us = r->status_us;
         break;
     case PROGRAM:
-        program_page(array, address(frame, chip->size), frame + 4, len - 4);
+        folded = program_page(array, address(frame, chip->size), frame + 4, len - 4);
         s->busy_us = r->page_us;
         break;
     case SECTOR_ERASE:
@@ -350,22 +354,23 @@ static void carry_out(const struct chip *chip, const struct record *r, struct st
         s->busy_us = r->chip_us;
         break;
     }
+    return folded;
 }
 
 uint32_t ref_frame(uint32_t model, uint32_t status_us, uint32_t page_us, uint32_t sector_us,
                    uint32_t block_us, uint32_t chip_us, uint32_t half_us,
                    uint8_t *state, size_t state_len, uint8_t *array, size_t array_len,
                    const uint8_t *frame, size_t frame_len, uint32_t tail, uint32_t wp,
-                   uint8_t *out, size_t out_len, uint32_t *from, uint32_t *count)
+                   uint8_t *out, size_t out_len, uint32_t *from, uint32_t *count, uint32_t *fold)
 {
     const struct record r = {model, status_us, page_us, sector_us, block_us, chip_us, half_us};
     const struct chip *chip;
     struct state s;
     uint32_t number;
-    size_t first;
 
     *from = 0;
     *count = 0;
+    *fold = 0;
     if (!record_ok(&r))
         return 1;
     chip = &chips[model - 1];
@@ -384,9 +389,8 @@ uint32_t ref_frame(uint32_t model, uint32_t status_us, uint32_t page_us, uint32_
     }
     if (number != 0)
         return number;
-    first = answer(chip, &s, array, frame, frame_len, out);
-    driven(first, frame_len, from, count);
-    carry_out(chip, &r, &s, array, frame, frame_len);
+    driven(answer(chip, &s, array, frame, frame_len, out), frame_len, from, count);
+    *fold = carry_out(chip, &r, &s, array, frame, frame_len);
     pack(&s, state);
     return 0;
 }

@@ -1,7 +1,7 @@
 /*
  * An independent model of the three chips in plain C, written from the rules (01) and the
  * data sheets alone. The host tests compare the archive with it; the benchmark
- * takes it as the baseline. Its three functions have the signatures of
+ * takes it as the baseline. Its three functions have the forms of
  * gwo_frame, gwo_wait and gwo_power_cycle under names of their own.
  */
 #ifndef REF_MODEL_H
@@ -10,18 +10,22 @@
 #include <stddef.h>
 #include <stdint.h>
 
-uint32_t ref_frame(uint32_t model, uint32_t status_us, uint32_t page_us, uint32_t sector_us,
-                   uint32_t block_us, uint32_t chip_us, uint32_t half_us,
-                   uint8_t *state, size_t state_len, uint8_t *array, size_t array_len,
-                   const uint8_t *frame, size_t frame_len, uint32_t tail, uint32_t wp,
-                   uint8_t *out, size_t out_len, uint32_t *from, uint32_t *count);
+typedef uint32_t frame_call(uint32_t model, uint32_t status_us, uint32_t page_us, uint32_t sector_us,
+                            uint32_t block_us, uint32_t chip_us, uint32_t half_us,
+                            uint8_t *state, size_t state_len, uint8_t *array, size_t array_len,
+                            const uint8_t *frame, size_t frame_len, uint32_t tail, uint32_t wp,
+                            uint8_t *out, size_t out_len, uint32_t *from, uint32_t *count, uint32_t *fold);
 
-uint32_t ref_wait(uint32_t model, uint32_t status_us, uint32_t page_us, uint32_t sector_us,
-                  uint32_t block_us, uint32_t chip_us, uint32_t half_us,
-                  uint8_t *state, size_t state_len, uint32_t us);
+typedef uint32_t wait_call(uint32_t model, uint32_t status_us, uint32_t page_us, uint32_t sector_us,
+                           uint32_t block_us, uint32_t chip_us, uint32_t half_us,
+                           uint8_t *state, size_t state_len, uint32_t us);
 
-uint32_t ref_power_cycle(uint32_t model, uint32_t status_us, uint32_t page_us, uint32_t sector_us,
-                         uint32_t block_us, uint32_t chip_us, uint32_t half_us,
-                         uint8_t *state, size_t state_len);
+typedef uint32_t power_cycle_call(uint32_t model, uint32_t status_us, uint32_t page_us, uint32_t sector_us,
+                                  uint32_t block_us, uint32_t chip_us, uint32_t half_us,
+                                  uint8_t *state, size_t state_len);
+
+frame_call ref_frame;
+wait_call ref_wait;
+power_cycle_call ref_power_cycle;
 
 #endif

@@ -62,8 +62,8 @@ static const char *difference(const struct call *c)
         return "the state";
     if (c->kind != FRAME)
         return NULL;
-    if (!same(&ours.numbers, &model.numbers, 8))
-        return "the first driven position or the count";
+    if (!same(&ours.numbers, &model.numbers, NUMBERS))
+        return "the first driven position, the count or the fold";
     if (!same(&ours.out, &model.out, c->out_len))
         return "the output";
     if (!same(&ours.frame, &model.frame, c->frame_len))
@@ -90,20 +90,16 @@ static int same_everywhere(const struct call *c, uint32_t number)
     return rig_calls % SMALL_EVERY != 0 || same_cells(SMALL_ROOM);
 }
 
-typedef uint32_t frame_call(uint32_t, uint32_t, uint32_t, uint32_t, uint32_t, uint32_t, uint32_t, uint8_t *, size_t,
-                            uint8_t *, size_t, const uint8_t *, size_t, uint32_t, uint32_t, uint8_t *, size_t,
-                            uint32_t *, uint32_t *);
-
 static uint32_t frame_on(frame_call *f, const struct side *s, const struct call *c)
 {
     const struct gwo_record *r = &c->record;
-    uint32_t *numbers = (uint32_t *)(void *)last_of(&s->numbers, 8);
+    uint32_t *numbers = (uint32_t *)(void *)last_of(&s->numbers, NUMBERS);
 
-    numbers[0] = numbers[1] = 0xA5A5A5A5;
+    numbers[0] = numbers[1] = numbers[2] = 0xA5A5A5A5;
     return f(r->model, r->status_us, r->page_us, r->sector_us, r->block_us, r->chip_us, r->half_us,
              last_of(&s->state, c->state_len), c->state_len, last_of(&s->array, c->array_len), c->array_len,
              last_of(&s->frame, c->frame_len), c->frame_len, c->tail, c->wp,
-             last_of(&s->out, c->out_len), c->out_len, &numbers[0], &numbers[1]);
+             last_of(&s->out, c->out_len), c->out_len, &numbers[0], &numbers[1], &numbers[2]);
 }
 
 static uint32_t ours_gives(const struct call *c)
@@ -165,7 +161,7 @@ static void lend_side(struct side *s)
     s->array = lend(ARRAY_ROOM);
     s->frame = lend(FRAME_ROOM + MARGIN);
     s->out = lend(OUT_ROOM + MARGIN);
-    s->numbers = lend(8 + MARGIN);
+    s->numbers = lend(NUMBERS + MARGIN);
 }
 
 int main(int argc, char **argv)

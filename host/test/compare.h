@@ -48,7 +48,10 @@ uint32_t addressed(const struct call *c);
 /* Counts a call, by the packed state before it and its answer. */
 void note(const struct call *c, const uint8_t *state, uint32_t number);
 
-/* A failure unless every number was met and every command accepted on each model, and all that only model 3 has. */
+/*
+ * A failure unless on each model every number was met, every command accepted and programs ended on both sides of
+ * their page's end; and unless all that only model 3 has was met.
+ */
 void check_variety(void);
 
 #endif

@@ -6,6 +6,10 @@
 /* How often each number was answered and each command accepted, by model. */
 static unsigned long answered[MODELS + 1][32], accepted[MODELS + 1][256];
 
+/* Where accepted programs ended, seen from their page's end, by model. */
+enum ending { BEFORE, AT, ONE_PAST, FURTHER_PAST, ENDINGS };
+static unsigned long ended[MODELS + 1][ENDINGS];
+
 /* What only model 3 has, and how often it was met. */
 enum rare { TWO_BYTES, TB_KEPT, REGISTER_WHILE_BUSY, TOP_REFUSED, BOTTOM_REFUSED, RARE };
 static unsigned long met[RARE];
@@ -25,6 +29,22 @@ static void note_rare(const struct call *c, const uint8_t *state, uint32_t numbe
     met[BOTTOM_REFUSED] += number == 17 && tb;
 }
 
+static enum ending ending_of(const uint8_t *frame, size_t n)
+{
+    size_t end = frame[3] + n - 4;
+
+    if (end <= PAGE)
+        return end < PAGE ? BEFORE : AT;
+    return end == PAGE + 1 ? ONE_PAST : FURTHER_PAST;
+}
+
+static void note_accepted(uint32_t chip, const uint8_t *frame, size_t n)
+{
+    accepted[chip][frame[0]]++;
+    if (frame[0] == 0x02)
+        ended[chip][ending_of(frame, n)]++;
+}
+
 void note(const struct call *c, const uint8_t *state, uint32_t number)
 {
     uint32_t chip = c->record.model <= MODELS ? c->record.model : 0;
@@ -33,7 +53,7 @@ void note(const struct call *c, const uint8_t *state, uint32_t number)
     if (c->kind != FRAME || (number != 0 && number != 17))
         return;
     if (number == 0)
-        accepted[chip][*last_of(&model.frame, c->frame_len)]++;
+        note_accepted(chip, last_of(&model.frame, c->frame_len), c->frame_len);
     if (chip == 3)
         note_rare(c, state, number);
 }
@@ -68,6 +88,20 @@ static void commands_met(uint32_t chip)
     printf("\n");
 }
 
+static void endings_met(uint32_t chip)
+{
+    static const char *const names[ENDINGS] = {"before", "at", "one past", "further past"};
+    int i;
+
+    printf("  programs, by where they ended from the page's end:");
+    for (i = 0; i < ENDINGS; i++) {
+        printf(" %s:%lu", names[i], ended[chip][i]);
+        if (ended[chip][i] == 0)
+            fail("model %lu: no program ended %s its page's end", (unsigned long)chip, names[i]);
+    }
+    printf("\n");
+}
+
 void check_variety(void)
 {
     static const char *const names[RARE] = {"01 with two data bytes", "01 that would clear TB", "15 while busy",
@@ -78,6 +112,7 @@ void check_variety(void)
     for (chip = 1; chip <= MODELS; chip++) {
         numbers_met(chip);
         commands_met(chip);
+        endings_met(chip);
     }
     for (i = 0; i < RARE; i++) {
         printf("%s%s: %lu", i == 0 ? "  on model 3: " : ", ", names[i], met[i]);

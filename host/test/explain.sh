@@ -46,7 +46,9 @@ for script in "$root"/scripts/*.txt "$work/bad.txt" "$work/mixed.txt"; do
     status 0 "$script" "$work/log"
     lines=$((lines + $(tail -n +2 "$work/log" | wc -l)))
 done
-grep -q '20	-	-' "$work/log" && grep -q '	0	' "$work/log" || wrong "the random script has no bad line, or no good one"
+for row in '	20	-	-	-$' '	0	-	-	-$' '	0	-	-	fold$'; do
+    grep -q "$row" "$work/log" || wrong "the random script has no bad line, no good one, or no fold"
+done
 
 script=$root/scripts/example.txt
 log_of "$script" >"$work/log"
@@ -54,7 +56,11 @@ sed '3s/	0	/	20	/' "$work/log" >"$work/other"
 status 1 "$script" "$work/other"
 sed '$d' "$work/log" >"$work/other"
 status 1 "$script" "$work/other"
-{ cat "$work/log"; echo '10	0	-	-'; } >"$work/other"
+{ cat "$work/log"; echo '10	0	-	-	-'; } >"$work/other"
+status 1 "$script" "$work/other"
+cut -f 1-4 "$work/log" >"$work/other"
+status 1 "$script" "$work/other"
+sed '4s/fold/folded/' "$work/log" >"$work/other"
 status 1 "$script" "$work/other"
 log_of "$root/scripts/bad-lines.txt" | sed '5s/20/0/' >"$work/other"
 status 1 "$root/scripts/bad-lines.txt" "$work/other"

@@ -73,6 +73,24 @@ static void calls(const struct gwo_record *r, uint8_t busy_low, uint8_t busy_hig
     check(gwo_record_power_cycle(r, state, sizeof state) == GWO_DONE, "power cycle");
 }
 
+/* Two bytes from the page's last place fold; a refused program does not, nor does one that ends there. */
+static void fold(const struct gwo_record *r)
+{
+    static const uint8_t two[] = {0x02, 0x00, 0x00, 0xFF, 0xA5, 0x5A};
+    const size_t n = gwo_array_length(r->model);
+    uint8_t state[GWO_STATE_LENGTH] = {2, 0, 0, 0, 0, 0, 0, 0}, out[6];
+    uint32_t from, count, said = 2;
+
+    check(gwo_record_frame_fold(r, state, 8, array, n, two, 6, 0, 1, out, 6, &from, &count, &said) == GWO_DONE, "02");
+    check(said == 1, "a program past its page's end");
+    check(gwo_record_frame_fold(r, state, 8, array, n, two, 6, 0, 1, out, 6, &from, &count, &said) == GWO_BUSY, "busy");
+    check(said == 0, "a refused program");
+    state[0] = 2;
+    memset(state + 4, 0, 4);
+    check(gwo_record_frame_fold(r, state, 8, array, n, two, 5, 0, 1, out, 5, &from, &count, &said) == GWO_DONE, "02");
+    check(said == 0, "a program to its page's end");
+}
+
 /* A pointer with the length 0 may be null: the call is answered, and the other buffers stay. */
 static void nulls(const struct gwo_record *r)
 {
@@ -100,6 +118,9 @@ int main(int argc, char **argv)
     calls(&gwo_bench_model_1, 15000 & 255, 15000 >> 8);
     calls(&gwo_bench_model_2, 40000 & 255, 40000 >> 8);
     calls(&gwo_bench_model_3, 40000 & 255, 40000 >> 8);
+    fold(&gwo_bench_model_1);
+    fold(&gwo_bench_model_2);
+    fold(&gwo_bench_model_3);
     nulls(&gwo_bench_model_1);
     nulls(&gwo_bench_model_2);
     nulls(&gwo_bench_model_3);

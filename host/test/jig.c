@@ -14,7 +14,7 @@ const struct condition enabled = {0, 0, 1, 0, 0, 0};
 struct given given;
 
 /* What is wanted after the call. */
-static uint32_t wanted_from, wanted_count;
+static uint32_t wanted_from, wanted_count, wanted_fold;
 static uint8_t wanted_state[STATE_ROOM], wanted_out[OUT_ROOM];
 
 static struct lent lent_state, lent_frame, lent_out, lent_numbers;
@@ -66,7 +66,7 @@ static void make_buffers(void)
     lent_state = lend(STATE_ROOM + MARGIN);
     lent_frame = lend(FRAME_ROOM + MARGIN);
     lent_out = lend(OUT_ROOM + MARGIN);
-    lent_numbers = lend(8 + MARGIN);
+    lent_numbers = lend(NUMBERS + MARGIN);
     for (i = 0; i < OUT_ROOM; i++)
         rest[i] = (uint8_t)(i * 11 + (i >> 8) + 0x33);
     memcpy(wanted_out, rest, OUT_ROOM);
@@ -77,6 +77,7 @@ static void nothing_wanted(void)
     memcpy(wanted_out + wanted_from, rest + wanted_from, wanted_count);
     wanted_from = 0;
     wanted_count = 0;
+    wanted_fold = 0;
     memcpy(wanted_state, given.state, STATE_ROOM);
 }
 
@@ -202,6 +203,11 @@ void want_cells(uint32_t at, uint32_t n, uint8_t value)
     cells_want(cells_of(given.array_len), at, n, value);
 }
 
+void want_fold(int folded)
+{
+    wanted_fold = folded ? 1 : 0;
+}
+
 void want_repeated(uint32_t from, const char *hex)
 {
     uint8_t bytes[16];
@@ -262,21 +268,23 @@ static uint32_t addressed(void)
 void frame_gives(uint32_t number, const char *label)
 {
     const struct gwo_record *r = &given.record;
-    const uint32_t unset[2] = {UNSET, UNSET};
+    const uint32_t unset[3] = {UNSET, UNSET, UNSET};
     struct cells *c = cells_of(given.array_len);
     uint8_t *state = place(&lent_state, given.state, given.state_len);
     uint8_t *frame = place(&lent_frame, given.frame, given.frame_len);
     uint8_t *out = place(&lent_out, rest, given.out_len);
-    uint32_t *from = (uint32_t *)(void *)place(&lent_numbers, unset, sizeof unset);
+    uint32_t *numbers = (uint32_t *)(void *)place(&lent_numbers, unset, NUMBERS);
     uint32_t got;
 
     rig_calls++;
     got = gwo_frame(r->model, r->status_us, r->page_us, r->sector_us, r->block_us, r->chip_us, r->half_us,
                     state, given.state_len, cells_lent(c, given.array_len), given.array_len,
-                    frame, given.frame_len, given.tail, given.wp, out, given.out_len, from, from + 1);
+                    frame, given.frame_len, given.tail, given.wp, out, given.out_len,
+                    &numbers[0], &numbers[1], &numbers[2]);
     same_number(got, number, "the answer", label);
-    same_number(from[0], wanted_from, "the first driven position", label);
-    same_number(from[1], wanted_count, "the driven count", label);
+    same_number(numbers[0], wanted_from, "the first driven position", label);
+    same_number(numbers[1], wanted_count, "the driven count", label);
+    same_number(numbers[2], wanted_fold, "the fold", label);
     same_placed(state, wanted_state, given.state_len, "state", label);
     same_placed(frame, given.frame, given.frame_len, "frame", label);
     same_placed(out, wanted_out, given.out_len, "output", label);

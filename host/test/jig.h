@@ -91,6 +91,7 @@ void jig_cells(uint32_t at, uint32_t n, uint8_t value);
 void want_state(struct condition c);
 void want_hex(uint32_t from, const char *hex);
 void want_cells(uint32_t at, uint32_t n, uint8_t value);
+void want_fold(int folded);
 
 /* Driven from a position to the frame's end: the bytes given, repeated. */
 void want_repeated(uint32_t from, const char *hex);

@@ -29,6 +29,9 @@ struct stretch {
 
 struct stretch around(size_t address, size_t length);
 
+/* The bytes of the three numbers that are lent with a frame: the first driven position, the count, the fold. */
+enum { NUMBERS = 12 };
+
 /* True when n bytes agree: by words, which an emulator does faster than memcmp. */
 int agree(const uint8_t *a, const uint8_t *b, size_t n);
 

@@ -25,6 +25,7 @@ static const struct {
     {"erasing", erasing},
     {"protected areas", protected_areas},
     {"programming", programming},
+    {"folds", folds},
     {"time and power", time_and_power},
     {"bench sheet", bench_sheet},
 };

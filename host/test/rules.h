@@ -15,6 +15,7 @@ void reading_commands(void);           /* 03, 0B, 9F, AB, 90 */
 void erasing(void);                    /* 20, 52, D8, 60, C7 */
 void protected_areas(void);            /* what BP and TB protect */
 void programming(void);                /* 02: fold, AND, the last byte counts */
+void folds(void);                      /* a program that ran past its page's end is said so */
 void time_and_power(void);             /* wait and power cycle */
 void bench_sheet(void);                /* 01's cases, and model 3's */
 

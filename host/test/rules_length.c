@@ -71,10 +71,12 @@ static void want_changed(uint32_t model, uint8_t command)
 {
     uint32_t data = (uint32_t)given.frame_len - 4;
 
-    if (command == 0x02)
-        want_cells(0, data < PAGE ? data : PAGE, 0x00);
-    else
+    if (command != 0x02) {
         want_cells(0, unit_of(model, command), 0xFF);
+        return;
+    }
+    want_cells(0, data < PAGE ? data : PAGE, 0x00);
+    want_fold(data > PAGE);
 }
 
 static void want_driven(const struct row *r, uint32_t model)

@@ -9,13 +9,16 @@ static void want_program(uint32_t address, const uint8_t *sent, size_t n, int er
 {
     uint32_t page = address / PAGE * PAGE, a = address % PAGE, k;
     uint8_t last[PAGE], reached[PAGE];
+    int past_the_end = 0;
     size_t i;
 
     memset(reached, 0, sizeof reached);
     for (i = 0; i < n; i++) {
         last[(a + i) % PAGE] = sent[i];
         reached[(a + i) % PAGE] = 1;
+        past_the_end |= a + i >= PAGE;
     }
+    want_fold(past_the_end);
     for (k = 0; k < PAGE; k++)
         if (reached[k])
             want_cells(page + k, 1, (uint8_t)((erased ? 0xFF : cell(page + k)) & last[k]));

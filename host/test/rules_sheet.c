@@ -66,6 +66,7 @@ static void folding(void)
     jig_addressed(0x02, 0, 257, 0x22);
     given.frame[4] = 0x11;
     want_cells(0, PAGE, 0x22);
+    want_fold(1);
     want_state(state(0, 0, 1, 0, 5000));
     frame_gives(0, "fresh page, 257 data bytes at 0: all 256 hold 22");
     given_frame(1, enabled, "020000003C");
@@ -163,6 +164,7 @@ static void folded_program_of_the_log(void)
     next_frame("020000FFA55A");
     want_cells(0xFF, 1, 0xA5);
     want_cells(0x00, 1, 0x5A);
+    want_fold(1);
     want_state(state(0, 0, 1, 0, 5000));
     frame_gives(0, "log line 3");
     jig_next();

@@ -108,40 +108,48 @@ static void read_step(const struct line *l, struct step *to)
 static uint8_t cells[CELLS], packed[8], out[MOST_BYTES];
 static const struct gwo_record *const record = &gwo_bench_model_1;
 
-/* The answer of a step; the driven bytes are left in out. */
-static uint32_t take_step(const struct step *s, uint32_t *from, uint32_t *count)
+/* What a row of the log says after its number; the driven bytes are in out. */
+struct reply {
+    uint32_t answer, from, count, fold;
+};
+
+static struct reply take_step(const struct step *s)
 {
     const struct gwo_record *r = record;
+    struct reply to = {20, 0, 0, 0};
 
-    *from = *count = 0;
     switch (s->kind) {
     case FRAME:
-        return ref_frame(r->model, r->status_us, r->page_us, r->sector_us, r->block_us, r->chip_us, r->half_us,
-                         packed, 8, cells, CELLS, s->frame, s->frame_len, s->tail, s->wp, out, sizeof out, from, count);
+        to.answer = ref_frame(r->model, r->status_us, r->page_us, r->sector_us, r->block_us, r->chip_us, r->half_us,
+                              packed, 8, cells, CELLS, s->frame, s->frame_len, s->tail, s->wp, out, sizeof out,
+                              &to.from, &to.count, &to.fold);
+        break;
     case WAIT:
-        return ref_wait(r->model, r->status_us, r->page_us, r->sector_us, r->block_us, r->chip_us, r->half_us,
-                        packed, 8, s->us);
+        to.answer = ref_wait(r->model, r->status_us, r->page_us, r->sector_us, r->block_us, r->chip_us, r->half_us,
+                             packed, 8, s->us);
+        break;
     case POWER_CYCLE:
-        return ref_power_cycle(r->model, r->status_us, r->page_us, r->sector_us, r->block_us, r->chip_us, r->half_us,
-                               packed, 8);
+        to.answer = ref_power_cycle(r->model, r->status_us, r->page_us, r->sector_us, r->block_us, r->chip_us,
+                                    r->half_us, packed, 8);
+        break;
     default:
-        return 20;
+        break;
     }
+    return to;
 }
 
-static void write_log_line(unsigned long number, uint32_t answer, uint32_t from, uint32_t count)
+static void write_row(unsigned long number, struct reply r)
 {
     uint32_t i;
 
-    printf("%lu\t%lu\t", number, (unsigned long)answer);
-    if (count == 0) {
-        printf("-\t-\n");
-        return;
-    }
-    printf("%lu\t", (unsigned long)from);
-    for (i = 0; i < count; i++)
-        printf("%02X", out[from + i]);
-    printf("\n");
+    printf("%lu\t%lu\t", number, (unsigned long)r.answer);
+    if (r.count == 0)
+        printf("-\t-");
+    else
+        printf("%lu\t", (unsigned long)r.from);
+    for (i = 0; i < r.count; i++)
+        printf("%02X", out[r.from + i]);
+    printf("\t%s\n", r.fold ? "fold" : "-");
 }
 
 static void expect(void)
@@ -149,14 +157,12 @@ static void expect(void)
     static struct line l;
     static struct step s;
     unsigned long number = 0;
-    uint32_t from, count, answer;
 
     memset(cells, 0xFF, sizeof cells);
-    printf("line\tanswer\tfrom\tbytes\n");
+    printf("line\tanswer\tfrom\tbytes\tnote\n");
     while (next_line(&l)) {
         read_step(&l, &s);
-        answer = take_step(&s, &from, &count);
-        write_log_line(++number, answer, from, count);
+        write_row(++number, take_step(&s));
     }
 }
 

@@ -168,7 +168,8 @@ static const char *const bad_lines[] = {
     "W\t+5", "W\t5 ", "W\t 5", "W\t5\t", "W\t5\r", "W\t1F", "W\t0x5", "W\t1.5", "W\t4294967296", "W\t4294967300",
     "W\t9999999999", "W\t10000000000", "W\t18446744073709551616", "W\t18446744073709556616",
     "W\t99999999999999999999999999999999", "WW\t5", "P\t", "P ", "PP", "P\r", "P\t0", " P", "#", "-",
-    "\t", "\t\t\t", "line\tanswer\tfrom\tbytes", "F\t1\t0\t06F\t1\t0\t06", "\xC3\xA9", "\xFF", "F\t1\t0\t\xB0\x36"};
+    "\t", "\t\t\t", "line\tanswer\tfrom\tbytes\tnote", "F\t1\t0\t06F\t1\t0\t06", "\xC3\xA9", "\xFF",
+    "F\t1\t0\t\xB0\x36"};
 
 /* A frame of 301 bytes, or of any number past it: the digits are good, the length is not. */
 static void too_many_bytes(void)

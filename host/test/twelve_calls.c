@@ -74,26 +74,28 @@ static void state_is(unsigned status, unsigned asleep, uint32_t busy)
     wrong_bytes("the state has", last_of(&lent_state, 8), want, 8);
 }
 
-/* A frame with WP# high and no tail; it drives count bytes from position 4, or nothing. */
+/* A frame with WP# high and no tail; it drives count bytes from position 4, or nothing, and never folds. */
 static void frame_answers(uint32_t number, const uint8_t *frame, size_t n, const uint8_t *driven, size_t count)
 {
     uint8_t *in = last_of(&lent_frame, n), *out = last_of(&lent_out, n), want[MOST_FRAME];
-    uint32_t *numbers = (uint32_t *)(void *)last_of(&lent_numbers, 8), got;
+    uint32_t *numbers = (uint32_t *)(void *)last_of(&lent_numbers, NUMBERS), got;
 
     memcpy(in, frame, n);
     memset(out, 0x99, n);
     memset(want, 0x99, n);
     if (count > 0)
         memcpy(want + 4, driven, count);
-    numbers[0] = numbers[1] = UNSET;
+    numbers[0] = numbers[1] = numbers[2] = UNSET;
     rig_calls++;
     call_number++;
-    got = gwo_record_frame(&now->record, last_of(&lent_state, 8), 8, array, gwo_array_length(now->record.model),
-                           in, n, 0, 1, out, n, &numbers[0], &numbers[1]);
+    got = gwo_record_frame_fold(&now->record, last_of(&lent_state, 8), 8, array, gwo_array_length(now->record.model),
+                                in, n, 0, 1, out, n, &numbers[0], &numbers[1], &numbers[2]);
     if (got != number)
         wrong("the answer is", got, number);
     if (numbers[0] != (count > 0 ? 4 : 0) || numbers[1] != count)
         wrong("the driven count is", numbers[1], count);
+    if (numbers[2] != 0)
+        wrong("the fold is", numbers[2], 0);
     wrong_bytes("the output has", out, want, n);
 }
 
@@ -254,7 +256,7 @@ void lend_array(uint32_t model)
         lent_state = lend(8);
         lent_frame = lend(MOST_FRAME);
         lent_out = lend(MOST_FRAME);
-        lent_numbers = lend(8);
+        lent_numbers = lend(NUMBERS);
     }
     array = lend(size).start;
     scatter(&dice, cells_before, size);

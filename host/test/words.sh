@@ -5,7 +5,7 @@
 set -u
 
 : "${GWO_RUNNER:?the runner, a program or a command that starts it}"
-header=$'line\tanswer\tfrom\tbytes'
+header=$'line\tanswer\tfrom\tbytes\tnote'
 usage='usage: runner <SCRIPT >LOG'
 failed=0
 work=$(mktemp -d)

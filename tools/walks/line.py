@@ -10,7 +10,7 @@ from genwalk import P, write
 LINE = SimpleNamespace(
     crate='stepper', step='step', stepped='stepped', callee=('play', 'play'),
     state=('states', 'State'),
-    res=('play', 'Played'), res_at=3, res_fields=4,             # the state is field 3 of 4
+    res=('play', 'Played'), res_at=3, res_fields=5,             # the state is field 3 of 5
     # the parameters after the state, and the order in which the callee takes them
     params=[P('rec', 'struct', ('states', 'Record')), P('line', '&'), P('array', '&mut'), P('shown', '&mut')],
     order=['line', 'rec', 'st', 'array', 'shown'],

@@ -50,6 +50,6 @@ pub fn program_page(rec: Record, st: State, array: &mut [u8], at: Address, bytes
     requires { ⌜ (at .0 < length (now array)) × (length (now array) ≡ modelOf (rec .model) .length) × (5 ≤ length (now bytes)) ⌝ }
     ensures { λ r. ⌜ Changes (programPage rec st (now (array .entry)) at (now (bytes .entry))) r (now (array .exit)) ⌝ }
 {
-    flash::program(array, at, &bytes[4..]);
-    effects::quiet(Answer::Done, effects::work(st, rec.page))
+    let fold = flash::program(array, at, &bytes[4..]);
+    effects::taken(effects::work(st, rec.page), fold)
 }

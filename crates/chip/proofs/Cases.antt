@@ -12,7 +12,7 @@ use Rattle.ladder.specs.declared.Head.{Head}
 use Rattle.ladder.proofs.Passed.{passed, stopped}
 use Rattle.effects.specs.Effects.{Effect, refusalLeaves}
 use Rattle.chip.specs.Frames.{Chip, Sent, Ready, headOf, acceptedOf, refusedOf, frameOf}
-use Rattle.chip.specs.Units.{unitOf, drivenBytes}
+use Rattle.chip.specs.Units.{unitOf, drivenBytes, foldOf}
 use Rattle.chip.proofs.Ready.{arrived}
 use Rattle.chip.proofs.Sorts.{Asked, Move, Kind, kind, leaves, within}
 
@@ -35,7 +35,7 @@ module _ (rec : Record) (x : Chip) (f : Sent) where
       go false e = stopped e
 
   -- the sort of an accepted frame, and what the refusals have shown of it
-  pub sort : Kind rec x (head .command) (head .address) (f .bytes) (f .out) (unitOf (head .command) (head .address) (length (x .cells))) (drivenBytes (head .command) (length (f .bytes))) accepted
+  pub sort : Kind rec x (head .command) (head .address) (f .bytes) (f .out) (unitOf (head .command) (head .address) (length (x .cells))) (drivenBytes (head .command) (length (f .bytes))) (foldOf (head .command) (head .address) (length (f .bytes))) accepted
   sort = kind rec x (head .address) (f .bytes) (f .out) (head .command)
 
   pub shown-ready : isDone refusal ≡ true → Ready rec x (head .command) (head .address) (f .bytes) (f .out)

@@ -6,10 +6,11 @@ use mathlib.Core.Logic.{_⊎_, ⊎-elim}
 use Prim.Native.Nat.{ℕ, _+_, _-_, _≤_, _<_}
 use native.Mathlib.Omega.{arith}
 use lib.Dec.{eqb, ltb}
-use lib.ListN.{length, getD, drop, replicate}
+use lib.ListN.{length, getD, drop, replicate, length-drop}
 use borrow.Author.Tests.{eqb-true, not-false, ltb-true, ltb-false}
 use Rattle.units.specs.declared.Address.{Address}
-use Rattle.units.specs.Kinds.{sectorOf, halfBlockOf, blockOf, pageStart}
+use Rattle.units.specs.Kinds.{sectorOf, halfBlockOf, blockOf, pageStart, pageOffset}
+use Rattle.fold.specs.Fold.{folds}
 use Rattle.models.specs.Models.{modelOf}
 use Rattle.units.proofs.Bools.{unless, only-if}
 use Rattle.parts.specs.Parts.{lay}
@@ -27,9 +28,9 @@ use Rattle.answers.specs.declared.Answer.the-variants.{Done}
 use Rattle.commands.specs.declared.Command.{Command}
 use Rattle.commands.specs.declared.Command.the-variants.{WriteEnable, WriteDisable, ReadStatus, ReadConfig, WriteStatus, Read, FastRead, EraseSector, EraseHalf, EraseBlock, EraseChip, Program, ReadId, Wake, ReadMaker, Sleep, Unknown}
 use Rattle.states.proofs.States.{status-write-le, page-le, sector-le, block-le, chip-le, half-le}
-use Rattle.effects.specs.Effects.{Effect, stateOnly, quiet, drives, latched, dozing, working, configAfter, written, refusalLeaves, writeEnable, writeDisable, writeStatus, sleep, idBytes, makerBytes, readStatus, readConfig, readFrom, eraseSector, eraseHalf, eraseBlock, eraseChip, programPage, readId, wake, readMaker}
+use Rattle.effects.specs.Effects.{Effect, stateOnly, drives, folding, latched, dozing, working, configAfter, written, refusalLeaves, writeEnable, writeDisable, writeStatus, sleep, idBytes, makerBytes, readStatus, readConfig, readFrom, eraseSector, eraseHalf, eraseBlock, eraseChip, programPage, readId, wake, readMaker}
 use Rattle.chip.specs.Frames.{Chip, acceptedOf}
-use Rattle.chip.specs.Units.{Extent, extent, unitOf, drivenBytes}
+use Rattle.chip.specs.Units.{Extent, extent, unitOf, drivenBytes, foldOf}
 use Rattle.changes.proofs.Fits.{page-fits, sector-fits, half-block-fits, block-fits}
 
 -- ---- how the state moves, and what a command that moves it so has been asked
@@ -73,13 +74,13 @@ page-only cells at sent h =
     }
 
 -- ---- the kinds: the state only; bytes driven from a position on; cells changed
-pub data Kind (rec : Record) (x : Chip) (c : Command) (at : Address) (bytes out : List ℕ) : Extent → ℕ → Effect → Type 0 where
-  turns : {u : Extent} (t : State) → (Asked rec (x .state) c → Move rec (x .state) t) → Kind rec x c at bytes out u 0 (stateOnly Done t (x .cells) out)
+pub data Kind (rec : Record) (x : Chip) (c : Command) (at : Address) (bytes out : List ℕ) : Extent → ℕ → Bool → Effect → Type 0 where
+  turns : {u : Extent} (t : State) → (Asked rec (x .state) c → Move rec (x .state) t) → Kind rec x c at bytes out u 0 false (stateOnly Done t (x .cells) out)
   drove : {u : Extent} (t : State) (from : ℕ) (ys : List ℕ) → (Asked rec (x .state) c → Move rec (x .state) t)
-      → Kind rec x c at bytes out u (length bytes - from) (record { reply = drives t from (length bytes); cells = x .cells; out = lay out from ys })
-  alters : {u : Extent} (t : State) (xs : List ℕ) → (Asked rec (x .state) c → Move rec (x .state) t)
+      → Kind rec x c at bytes out u (length bytes - from) false (record { reply = drives t from (length bytes); cells = x .cells; out = lay out from ys })
+  alters : {u : Extent} (t : State) (xs : List ℕ) (fold : Bool) → (Asked rec (x .state) c → Move rec (x .state) t)
       → (at .0 < length (x .cells) → length (x .cells) ≡ modelOf (rec .model) .length → Only u (x .cells) xs)
-      → Kind rec x c at bytes out u 0 (record { reply = quiet Done t; cells = xs; out = out })
+      → Kind rec x c at bytes out u 0 fold (record { reply = folding t fold; cells = xs; out = out })
 
 -- the test for 11 fails at a command that is not taken while busy: the chip is idle
 idle : (busy : ℕ) → (not (eqb busy 0) && not false) ≡ false → busy ≡ 0
@@ -93,8 +94,8 @@ module _ (rec : Record) (x : Chip) (at : Address) (bytes out : List ℕ) where
   abbrev cells : List ℕ
   cells = x .cells
 
-  pub kind : (c : Command) → Kind rec x c at bytes out (unitOf c at (length cells)) (drivenBytes c (length bytes)) (acceptedOf rec x c at bytes out)
-  unfolding acceptedOf writeEnable writeDisable writeStatus sleep traitsOf unitOf drivenBytes readStatus readConfig readFrom eraseSector eraseHalf eraseBlock eraseChip programPage readId wake readMaker
+  pub kind : (c : Command) → Kind rec x c at bytes out (unitOf c at (length cells)) (drivenBytes c (length bytes)) (foldOf c at (length bytes)) (acceptedOf rec x c at bytes out)
+  unfolding acceptedOf writeEnable writeDisable writeStatus sleep traitsOf unitOf drivenBytes foldOf readStatus readConfig readFrom eraseSector eraseHalf eraseBlock eraseChip programPage readId wake readMaker
   kind WriteEnable = turns (latched s true) (λ q. latches true (idle (s .busy) (q .listens)))
   kind WriteDisable = turns (latched s false) (λ q. latches false (idle (s .busy) (q .listens)))
   kind ReadStatus = drove s 1 (replicate (length bytes - 1) (statusOf s)) (λ q. stays)
@@ -103,25 +104,26 @@ module _ (rec : Record) (x : Chip) (at : Address) (bytes out : List ℕ) where
   kind Read = drove s 4 (ring cells (at .0) (length bytes - 4)) (λ q. stays)
   kind FastRead = drove s 5 (ring cells (at .0) (length bytes - 5)) (λ q. stays)
   kind EraseSector =
-      alters (working s (rec .sector)) (sectorErased cells (sectorOf at))
+      alters (working s (rec .sector)) (sectorErased cells (sectorOf at)) false
       (λ q. works (rec .sector) (sector-le rec) (unless true (s .wel) (q .enabled) refl) (only-if (s .asleep) false (q .awake) refl))
       (λ i w. let h = sector-fits rec cells at i w .1 in erased-only (length-sectorErased cells (sectorOf at) h) (sector-erase cells (sectorOf at) h))
   kind EraseHalf =
-      alters (working s (rec .half)) (halfBlockErased cells (halfBlockOf at))
+      alters (working s (rec .half)) (halfBlockErased cells (halfBlockOf at)) false
       (λ q. works (rec .half) (half-le rec) (unless true (s .wel) (q .enabled) refl) (only-if (s .asleep) false (q .awake) refl))
       (λ i w. let h = half-block-fits rec cells at i w .1 in erased-only (length-halfBlockErased cells (halfBlockOf at) h) (half-block-erase cells (halfBlockOf at) h))
   kind EraseBlock =
-      alters (working s (rec .block)) (blockErased cells (blockOf at))
+      alters (working s (rec .block)) (blockErased cells (blockOf at)) false
       (λ q. works (rec .block) (block-le rec) (unless true (s .wel) (q .enabled) refl) (only-if (s .asleep) false (q .awake) refl))
       (λ i w. let h = block-fits rec cells at i w .1 in erased-only (length-blockErased cells (blockOf at) h) (block-erase cells (blockOf at) h))
   kind EraseChip =
-      alters (working s (rec .chip)) (allErased cells)
+      alters (working s (rec .chip)) (allErased cells) false
       (λ q. works (rec .chip) (chip-le rec) (unless true (s .wel) (q .enabled) refl) (only-if (s .asleep) false (q .awake) refl))
       (λ i w. erased-only (length-allErased cells) (chip-erase cells))
   kind Program =
-      alters (working s (rec .page)) (programmed cells at (drop 4 bytes))
+      rw (← (length-drop 4 bytes))
+      (alters (working s (rec .page)) (programmed cells at (drop 4 bytes)) (folds (pageOffset at) (length (drop 4 bytes)))
       (λ q. works (rec .page) (page-le rec) (unless true (s .wel) (q .enabled) refl) (only-if (s .asleep) false (q .awake) refl))
-      (λ i w. page-only cells at (drop 4 bytes) (page-fits rec cells at i w))
+      (λ i w. page-only cells at (drop 4 bytes) (page-fits rec cells at i w)))
   kind ReadId = drove s 1 (ring (idBytes (modelOf (rec .model))) 0 (length bytes - 1)) (λ q. stays)
   kind Wake = drove (dozing s false) 4 (replicate (length bytes - 4) (modelOf (rec .model) .signature)) (λ q. dozes false (idle (s .busy) (q .listens)))
   kind ReadMaker = drove s 4 (ring (makerBytes (modelOf (rec .model)) (getD bytes 3 0)) 0 (length bytes - 4)) (λ q. stays)
@@ -142,30 +144,36 @@ drives-within t from n = go (ltb from n) refl
         omega arith
 
 module _ {rec : Record} {x : Chip} {c : Command} {at : Address} {bytes out : List ℕ} where
-  pub is-done : {u : Extent} {n : ℕ} {e : Effect} → Kind rec x c at bytes out u n e → isDone (e .reply .answer) ≡ true
+  pub is-done : {u : Extent} {n : ℕ} {b : Bool} {e : Effect} → Kind rec x c at bytes out u n b e → isDone (e .reply .answer) ≡ true
   unfolding drives
   is-done (turns t m) = refl
   is-done (drove t from ys m) = refl
-  is-done (alters t xs m o) = refl
+  is-done (alters t xs fold m o) = refl
 
-  pub counts : {u : Extent} {n : ℕ} {e : Effect} → Kind rec x c at bytes out u n e → e .reply .count ≡ n
+  pub counts : {u : Extent} {n : ℕ} {b : Bool} {e : Effect} → Kind rec x c at bytes out u n b e → e .reply .count ≡ n
   unfolding drives
   counts (turns t m) = refl
   counts (drove t from ys m) = refl
-  counts (alters t xs m o) = refl
+  counts (alters t xs fold m o) = refl
 
-  pub within : {u : Extent} {n : ℕ} {e : Effect} → Kind rec x c at bytes out u n e → e .reply .from + e .reply .count ≤ length bytes
+  pub within : {u : Extent} {n : ℕ} {b : Bool} {e : Effect} → Kind rec x c at bytes out u n b e → e .reply .from + e .reply .count ≤ length bytes
   within (turns t m) = omega arith
   within (drove t from ys m) = drives-within t from (length bytes)
-  within (alters t xs m o) = omega arith
+  within (alters t xs fold m o) = omega arith
 
-  pub changes-only : {u : Extent} {n : ℕ} {e : Effect} → Kind rec x c at bytes out u n e → at .0 < length (x .cells) → length (x .cells) ≡ modelOf (rec .model) .length → Only u (x .cells) (e .cells)
+  pub changes-only : {u : Extent} {n : ℕ} {b : Bool} {e : Effect} → Kind rec x c at bytes out u n b e → at .0 < length (x .cells) → length (x .cells) ≡ modelOf (rec .model) .length → Only u (x .cells) (e .cells)
   changes-only (turns t m) i w = record { long = refl; rest = λ k o. refl }
   changes-only (drove t from ys m) i w = record { long = refl; rest = λ k o. refl }
-  changes-only (alters t xs m o) i w = o i w
+  changes-only (alters t xs fold m o) i w = o i w
 
-  pub moves : {u : Extent} {n : ℕ} {e : Effect} → Kind rec x c at bytes out u n e → Asked rec (x .state) c → Move rec (x .state) (e .reply .state)
+  pub moves : {u : Extent} {n : ℕ} {b : Bool} {e : Effect} → Kind rec x c at bytes out u n b e → Asked rec (x .state) c → Move rec (x .state) (e .reply .state)
   unfolding drives
   moves (turns t m) q = m q
   moves (drove t from ys m) q = m q
-  moves (alters t xs m o) q = m q
+  moves (alters t xs fold m o) q = m q
+
+  pub notes : {u : Extent} {n : ℕ} {b : Bool} {e : Effect} → Kind rec x c at bytes out u n b e → e .reply .fold ≡ b
+  unfolding drives
+  notes (turns t m) = refl
+  notes (drove t from ys m) = refl
+  notes (alters t xs fold m o) = refl

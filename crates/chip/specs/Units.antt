@@ -1,7 +1,9 @@
--- What a command can change and how much it drives: the cells of its unit, and a number of bytes. Assumes nothing.
+-- What a command can change, how much it drives and whether it folds: the cells of its unit, a number of bytes, a note. Assumes nothing.
+use mathlib.Core.Bool.{Bool, false}
 use Prim.Native.Nat.{ℕ, _-_}
+use Rattle.fold.specs.Fold.{folds}
 use Rattle.units.specs.declared.Address.{Address}
-use Rattle.units.specs.Kinds.{sectorOf, halfBlockOf, blockOf, pageStart, sectorStart, halfBlockStart, blockStart}
+use Rattle.units.specs.Kinds.{sectorOf, halfBlockOf, blockOf, pageStart, pageOffset, sectorStart, halfBlockStart, blockStart}
 use Rattle.commands.specs.declared.Command.{Command}
 use Rattle.commands.specs.declared.Command.the-variants.{WriteEnable, WriteDisable, ReadStatus, ReadConfig, WriteStatus, Read, FastRead, EraseSector, EraseHalf, EraseBlock, EraseChip, Program, ReadId, Wake, ReadMaker, Sleep, Unknown}
 
@@ -51,3 +53,23 @@ drivenBytes Wake n = n - 4
 drivenBytes ReadMaker n = n - 4
 drivenBytes Sleep n = 0
 drivenBytes Unknown n = 0
+
+-- whether an accepted frame of n bytes says that a byte went past the page's end: only a program can
+unfoldable pub foldOf : Command → Address → ℕ → Bool
+foldOf WriteEnable at n = false
+foldOf WriteDisable at n = false
+foldOf ReadStatus at n = false
+foldOf ReadConfig at n = false
+foldOf WriteStatus at n = false
+foldOf Read at n = false
+foldOf FastRead at n = false
+foldOf EraseSector at n = false
+foldOf EraseHalf at n = false
+foldOf EraseBlock at n = false
+foldOf EraseChip at n = false
+foldOf Program at n = folds (pageOffset at) (n - 4)
+foldOf ReadId at n = false
+foldOf Wake at n = false
+foldOf ReadMaker at n = false
+foldOf Sleep at n = false
+foldOf Unknown at n = false

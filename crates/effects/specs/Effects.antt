@@ -7,10 +7,11 @@ use lib.Dec.{eqb, ltb, leb}
 use lib.ListN.{length, getD, drop, replicate}
 use Rattle.units.specs.declared.Address.{Address}
 use Rattle.models.specs.declared.Model.{Model}
-use Rattle.units.specs.Kinds.{sectorOf, halfBlockOf, blockOf}
+use Rattle.units.specs.Kinds.{sectorOf, halfBlockOf, blockOf, pageOffset}
 use Rattle.models.specs.Models.{modelOf}
 use Rattle.parts.specs.Parts.{lay}
 use Rattle.rings.specs.Ring.{ring}
+use Rattle.fold.specs.Fold.{folds}
 use Rattle.flash.specs.Arrays.{sectorErased, halfBlockErased, blockErased, allErased, programmed}
 use Rattle.states.specs.States.{flag, statusOf}
 use Rattle.states.specs.declared.Record.{Record}
@@ -59,11 +60,15 @@ pub record Changes (e : Changed) (r : Reply) (xs : List ℕ) : Type 0 where
 -- ---- replies
 -- nothing is driven
 abbrev pub quiet : Answer → State → Reply
-quiet a s = record { answer = a; from = 0; count = 0; state = s }
+quiet a s = record { answer = a; from = 0; count = 0; state = s; fold = false }
 
 -- a frame of n bytes drives from position `from` to its end; both numbers are 0 when none is driven
 unfoldable pub drives : State → ℕ → ℕ → Reply
-drives s from n = record { answer = Done; from = cond (ltb from n) from 0; count = n - from; state = s }
+drives s from n = record { answer = Done; from = cond (ltb from n) from 0; count = n - from; state = s; fold = false }
+
+-- a program drives nothing, and its answer says whether a byte went past the page's end
+abbrev pub folding : State → Bool → Reply
+folding s fold = record { answer = Done; from = 0; count = 0; state = s; fold = fold }
 
 -- ---- states
 unfoldable pub latched : State → Bool → State
@@ -147,7 +152,8 @@ eraseChip rec s cells = record { reply = quiet Done (working s (rec .chip)); cel
 
 -- 02: the bytes from position 4 on fold into the page (000 L343)
 unfoldable pub programPage : Record → State → List ℕ → Address → List ℕ → Changed
-programPage rec s cells at bytes = record { reply = quiet Done (working s (rec .page)); cells = programmed cells at (drop 4 bytes) }
+programPage rec s cells at bytes =
+    record { reply = folding (working s (rec .page)) (folds (pageOffset at) (length (drop 4 bytes))); cells = programmed cells at (drop 4 bytes) }
 
 -- 9F: from position 1 the three identification bytes, repeated (000 L383-391, 002 L522-526)
 abbrev pub idBytes : Model → List ℕ

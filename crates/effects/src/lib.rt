@@ -1,17 +1,18 @@
 // What each command does, apart from the frame that carries it (specs/Effects.antt); here replies, and the commands that turn the state.
 ghost use mathlib.Core.Path.{_≡_};
 ghost use Prim.Native.Nat.{_-_};
-ghost use Rattle.effects.specs.Effects.{quiet as Effects·quiet, drives, latched, dozing, working, refusalLeaves, configWritten, configAfter, written, writeEnable, writeDisable, writeStatus, sleep as Effects·sleep};
+ghost use Rattle.effects.specs.Effects.{quiet as Effects·quiet, drives, folding, latched, dozing, working, refusalLeaves, configWritten, configAfter, written, writeEnable, writeDisable, writeStatus, sleep as Effects·sleep};
 use answers::Answer;
 use states::Record;
 use states::State;
 
-// What a frame is answered: the answer, the first driven position and how many bytes are driven, and the state after.
+// What a frame is answered: the answer, the first driven position and how many bytes are driven, the state after, and whether a program folded.
 pub struct Reply {
     pub answer: Answer,
     pub from: u32,
     pub count: u32,
     pub state: State,
+    pub fold: bool,
 }
 
 // ---- replies and states
@@ -25,6 +26,7 @@ pub fn quiet(answer: Answer, state: State) -> Reply
         from: 0,
         count: 0,
         state,
+        fold: false,
     }
 }
 
@@ -38,9 +40,19 @@ pub fn driven(state: State, from: u32, n: u32) -> Reply
             from,
             count: n - from,
             state,
+            fold: false,
         };
     }
     quiet(Answer::Done, state)
+}
+
+// A program is taken: nothing is driven, and the answer says whether it folded.
+pub fn taken(state: State, fold: bool) -> Reply
+    ensures { λ r. ⌜ r ≡ folding state fold ⌝ }
+{
+    let mut reply = quiet(Answer::Done, state);
+    reply.fold = fold;
+    reply
 }
 
 // WEL is set or cleared.

@@ -3,9 +3,10 @@
 ghost use mathlib.Core.Path.{_≡_};
 ghost use Prim.Native.Nat.{_+_, _-_, _≤_, _<_};
 ghost use lib.ListN.{length};
-ghost use Rattle.units.specs.Kinds.{sectorStart, halfBlockStart, blockStart, pageStart};
+ghost use Rattle.units.specs.Kinds.{sectorStart, halfBlockStart, blockStart, pageStart, pageOffset};
 ghost use Rattle.parts.specs.Parts.{lay};
 ghost use Rattle.rings.specs.Ring.{ring};
+ghost use Rattle.fold.specs.Fold.{folds};
 ghost use Rattle.flash.specs.Arrays.{sectorErased, halfBlockErased, blockErased, allErased, programmed, pageOf};
 use units::Address;
 use units::Block;
@@ -52,15 +53,15 @@ pub fn erase_all(array: &mut [u8])
     parts::fill(array, 0xFF);
 }
 
-// Programs the bytes sent into the page that holds the address: only that page is passed on.
-pub fn program(array: &mut [u8], a: Address, sent: &[u8])
+// Programs the bytes sent into the page that holds the address, and says whether they folded: only that page is passed on.
+pub fn program(array: &mut [u8], a: Address, sent: &[u8]) -> bool
     requires { ⌜ pageStart a + 256 ≤ length (now array) ⌝ }
-    ensures { λ _. ⌜ now (array .exit) ≡ programmed (now (array .entry)) a (now (sent .entry)) ⌝ }
+    ensures { λ r. ⌜ (now (array .exit) ≡ programmed (now (array .entry)) a (now (sent .entry))) × (r ≡ folds (pageOffset a) (length (now (sent .entry)))) ⌝ }
 {
     let page = a.page_start();
     let start = page.0 as usize;
     let end = start + 256;
-    fold::program_page(&mut array[start..end], a.page_offset(), sent);
+    fold::program_page(&mut array[start..end], a.page_offset(), sent)
 }
 
 // The bytes of out from index from up to end become the cells from the address on, and after the last address those from 0 on. The rest of out stays.

@@ -9,10 +9,10 @@ use lib.Bits.{bitAnd}
 use lib.Dec.{eqb}
 use lib.ListN.{length, drop, getD}
 use lib.Seq.{getD-drop}
-use borrow.Author.Tests.{eqb-true, eqb-false}
+use borrow.Author.Tests.{eqb-true, eqb-false, lt-ltb, ltb-true, ltb-false}
 use Rattle.cells.specs.Cell.{FF}
-use Rattle.fold.specs.Fold.{counts, cellAfter}
-use Rattle.fold.specs.Sheet.{LastCounts, UnreachedStays, OnlyFalls}
+use Rattle.fold.specs.Fold.{counts, cellAfter, folds}
+use Rattle.fold.specs.Sheet.{LastCounts, UnreachedStays, OnlyFalls, FoldsWhen, FoldsOnlyWhen, StraightOn}
 use Rattle.cells.proofs.Cell.{and-ff, and-falls}
 
 pub last-counts : LastCounts
@@ -62,3 +62,20 @@ counts-tail a f sent k l =
     last-counts b (drop f sent) 256 j k (omega arith) (omega arith) (λ i x y e. omega arith)
     ∙ getD-drop f sent j 0
     ∙ sym (last-counts a sent (f + 256) (f + j) k (omega arith) (omega arith) (λ i x y e. omega arith))
+
+-- ---- whether a program folds
+pub folds-when : FoldsWhen
+unfolding folds
+folds-when a n i l h = lt-ltb 256 (a + n) (omega arith)
+
+-- the last byte has gone past the end
+pub folds-only-when : FoldsOnlyWhen
+unfolding folds
+folds-only-when a n l e = let h : 256 < a + n = ltb-true 256 (a + n) e in (n - 1, omega arith, omega arith)
+
+pub straight-on : StraightOn
+unfolding folds
+straight-on a sent i e l =
+    let h : a + length sent ≤ 256 = ltb-false 256 (a + length sent) e in
+    let k : (a + i) % 256 ≡ a + i = omega arith in
+    (k, last-counts a sent (length sent) i (a + i) l k (λ j x y z. omega arith))

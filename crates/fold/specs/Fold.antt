@@ -1,8 +1,8 @@
 -- A page program by offset (01, "Commands", 02; 000 L343): byte i of those sent goes to offset (a + i) mod 256 of one page. Assumes nothing.
-use mathlib.Core.Bool.{cond}
+use mathlib.Core.Bool.{Bool, cond}
 use mathlib.Core.List.{List}
 use Prim.Native.Nat.{ℕ, zero, suc, _+_, _%_}
-use lib.Dec.{eqb}
+use lib.Dec.{eqb, ltb}
 use lib.ListN.{length, getD}
 use Rattle.cells.specs.Cell.{FF, programmedCell}
 use Rattle.parts.specs.Parts.{byIndex}
@@ -19,3 +19,7 @@ cellAfter a sent k old = programmedCell old (counts a sent (length sent) k)
 -- the page after the program, offset by offset
 unfoldable pub pageAfter : ℕ → List ℕ → List ℕ → List ℕ
 pageAfter a sent page = byIndex (cellAfter a sent) page
+
+-- whether n bytes from offset a on go past the page's end, so that some go on at its start
+unfoldable pub folds : ℕ → ℕ → Bool
+folds a n = ltb 256 (a + n)

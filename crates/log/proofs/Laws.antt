@@ -10,7 +10,7 @@ use borrow.Author.Tests.{le-leb, lt-leb, leb-true, leb-false}
 use Rattle.text.specs.Put.{Put}
 use Rattle.text.specs.Text.{hexText, decimalText}
 use Rattle.text.proofs.TextLaws.{length-hexText, decimal-few}
-use Rattle.log.specs.Row.{fromText, bytesText, logText, roomOf, Rowed, OneRowed}
+use Rattle.log.specs.Row.{fromText, bytesText, logText, roomOf, Rowed, OneRowed, noteText}
 
 pub fits-in : (at fixed n len : ℕ) → at ≤ len → fixed ≤ len - at → leb n ((len - at - fixed) / 2) ≡ leb (at + (2 * n + fixed)) len
 fits-in at fixed n len l m = go (leb (at + (2 * n + fixed)) len) refl
@@ -43,14 +43,19 @@ bytes-most driven = go (eqb (length driven) 0) refl
     go true p = rw p (omega arith)
     go false p = let n : length (hexText driven) ≡ 2 * length driven = length-hexText driven in rw p (omega arith)
 
+note-most : (fold : Bool) → length (noteText fold) ≤ 4
+note-most true = omega arith
+note-most false = omega arith
+
 -- a row fits where `roomOf` says that it does
-pub row-most : (number answer from : ℕ) (driven : List ℕ) → length (logText number answer from driven) ≤ roomOf (length driven)
+pub row-most : (number answer from : ℕ) (driven : List ℕ) (fold : Bool) → length (logText number answer from driven fold) ≤ roomOf (length driven)
 unfolding logText
-row-most number answer from driven =
+row-most number answer from driven fold =
     let a : length (decimalText number) ≤ 20 = decimal-few number in
     let b : length (decimalText answer) ≤ 20 = decimal-few answer in
     let c : length (fromText from (length driven)) ≤ 20 = from-most from (length driven) in
     let d : length (bytesText driven) ≤ 2 * length driven + 1 = bytes-most driven in
+    let n : length (noteText fold) ≤ 4 = note-most fold in
     simp length-append (omega arith)
 
 pub one-rowed : OneRowed

@@ -1,6 +1,6 @@
 -- The log of a script (01, "Script and log"). Assumes nothing.
 use mathlib.Core.Path.{_≡_}
-use mathlib.Core.Bool.{cond}
+use mathlib.Core.Bool.{Bool, cond}
 use mathlib.Core.List.{List, [], _∷_, _++_}
 use Prim.Native.Nat.{ℕ, _+_, _*_}
 use lib.Dec.{eqb, leb}
@@ -20,7 +20,7 @@ rowOf (f ∷ g ∷ more) = f ++ (tab ∷ rowOf (g ∷ more))
 
 -- the header
 unfoldable pub headerText : List ℕ
-headerText = rowOf (ascii "line" ∷ ascii "answer" ∷ ascii "from" ∷ ascii "bytes" ∷ [])
+headerText = rowOf (ascii "line" ∷ ascii "answer" ∷ ascii "from" ∷ ascii "bytes" ∷ ascii "note" ∷ [])
 
 -- the first of `count` driven positions, and the driven bytes in hex; `-` where none is driven
 abbrev pub fromText : ℕ → ℕ → List ℕ
@@ -29,13 +29,22 @@ fromText from count = cond (eqb count 0) dash (decimalText from)
 abbrev pub bytesText : List ℕ → List ℕ
 bytesText driven = cond (eqb (length driven) 0) dash (hexText driven)
 
--- the row of a script line: its number, the answer, the first driven position, the driven bytes
-unfoldable pub logText : ℕ → ℕ → ℕ → List ℕ → List ℕ
-logText number answer from driven = rowOf (decimalText number ∷ decimalText answer ∷ fromText from (length driven) ∷ bytesText driven ∷ [])
+-- the note: that a program went past its page's end
+abbrev pub noteText : Bool → List ℕ
+noteText fold = cond fold (ascii "fold") dash
+
+-- with the tab before it and the newline behind it
+abbrev pub lastText : Bool → List ℕ
+lastText fold = tab ∷ rowOf (noteText fold ∷ [])
+
+-- the row of a script line: its number, the answer, the first driven position, the driven bytes, the note
+unfoldable pub logText : ℕ → ℕ → ℕ → List ℕ → Bool → List ℕ
+logText number answer from driven fold =
+    rowOf (decimalText number ∷ decimalText answer ∷ fromText from (length driven) ∷ bytesText driven ∷ noteText fold ∷ [])
 
 -- the most bytes that the row of n driven bytes can take
 abbrev pub roomOf : ℕ → ℕ
-roomOf n = 2 * n + 65
+roomOf n = 2 * n + 70
 
 -- the most that any row of a script takes: a frame has at most 300 bytes, and drives no more
 abbrev pub longestRow : ℕ

@@ -37,6 +37,7 @@ fn set_to(state: State) -> Played {
         from: 0,
         count: 0,
         state,
+        fold: false,
     }
 }
 
@@ -88,6 +89,7 @@ fn send(
         from: r.from,
         count: r.count,
         state,
+        fold: r.fold,
     }
 }
 

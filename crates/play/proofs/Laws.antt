@@ -36,14 +36,14 @@ unhexed-front {digits} {d} {e} {r} m l u =
 
 pub frame-plays : (rec : Record) (x : Chip) (shown line : List ℕ) (wp : Bool) (tail : ℕ) {frame : List ℕ} {r : Reply} {number : ℕ} {xs os : List ℕ}
     → frame ≡ take 300 (hexBytes (drop 6 line)) → Gives (frameOf rec x (sentOf frame tail wp shown)) r xs os → number ≡ numberOf (r .answer)
-    → Plays (frameTurn rec x shown line wp tail) (record { answer = number; from = r .from; count = r .count; state = r .state }) xs os
+    → Plays (frameTurn rec x shown line wp tail) (record { answer = number; from = r .from; count = r .count; state = r .state; fold = r .fold }) xs os
 unfolding frameTurn
 frame-plays rec x shown line wp tail {frame} {r} {number} {xs} {os} e g n =
     let h = subst (λ (z : List ℕ). Gives (frameOf rec x (sentOf z tail wp shown)) r xs os) e g in
     record {
       played =
-          ap (λ (k : ℕ). record { answer = k; from = r .from; count = r .count; state = r .state }) n
-          ∙ ap (λ (q : Reply). record { answer = numberOf (q .answer); from = q .from; count = q .count; state = q .state }) (h .reply);
+          ap (λ (k : ℕ). record { answer = k; from = r .from; count = r .count; state = r .state; fold = r .fold }) n
+          ∙ ap (λ (q : Reply). record { answer = numberOf (q .answer); from = q .from; count = q .count; state = q .state; fold = q .fold }) (h .reply);
       cells = h .cells;
       shown = h .out;
     }

@@ -1,6 +1,6 @@
 -- What a script line does to the chip: 01, "Script and log". Assumes nothing.
 use mathlib.Core.Path.{_≡_}
-use mathlib.Core.Bool.{Bool}
+use mathlib.Core.Bool.{Bool, false}
 use mathlib.Core.List.{List}
 use Prim.Native.Nat.{ℕ}
 use lib.ListN.{drop, take}
@@ -23,14 +23,14 @@ pub record Turn : Type 0 where
   pub shown : List ℕ
 
 abbrev pub passedOf : After → Played
-passedOf a = record { answer = numberOf (a .answer); from = 0; count = 0; state = a .state }
+passedOf a = record { answer = numberOf (a .answer); from = 0; count = 0; state = a .state; fold = false }
 
 -- the bytes of the line's hex digits, as many as 300, are the frame
 unfoldable pub frameTurn : Record → Chip → List ℕ → List ℕ → Bool → ℕ → Turn
 frameTurn rec x shown line wp tail =
     let e : Effect = frameOf rec x (sentOf (take 300 (hexBytes (drop 6 line))) tail wp shown) in
     record {
-      played = record { answer = numberOf (e .reply .answer); from = e .reply .from; count = e .reply .count; state = e .reply .state };
+      played = record { answer = numberOf (e .reply .answer); from = e .reply .from; count = e .reply .count; state = e .reply .state; fold = e .reply .fold };
       cells = e .cells;
       shown = e .out;
     }
@@ -39,7 +39,7 @@ unfoldable pub turnOf : Record → Chip → List ℕ → List ℕ → Line → T
 turnOf rec x shown line (Frame wp tail n) = frameTurn rec x shown line wp tail
 turnOf rec x shown line (Wait us) = record { played = passedOf (waitOf rec (x .state) us); cells = x .cells; shown = shown }
 turnOf rec x shown line Power = record { played = passedOf (powerOf rec (x .state)); cells = x .cells; shown = shown }
-turnOf rec x shown line Bad = record { played = record { answer = 20; from = 0; count = 0; state = x .state }; cells = x .cells; shown = shown }
+turnOf rec x shown line Bad = record { played = record { answer = 20; from = 0; count = 0; state = x .state; fold = false }; cells = x .cells; shown = shown }
 
 -- any line
 abbrev pub playOf : Record → Chip → List ℕ → List ℕ → Turn

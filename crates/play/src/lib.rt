@@ -7,12 +7,13 @@ use states::Record;
 use states::State;
 use time::After;
 
-// What a line came to: the answer's number, the first driven position and how many bytes are driven, and the state after.
+// What a line came to: the answer's number, the first driven position and how many bytes are driven, the state after, and whether a program folded.
 pub struct Played {
     pub answer: u32,
     pub from: u32,
     pub count: u32,
     pub state: State,
+    pub fold: bool,
 }
 
 // A wait or a power cycle drives nothing.
@@ -26,6 +27,7 @@ fn passed(a: After) -> Played
         from: 0,
         count: 0,
         state,
+        fold: false,
     }
 }
 
@@ -51,6 +53,7 @@ fn play_frame(
         from: r.from,
         count: r.count,
         state,
+        fold: r.fold,
     }
 }
 
@@ -68,6 +71,7 @@ pub fn play(line: &[u8], rec: Record, st: State, array: &mut [u8], shown: &mut [
             from: 0,
             count: 0,
             state: st,
+            fold: false,
         },
     }
 }

@@ -7,7 +7,9 @@ use lib.Dec.{eqb}
 use lib.ListN.{length}
 use Rattle.models.specs.Models.{modelOf}
 use Rattle.answers.specs.Answers.{numberOf}
-use Rattle.states.specs.States.{recordOk, stateOk}
+use mir.Val.{boolByte}
+use Rattle.pod.proofs.Status.{flag-byte}
+use Rattle.states.specs.States.{flag, recordOk, stateOk}
 use Rattle.states.specs.declared.Record.{Record}
 use Rattle.states.specs.declared.State.{State}
 use Rattle.answers.specs.declared.Answer.{Answer}
@@ -46,7 +48,7 @@ module _ (rec : Record) (xs cells : List ℕ) (f : Sent) where
     fits-frame = rw (given .reply) frame-fits
 
     pub leaves : {n : ℕ} {xs′ : List ℕ} → n ≡ numberOf (reply .answer) → xs′ ≡ keptOf (reply .answer) (reply .state) xs
-        → Leaves (calledFrame rec xs cells f) n xs′ cells′ out′ (reply .from) (reply .count)
+        → Leaves (calledFrame rec xs cells f) n xs′ cells′ out′ (reply .from) (reply .count) (boolByte (reply .fold))
     unfolding calledFrame
     leaves e k =
         record {
@@ -56,33 +58,34 @@ module _ (rec : Record) (xs cells : List ℕ) (f : Sent) where
           out-is = given .out;
           from-is = ap (λ (x : Reply). x .from) (given .reply);
           count-is = ap (λ (x : Reply). x .count) (given .reply);
+          fold-is = flag-byte (reply .fold) ∙ ap (λ (x : Reply). flag (x .fold) 1) (given .reply);
         }
 
 -- the first row of the table, tested before the state is unpacked
-pub bad-record : (rec : Record) (xs cells : List ℕ) (f : Sent) {r : Record} → r ≡ rec → recordOk r ≡ false → Leaves (calledFrame rec xs cells f) 1 xs cells (f .out) 0 0
+pub bad-record : (rec : Record) (xs cells : List ℕ) (f : Sent) {r : Record} → r ≡ rec → recordOk r ≡ false → Leaves (calledFrame rec xs cells f) 1 xs cells (f .out) 0 0 0
 unfolding calledFrame frameOf refusalOf keptOf
 bad-record rec xs cells f {r} e b =
     let no : recordOk rec ≡ false = sym (ap recordOk e) ∙ b in
-    record { number-is = rw no; state-is = rw no; cells-are = rw no; out-is = rw no; from-is = rw no; count-is = rw no }
+    record { number-is = rw no; state-is = rw no; cells-are = rw no; out-is = rw no; from-is = rw no; count-is = rw no; fold-is = rw no }
 
 -- the next two, tested before it is unpacked: bytes that are no packing are a state that is not valid
 pub bad-state : (rec : Record) (xs cells : List ℕ) (f : Sent) → recordOk rec ≡ true → stateOk rec (unpackOf xs) ≡ false
-    → calledFrame rec xs cells f ≡ called (cond (eqb (length cells) (modelOf (rec .model) .length)) 3 2) xs cells (f .out) 0 0
+    → calledFrame rec xs cells f ≡ called (cond (eqb (length cells) (modelOf (rec .model) .length)) 3 2) xs cells (f .out) 0 0 0
 unfolding calledFrame frameOf refusalOf headFor keptOf
 bad-state rec xs cells f r v = go (eqb (length cells) (modelOf (rec .model) .length)) refl
   where
-    go : (l : Bool) → eqb (length cells) (modelOf (rec .model) .length) ≡ l → calledFrame rec xs cells f ≡ called (cond l 3 2) xs cells (f .out) 0 0
+    go : (l : Bool) → eqb (length cells) (modelOf (rec .model) .length) ≡ l → calledFrame rec xs cells f ≡ called (cond l 3 2) xs cells (f .out) 0 0 0
     go true e = rw (r, e, v)
     go false e = rw (r, e)
 
 pub bad-bytes : (rec : Record) (xs cells : List ℕ) (f : Sent) {r : Record} (l : Bool) → r ≡ rec → recordOk r ≡ true → isPacking xs ≡ false
-    → eqb (length cells) (modelOf (r .model) .length) ≡ l → Leaves (calledFrame rec xs cells f) (cond l 3 2) xs cells (f .out) 0 0
+    → eqb (length cells) (modelOf (r .model) .length) ≡ l → Leaves (calledFrame rec xs cells f) (cond l 3 2) xs cells (f .out) 0 0 0
 bad-bytes rec xs cells f {r} l e b n k =
-    let c : calledFrame rec xs cells f ≡ called (cond l 3 2) xs cells (f .out) 0 0 =
+    let c : calledFrame rec xs cells f ≡ called (cond l 3 2) xs cells (f .out) 0 0 0 =
     bad-state rec xs cells f (sym (ap recordOk e) ∙ b) (invalid rec xs n)
-    ∙ ap (λ (t : Bool). called (cond t 3 2) xs cells (f .out) 0 0) (ap (λ (q : Record). eqb (length cells) (modelOf (q .model) .length)) (sym e) ∙ k)
+    ∙ ap (λ (t : Bool). called (cond t 3 2) xs cells (f .out) 0 0 0) (ap (λ (q : Record). eqb (length cells) (modelOf (q .model) .length)) (sym e) ∙ k)
     in
-    rw c (record { number-is = refl; state-is = refl; cells-are = refl; out-is = refl; from-is = refl; count-is = refl })
+    rw c (record { number-is = refl; state-is = refl; cells-are = refl; out-is = refl; from-is = refl; count-is = refl; fold-is = refl })
 
 -- ---- waits and power cycles
 -- refused before the state is unpacked

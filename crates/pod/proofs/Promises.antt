@@ -11,7 +11,7 @@ use borrow.Author.Tests.{eq-eqb, ne-eqb}
 use Rattle.units.proofs.Bools.{neither}
 use Rattle.models.specs.Models.{modelOf}
 use Rattle.answers.specs.Answers.{numberOf, isDone, saysProtected}
-use Rattle.states.specs.States.{recordOk, stateOk}
+use Rattle.states.specs.States.{flag, recordOk, stateOk}
 use Rattle.states.specs.declared.Record.{Record}
 use Rattle.states.specs.declared.State.{State}
 use Rattle.answers.specs.declared.Answer.{Answer}
@@ -47,7 +47,7 @@ unfolding calledFrame frameOf refusalOf keptOf
 frame-refuses-bytes rec xs cells f n = go (recordOk rec) refl
   where
     go : (r : Bool) → recordOk rec ≡ r
-        → calledFrame rec xs cells f ≡ called (cond r (cond (eqb (length cells) (modelOf (rec .model) .length)) 3 2) 1) xs cells (f .out) 0 0
+        → calledFrame rec xs cells f ≡ called (cond r (cond (eqb (length cells) (modelOf (rec .model) .length)) 3 2) 1) xs cells (f .out) 0 0 0
     go true e = bad-state rec xs cells f e (not-valid rec xs n)
     go false e = rw e
 
@@ -73,10 +73,10 @@ module _ (rec : Record) (xs cells : List ℕ) (f : Sent) where
 
   -- a refused frame drives nothing and changes no cell
   refused-called : (numberOf a ≡ 0 → ⊥)
-      → calledFrame rec xs cells f ≡ called (numberOf a) (keptOf a (refusalLeaves (rec .model) a (unpackOf xs)) xs) cells (f .out) 0 0
+      → calledFrame rec xs cells f ≡ called (numberOf a) (keptOf a (refusalLeaves (rec .model) a (unpackOf xs)) xs) cells (f .out) 0 0 0
   unfolding calledFrame
   refused-called n =
-      ap (λ (e : Effect). called (numberOf (e .reply .answer)) (keptOf (e .reply .answer) (e .reply .state) xs) (e .cells) (e .out) (e .reply .from) (e .reply .count))
+      ap (λ (e : Effect). called (numberOf (e .reply .answer)) (keptOf (e .reply .answer) (e .reply .state) xs) (e .cells) (e .out) (e .reply .from) (e .reply .count) (flag (e .reply .fold) 1))
       (refused rec x f (ne-eqb (numberOf a) 0 n))
 
   -- the bytes of a state that stays are those given
@@ -94,7 +94,7 @@ module _ (rec : Record) (xs cells : List ℕ) (f : Sent) where
 pub refused-frame-stays : RefusedFrameStays
 unfolding calledFrame
 refused-frame-stays rec xs cells f n h =
-    refused-called rec xs cells f n ∙ ap (λ (b : List ℕ). called (numberOf (a rec xs cells f)) b cells (f .out) 0 0) (stays rec xs cells f n h)
+    refused-called rec xs cells f n ∙ ap (λ (b : List ℕ). called (numberOf (a rec xs cells f)) b cells (f .out) 0 0 0) (stays rec xs cells f n h)
 
 pub refused-frame-clears : RefusedFrameClears
 unfolding calledFrame keptOf
@@ -144,8 +144,8 @@ cycle-carries rec xs = time-carries rec xs (cycled (unpackOf xs)) (cycled-small 
 
 -- ---- no second answer
 pub one-called : OneCalled
-one-called c n m xs ys cells cells′ out out′ from from′ count count′ p q =
-    rw (p .number-is, p .state-is, p .cells-are, p .out-is, p .from-is, p .count-is, q .number-is, q .state-is, q .cells-are, q .out-is, q .from-is, q .count-is)
+one-called c n m xs ys cells cells′ out out′ from from′ count count′ fold fold′ p q =
+    rw (p .number-is, p .state-is, p .cells-are, p .out-is, p .from-is, p .count-is, p .fold-is, q .number-is, q .state-is, q .cells-are, q .out-is, q .from-is, q .count-is, q .fold-is)
 
 pub one-answered : OneAnswered
 one-answered c n m xs ys p q = rw (p .number-is, p .state-is, q .number-is, q .state-is)

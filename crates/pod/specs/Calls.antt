@@ -6,6 +6,7 @@ use Prim.Native.Nat.{ℕ, _≤_}
 use lib.Dec.{eqb}
 use lib.ListN.{length}
 use Rattle.answers.specs.Answers.{numberOf, isDone, saysProtected}
+use Rattle.states.specs.States.{flag}
 use Rattle.states.specs.declared.Record.{Record}
 use Rattle.states.specs.declared.State.{State}
 use Rattle.answers.specs.declared.Answer.{Answer}
@@ -28,7 +29,7 @@ mayMove a = isDone a || saysProtected a
 unfoldable pub keptOf : Answer → State → List ℕ → List ℕ
 keptOf a next state = cond (mayMove a) (packOf next) state
 
--- a frame: the number of 01's table, the state bytes, the array, the output, the first driven position and how many
+-- a frame: the number of 01's table, the state bytes, the array, the output, the first driven position and how many, and whether it folded
 pub record Called : Type 0 where
   pub number : ℕ
   pub state : List ℕ
@@ -36,10 +37,11 @@ pub record Called : Type 0 where
   pub out : List ℕ
   pub from : ℕ
   pub count : ℕ
+  pub fold : ℕ
 
-abbrev pub called : ℕ → List ℕ → List ℕ → List ℕ → ℕ → ℕ → Called
-called number state cells out from count =
-    record { number = number; state = state; cells = cells; out = out; from = from; count = count }
+abbrev pub called : ℕ → List ℕ → List ℕ → List ℕ → ℕ → ℕ → ℕ → Called
+called number state cells out from count fold =
+    record { number = number; state = state; cells = cells; out = out; from = from; count = count; fold = fold }
 
 -- what C sends: WP# is low at 0, high at any other number
 abbrev pub sentBy : List ℕ → ℕ → ℕ → List ℕ → Sent
@@ -48,7 +50,7 @@ sentBy bytes tail wp out = sentOf bytes tail (not (eqb wp 0)) out
 unfoldable pub calledFrame : Record → List ℕ → List ℕ → Sent → Called
 calledFrame rec state cells f =
     let e : Effect = frameOf rec (chipOf (unpackOf state) cells) f in
-    called (numberOf (e .reply .answer)) (keptOf (e .reply .answer) (e .reply .state) state) (e .cells) (e .out) (e .reply .from) (e .reply .count)
+    called (numberOf (e .reply .answer)) (keptOf (e .reply .answer) (e .reply .state) state) (e .cells) (e .out) (e .reply .from) (e .reply .count) (flag (e .reply .fold) 1)
 
 -- a wait or a power cycle: the number and the state bytes
 pub record Answered : Type 0 where
@@ -68,13 +70,14 @@ unfoldable pub calledCycle : Record → List ℕ → Answered
 calledCycle rec state = answeredOf state (powerOf rec (unpackOf state))
 
 -- what a function's result and its lent places at exit have to be
-pub record Leaves (c : Called) (number : ℕ) (state cells out : List ℕ) (from count : ℕ) : Type 0 where
+pub record Leaves (c : Called) (number : ℕ) (state cells out : List ℕ) (from count fold : ℕ) : Type 0 where
   pub number-is : number ≡ c .number
   pub state-is : state ≡ c .state
   pub cells-are : cells ≡ c .cells
   pub out-is : out ≡ c .out
   pub from-is : from ≡ c .from
   pub count-is : count ≡ c .count
+  pub fold-is : fold ≡ c .fold
 
 pub record Answers (c : Answered) (number : ℕ) (state : List ℕ) : Type 0 where
   pub number-is : number ≡ c .number

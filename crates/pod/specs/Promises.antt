@@ -37,7 +37,7 @@ FrameRefusesBytes =
     (rec : Record) (xs cells : List ℕ) (f : Sent)
     → NoPacking rec xs
     → calledFrame rec xs cells f
-    ≡ called (cond (recordOk rec) (cond (eqb (length cells) (modelOf (rec .model) .length)) 3 2) 1) xs cells (f .out) 0 0
+    ≡ called (cond (recordOk rec) (cond (eqb (length cells) (modelOf (rec .model) .length)) 3 2) 1) xs cells (f .out) 0 0 0
 
 abbrev pub WaitRefusesBytes : Type 0
 WaitRefusesBytes = (rec : Record) (xs : List ℕ) (us : ℕ) → NoPacking rec xs → calledWait rec xs us ≡ answered (cond (recordOk rec) 3 1) xs
@@ -45,20 +45,20 @@ WaitRefusesBytes = (rec : Record) (xs : List ℕ) (us : ℕ) → NoPacking rec x
 abbrev pub CycleRefusesBytes : Type 0
 CycleRefusesBytes = (rec : Record) (xs : List ℕ) → NoPacking rec xs → calledCycle rec xs ≡ answered (cond (recordOk rec) 3 1) xs
 
--- ---- a refused call leaves everything as it was, and *from and *count 0; but on model 3 the answer 17 clears WEL in the state bytes
+-- ---- a refused call leaves everything as it was, and *from, *count and *fold 0; but on model 3 the answer 17 clears WEL in the state bytes
 abbrev pub RefusedFrameStays : Type 0
 RefusedFrameStays =
     (rec : Record) (xs cells : List ℕ) (f : Sent)
     → (calledFrame rec xs cells f .number ≡ 0 → ⊥)
     → (modelOf (rec .model) .«latch_falls» ≡ false) ⊎ (calledFrame rec xs cells f .number ≡ 17 → ⊥)
-    → calledFrame rec xs cells f ≡ called (calledFrame rec xs cells f .number) xs cells (f .out) 0 0
+    → calledFrame rec xs cells f ≡ called (calledFrame rec xs cells f .number) xs cells (f .out) 0 0 0
 
 abbrev pub RefusedFrameClears : Type 0
 RefusedFrameClears =
     (rec : Record) (xs cells : List ℕ) (f : Sent)
     → modelOf (rec .model) .«latch_falls» ≡ true
     → calledFrame rec xs cells f .number ≡ 17
-    → calledFrame rec xs cells f ≡ called 17 (packOf (latched (unpackOf xs) false)) cells (f .out) 0 0
+    → calledFrame rec xs cells f ≡ called 17 (packOf (latched (unpackOf xs) false)) cells (f .out) 0 0 0
 
 abbrev pub RefusedWaitStays : Type 0
 RefusedWaitStays = (rec : Record) (xs : List ℕ) (us : ℕ) → (calledWait rec xs us .number ≡ 0 → ⊥) → calledWait rec xs us .state ≡ xs
@@ -81,10 +81,10 @@ CycleCarries = (rec : Record) (xs : List ℕ) → unpackOf (calledCycle rec xs .
 -- ---- no second answer: two results of one call that satisfy the contract are equal in every part
 abbrev pub OneCalled : Type 0
 OneCalled =
-    (c : Called) (n m : ℕ) (xs ys cells cells′ out out′ : List ℕ) (from from′ count count′ : ℕ)
-    → Leaves c n xs cells out from count
-    → Leaves c m ys cells′ out′ from′ count′
-    → called n xs cells out from count ≡ called m ys cells′ out′ from′ count′
+    (c : Called) (n m : ℕ) (xs ys cells cells′ out out′ : List ℕ) (from from′ count count′ fold fold′ : ℕ)
+    → Leaves c n xs cells out from count fold
+    → Leaves c m ys cells′ out′ from′ count′ fold′
+    → called n xs cells out from count fold ≡ called m ys cells′ out′ from′ count′ fold′
 
 abbrev pub OneAnswered : Type 0
 OneAnswered = (c : Answered) (n m : ℕ) (xs ys : List ℕ) → Answers c n xs → Answers c m ys → answered n xs ≡ answered m ys

@@ -101,7 +101,8 @@ fn record_of(
     }
 }
 
-// Any frame: its answer's number. WP# is low where wp is 0. from and count get the first driven position and how many, both 0 when none.
+// Any frame: its answer's number. WP# is low where wp is 0. from and count get the first driven position and how many, both 0 when none;
+// fold gets 1 where a program went past its page's end, else 0.
 #[no_mangle]
 pub extern "C" fn gwo_frame(
     model: u32,
@@ -119,8 +120,9 @@ pub extern "C" fn gwo_frame(
     out: &mut [u8],
     from: &mut u32,
     count: &mut u32,
+    fold: &mut u32,
 ) -> u32
-    ensures { λ r. ⌜ Leaves (calledFrame (recordOf model «status_us» «page_us» «sector_us» «block_us» «chip_us» «half_us») (now (state .entry)) (now (array .entry)) (sentBy (now (frame .entry)) tail wp (now (out .entry)))) r (now (state .exit)) (now (array .exit)) (now (out .exit)) (now (from .exit)) (now (count .exit)) ⌝ }
+    ensures { λ r. ⌜ Leaves (calledFrame (recordOf model «status_us» «page_us» «sector_us» «block_us» «chip_us» «half_us») (now (state .entry)) (now (array .entry)) (sentBy (now (frame .entry)) tail wp (now (out .entry)))) r (now (state .exit)) (now (array .exit)) (now (out .exit)) (now (from .exit)) (now (count .exit)) (now (fold .exit)) ⌝ }
 {
     let rec = record_of(
         model,
@@ -134,11 +136,13 @@ pub extern "C" fn gwo_frame(
     if !states::record_ok(rec) {
         *from = 0;
         *count = 0;
+        *fold = 0;
         return 1;
     }
     if !is_packed(state) {
         *from = 0;
         *count = 0;
+        *fold = 0;
         let row = models::model_of(rec.model);
         return if array.len() == row.length as usize {
             3
@@ -150,6 +154,7 @@ pub extern "C" fn gwo_frame(
     let reply = chip::frame(rec, st, array, frame, tail, wp != 0, out);
     *from = reply.from;
     *count = reply.count;
+    *fold = reply.fold as u32;
     let answer = reply.answer;
     let next = reply.state;
     keep(answer, next, state)

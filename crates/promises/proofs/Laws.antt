@@ -32,11 +32,11 @@ use Rattle.effects.specs.declared.Reply.{Reply}
 use Rattle.time.specs.declared.After.{After}
 use Rattle.effects.specs.Effects.{Effect, programPage, latched, dozing, working, written}
 use Rattle.chip.specs.Frames.{Chip, headFor, acceptedOf, refusedOf}
-use Rattle.chip.specs.Units.{drivenBytes}
+use Rattle.chip.specs.Units.{drivenBytes, foldOf}
 use Rattle.time.specs.Time.{later, cycled, ifValid, waitOf, powerOf}
 use Rattle.changes.proofs.Fits.{page-fits}
-use Rattle.chip.proofs.Sorts.{is-done, counts, changes-only, moves, Move, stays, latches, dozes, works, writes}
-use Rattle.promises.specs.Laws.{WaitsAdd, RefusedFrame, RefusedWait, RefusedCycle, OnlyItsUnit, ProgramFalls, OneOutcome, OneEffect, OneWait, OneCycle, NumberFixed, RefusalKeeps, RefusalClears, LatchFalls, TbStays}
+use Rattle.chip.proofs.Sorts.{is-done, notes, counts, changes-only, moves, Move, stays, latches, dozes, works, writes}
+use Rattle.promises.specs.Laws.{WaitsAdd, RefusedFrame, RefusedWait, RefusedCycle, OnlyItsUnit, ProgramFalls, OneOutcome, OneEffect, OneWait, OneCycle, NumberFixed, FoldNoted, RefusalKeeps, RefusalClears, LatchFalls, TbStays}
 use Rattle.chip.proofs.Cases.{head, frame-cases, sort, shown-ready, shown-asked, refused-moves}
 use Rattle.calls.specs.Calls.{sends, waits, cycles, after}
 use Rattle.calls.proofs.Valid.{later-sound}
@@ -226,3 +226,9 @@ number-fixed rec x f r xs os g d =
     ∙ frame-cases rec x f (λ (e : Effect). isDone (e .reply .answer) ≡ true → e .reply .count ≡ drivenBytes (decodeOf (rec .model) (getD (f .bytes) 0 0)) (length (f .bytes)))
     (λ e p. counts (sort rec x f)) (λ e p. absurd (true≢false (sym p ∙ e)))
     (sym (ap (λ (q : Reply). isDone (q .answer)) (g .reply)) ∙ d)
+
+-- ---- the note on a fold
+pub fold-noted : FoldNoted
+fold-noted rec x f =
+    frame-cases rec x f (λ (e : Effect). e .reply .fold ≡ (isDone (e .reply .answer) && foldOf (head rec x f .command) (head rec x f .address) (length (f .bytes))))
+    (λ d. let k = sort rec x f in rw (is-done k) (notes k)) (λ d. rw d)

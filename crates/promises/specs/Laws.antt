@@ -1,6 +1,6 @@
 -- Laws of the model that are worth having in their own right. Assumes nothing.
 use mathlib.Core.Path.{_≡_}
-use mathlib.Core.Bool.{false, true}
+use mathlib.Core.Bool.{false, true, _&&_}
 use mathlib.Core.List.{List, []}
 use mathlib.Core.Logic.{_⊎_}
 use Prim.Native.Nat.{ℕ, _+_, _≤_, _<_}
@@ -18,8 +18,9 @@ use Rattle.commands.specs.declared.Command.the-variants.{Program}
 use Rattle.effects.specs.declared.Reply.{Reply}
 use Rattle.time.specs.declared.After.{After}
 use Rattle.effects.specs.Effects.{Gives, latched, refusalLeaves}
+use Rattle.ladder.specs.declared.Head.{Head}
 use Rattle.chip.specs.Frames.{Chip, Sent, headOf, refusedOf, frameOf}
-use Rattle.chip.specs.Units.{Extent, unitOf, drivenBytes}
+use Rattle.chip.specs.Units.{Extent, unitOf, drivenBytes, foldOf}
 use Rattle.time.specs.Time.{waitOf, powerOf}
 use Rattle.calls.specs.Calls.{Call, ours, after}
 
@@ -97,3 +98,10 @@ abbrev pub NumberFixed : Type 0
 NumberFixed =
     (rec : Record) (x : Chip) (f : Sent) (r : Reply) (xs os : List ℕ) → Gives (frameOf rec x f) r xs os → isDone (r .answer) ≡ true
     → r .count ≡ drivenBytes (decodeOf (rec .model) (getD (f .bytes) 0 0)) (length (f .bytes))
+
+-- the answer says that a program folded exactly when the frame is taken, its command is a program, and a byte went past the page's end
+abbrev pub FoldNoted : Type 0
+FoldNoted =
+    (rec : Record) (x : Chip) (f : Sent)
+    → (let h : Head = headOf rec x f in
+    frameOf rec x f .reply .fold ≡ (isDone (frameOf rec x f .reply .answer) && foldOf (h .command) (h .address) (length (f .bytes))))

@@ -46,6 +46,15 @@ fn say_driven(from: u32, count: u32, out: &[u8]) {
     }
 }
 
+// Whether a program folded.
+fn say_note(fold: bool) {
+    if fold {
+        say(b"\tfold\t");
+    } else {
+        say(b"\t-\t");
+    }
+}
+
 // The status byte, the deep power-down flag and the busy time.
 fn say_state(st: State) {
     if st.bp < 32 {
@@ -73,7 +82,7 @@ pub fn say_row(line: &[u8], last: Played, look: u32, array: &[u8], out: &[u8]) {
     say(b"|");
     say_number(last.answer as u64);
     say_driven(last.from, last.count, out);
-    say(b"\t");
+    say_note(last.fold);
     say_state(st);
     say_cells(array, look);
     say(b"\n");

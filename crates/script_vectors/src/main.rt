@@ -65,6 +65,20 @@ fn position(line: Line) -> u32 {
     }
 }
 
+// A frame with WP# high is noted as folded, so that both notes are put.
+fn noted(line: Line) -> bool {
+    match line {
+        Line::Frame {
+            wp,
+            tail: _,
+            count: _,
+        } => wp,
+        Line::Wait(_) => false,
+        Line::Power => false,
+        Line::Bad => false,
+    }
+}
+
 // The bytes of a frame's line, at the start of bytes; none of any other.
 fn driven(line: Line, text: &[u8], bytes: &mut [u8]) -> usize {
     match line {
@@ -78,7 +92,15 @@ fn driven(line: Line, text: &[u8], bytes: &mut [u8]) -> usize {
 // The row of a line that drives the first n of bytes.
 fn put(number: u64, line: Line, bytes: &[u8], n: usize, out: &mut [u8]) -> usize {
     if n <= bytes.len() {
-        log::put_row(number, answer(line), position(line), &bytes[0..n], out, 0)
+        log::put_row(
+            number,
+            answer(line),
+            position(line),
+            &bytes[0..n],
+            noted(line),
+            out,
+            0,
+        )
     } else {
         0
     }

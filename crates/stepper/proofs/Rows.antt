@@ -22,7 +22,7 @@ use Rattle.stepper.specs.Rows.{lineTurn, rowText, Logs, OneLogs}
 
 pub row-logs : (rec : Record) (s : State) (cells : List ℕ) (number : ℕ) (line d : List ℕ) (at : ℕ) {r : Played} {next : ℕ} {xs os e : List ℕ} → at + longestRow ≤ length d
     → Plays (lineTurn rec s cells line) r xs os → length os ≡ 300
-    → Rowed (roomOf (length (take (r .from + r .count - r .from) (drop (r .from) os)))) (logText number (r .answer) (r .from) (take (r .from + r .count - r .from) (drop (r .from) os))) d at e next
+    → Rowed (roomOf (length (take (r .from + r .count - r .from) (drop (r .from) os)))) (logText number (r .answer) (r .from) (take (r .from + r .count - r .from) (drop (r .from) os)) (r .fold)) d at e next
     → Logs rec s cells number line d at (record { next = next; state = r .state }) xs e
 unfolding rowText
 row-logs rec s cells number line d at {r} {next} {xs} {os} {e} room p l w =
@@ -42,13 +42,13 @@ row-logs rec s cells number line d at {r} {next} {xs} {os} {e} room p l w =
     long : length shown ≤ 300
     long = omega (arith, length-take (r .from + r .count - r .from) (drop (r .from) os), length-drop (r .from) os)
 
-    few : length (logText number (r .answer) (r .from) shown) ≤ roomOf (length shown)
-    few = row-most number (r .answer) (r .from) shown
+    few : length (logText number (r .answer) (r .from) shown (r .fold)) ≤ roomOf (length shown)
+    few = row-most number (r .answer) (r .from) shown (r .fold)
 
     fits : leb (at + roomOf (length shown)) (length d) ≡ true
     fits = le-leb (at + roomOf (length shown)) (length d) (omega (arith, long))
 
-    put : Put (logText number (r .answer) (r .from) shown) d at e next
+    put : Put (logText number (r .answer) (r .from) shown (r .fold)) d at e next
     put =
         record {
           room = omega (arith, few, long);
@@ -56,12 +56,12 @@ row-logs rec s cells number line d at {r} {next} {xs} {os} {e} room p l w =
           next = w .next ∙ rw fits;
         }
 
-    text : logText number (r .answer) (r .from) shown ≡ logText number (lineTurn rec s cells line .played .answer) (lineTurn rec s cells line .played .from) (part (lineTurn rec s cells line .shown) (lineTurn rec s cells line .played .from) (lineTurn rec s cells line .played .count))
+    text : logText number (r .answer) (r .from) shown (r .fold) ≡ logText number (lineTurn rec s cells line .played .answer) (lineTurn rec s cells line .played .from) (part (lineTurn rec s cells line .shown) (lineTurn rec s cells line .played .from) (lineTurn rec s cells line .played .count)) (lineTurn rec s cells line .played .fold)
     text =
         let k : r .from + r .count - r .from ≡ r .count = omega arith in
-        ap (λ (n : ℕ). logText number (r .answer) (r .from) (take n (drop (r .from) os))) k
-        ∙ ap (λ (z : List ℕ). logText number (r .answer) (r .from) (part z (r .from) (r .count))) (p .shown)
-        ∙ ap (λ (q : Played). logText number (q .answer) (q .from) (part (lineTurn rec s cells line .shown) (q .from) (q .count))) (p .played)
+        ap (λ (n : ℕ). logText number (r .answer) (r .from) (take n (drop (r .from) os)) (r .fold)) k
+        ∙ ap (λ (z : List ℕ). logText number (r .answer) (r .from) (part z (r .from) (r .count)) (r .fold)) (p .shown)
+        ∙ ap (λ (q : Played). logText number (q .answer) (q .from) (part (lineTurn rec s cells line .shown) (q .from) (q .count)) (q .fold)) (p .played)
 
 -- no row of a line is longer than `longestRow`
 pub row-short : (rec : Record) (s : State) (cells : List ℕ) (number : ℕ) (line : List ℕ) → length (rowText rec s cells number line) ≤ longestRow
@@ -69,7 +69,7 @@ unfolding rowText
 row-short rec s cells number line =
     let t : Turn = lineTurn rec s cells line in
     let within : t .played .from + t .played .count ≤ 300 = played-within rec (chipOf s cells) (replicate 300 0) line refl in
-    let few = row-most number (t .played .answer) (t .played .from) (part (t .shown) (t .played .from) (t .played .count)) in
+    let few = row-most number (t .played .answer) (t .played .from) (part (t .shown) (t .played .from) (t .played .count)) (t .played .fold) in
     let long : length (part (t .shown) (t .played .from) (t .played .count)) ≤ t .played .count = omega (arith, length-take (t .played .count) (drop (t .played .from) (t .shown))) in
     omega (arith, few, long, within)
 

@@ -19,7 +19,7 @@ lineTurn rec s cells line = playOf rec (chipOf s cells) (replicate 300 0) line
 unfoldable pub rowText : Record → State → List ℕ → ℕ → List ℕ → List ℕ
 rowText rec s cells number line =
     let t : Turn = lineTurn rec s cells line in
-    logText number (t .played .answer) (t .played .from) (part (t .shown) (t .played .from) (t .played .count))
+    logText number (t .played .answer) (t .played .from) (part (t .shown) (t .played .from) (t .played .count)) (t .played .fold)
 
 -- the row was put into d from `at` on, which makes it e; and the state and the array are the line's
 pub record Logs (rec : Record) (s : State) (cells : List ℕ) (number : ℕ) (line d : List ℕ) (at : ℕ) (r : Logged) (xs e : List ℕ) : Type 0 where

@@ -31,6 +31,7 @@ pub fn stepped(st: State, rec: Record, line: &[u8], array: &mut [u8], shown: &mu
         from: p.from,
         count: p.count,
         state: s,
+        fold: p.fold,
     }
 }
 
@@ -57,7 +58,7 @@ pub fn log_line(
     let p = stepped(st, rec, line, array, &mut shown);
     let from = p.from as usize;
     let end = from + p.count as usize;
-    let next = log::put_row(number, p.answer, p.from, &shown[from..end], log, at);
+    let next = log::put_row(number, p.answer, p.from, &shown[from..end], p.fold, log, at);
     let state = p.state;
     Logged { next, state }
 }

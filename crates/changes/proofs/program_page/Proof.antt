@@ -1,8 +1,13 @@
 -- `changes::program_page` meets its contract. Assumes nothing.
 use mathlib.Core.Path.{ap, _∙_}
-use Rattle.answers.specs.declared.Answer.the-variants.{Done}
+use mathlib.Core.List.{List}
+use Prim.Native.Nat.{ℕ}
+use lib.ListN.{length}
+use Rattle.units.specs.Kinds.{pageOffset}
+use Rattle.fold.specs.Fold.{folds}
+use Rattle.states.specs.declared.State.{State}
 use Rattle.flash.specs.Arrays.{programmed}
-use Rattle.effects.specs.Effects.{quiet, programPage}
+use Rattle.effects.specs.Effects.{folding, working, programPage}
 use Rattle.effects.proofs.Replies.{tail-drop}
 use Rattle.changes.proofs.Fits.{page-fits}
 use borrow.Author.Needs.{needs}
@@ -14,7 +19,17 @@ program-requires c κs = page-fits (c .before .before .before .before .args .rec
 
 returns : tie.Need-returns
 unfolding programPage
-returns c = record { reply = c .quiet .ensures ∙ ap (quiet Done) (c .before .work .ensures); cells = c .before .before .before .before .program .ensures ∙ ap (programmed (c .before .before .before .before .before .before .before .before .before .args .array .now) (c .before .before .before .before .before .before .before .before .before .args .at)) (tail-drop 4 (c .before .before .before .before .before .before .before .before .before .args .bytes .now)) }
+returns c =
+    let p = c .before .before .before .before in
+    let given = p .before .before .before .before .before .args in
+    let rest = tail-drop 4 (given .bytes .now) in
+    record {
+      reply =
+          c .taken .ensures
+          ∙ ap (λ (s : State). folding s (p .program .result)) (c .before .work .ensures)
+          ∙ ap (folding (working (given .st) (given .rec .page))) (p .program .ensures .1 ∙ ap (λ (b : List ℕ). folds (pageOffset (given .at)) (length b)) rest);
+      cells = p .program .ensures .0 ∙ ap (programmed (given .array .now) (given .at)) rest;
+    }
 
 pub program-page-spec : {M : Type 1} → statement M
 program-page-spec =

@@ -20,7 +20,7 @@ returns c =
     let number = put-then (a1 .put-number .ensures .0) (a2 .put-byte .ensures) in
     let answer = put-then (put-then number (a3 .put-number2 .ensures .0)) (a4 .put-byte2 .ensures) in
     let from = put-then (put-then answer (a5 .put-from .ensures .0)) (a6 .put-byte3 .ensures) in
-    put-as (put-then (put-then from (a7 .put-driven .ensures .0)) (a8 .put-byte4 .ensures)) (simp append-assoc)
+    put-as (put-then (put-then from (a7 .put-driven .ensures .0)) (a8 .put-note .ensures)) (simp append-assoc)
 
 pub put-fields-spec : {M : Type 1} → statement M
 put-fields-spec =

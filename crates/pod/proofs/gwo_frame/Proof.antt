@@ -43,17 +43,17 @@ unpack-requires c κs = packing-length _ (packed (c .before))
 
 keep-requires : tie.Need-keep-requires
 keep-requires c κs =
-    let u = c .before .before .before .before .before .before .before .before .before in
+    let u = c .before .before .before .before .before .before .before .before .before .before in
     let e = u .before .before in
     let given = e .before .before .before .before .before .before .before .before .before .before .args in
-    fits-frame (recordOf (given .model) (given .status-us) (given .page-us) (given .sector-us) (given .block-us) (given .chip-us) (given .half-us)) (given .state .now) (given .array .now) (sentBy (given .frame .now) (given .tail) (given .wp) (given .out .now)) (e .before .before .before .before .before .record-of .ensures) (u .unpack .ensures ∙ sym (unpack-read _ (packed e))) (c .before .before .before .before .before .before .frame .ensures)
+    fits-frame (recordOf (given .model) (given .status-us) (given .page-us) (given .sector-us) (given .block-us) (given .chip-us) (given .half-us)) (given .state .now) (given .array .now) (sentBy (given .frame .now) (given .tail) (given .wp) (given .out .now)) (e .before .before .before .before .before .record-of .ensures) (u .unpack .ensures ∙ sym (unpack-read _ (packed e))) (c .before .before .before .before .before .before .before .frame .ensures)
 
 returns-4 : tie.Need-returns-4
 returns-4 c =
-    let u = c .before .before .before .before .before .before .before .before .before .before .before .before in
+    let u = c .before .before .before .before .before .before .before .before .before .before .before .before .before in
     let e = u .before .before in
     let given = e .before .before .before .before .before .before .before .before .before .before .args in
-    leaves (recordOf (given .model) (given .status-us) (given .page-us) (given .sector-us) (given .block-us) (given .chip-us) (given .half-us)) (given .state .now) (given .array .now) (sentBy (given .frame .now) (given .tail) (given .wp) (given .out .now)) (e .before .before .before .before .before .record-of .ensures) (u .unpack .ensures ∙ sym (unpack-read _ (packed e))) (c .before .before .before .before .before .before .before .before .before .frame .ensures)
+    leaves (recordOf (given .model) (given .status-us) (given .page-us) (given .sector-us) (given .block-us) (given .chip-us) (given .half-us)) (given .state .now) (given .array .now) (sentBy (given .frame .now) (given .tail) (given .wp) (given .out .now)) (e .before .before .before .before .before .record-of .ensures) (u .unpack .ensures ∙ sym (unpack-read _ (packed e))) (c .before .before .before .before .before .before .before .before .before .before .frame .ensures)
     (c .before .before .keep .ensures .0) (c .before .before .keep .ensures .1)
 
 pub gwo-frame-spec : {M : Type 1} → statement M
@@ -72,6 +72,7 @@ gwo-frame-spec =
     returns-3
     unpack-requires
     (λ c κs. search needs)
+    (λ c. search needs)
     keep-requires
     (λ c. search needs)
     (λ c. search needs)

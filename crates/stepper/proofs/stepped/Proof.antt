@@ -192,7 +192,7 @@ module _ {M : Type 1} (𝓤 : URA M) (H : Heap 𝓤) (A : Atoms 𝓤) (W : Given
         lies-out TState.the-type TState′.the-laws TState′.the-plain ! (r .state) l₆ (λ is-new.
         -- [_6; tokens; res; fin-shown; lasts; fin-array; fin-line; fin-rec; _13; d13; _12; d12; _11; d11; _10; d10; _9; d9; _8; d8; _7; d7; d6; _5; d5; _4; d4; _3; d3; _2; d2; _1; d1; _0; d0; kept-line]
         assigns ! (of-opd ! (load ! (from ! (stop !)) (look ! 0 refl))) (from ! (stop !)) (init ! 8 refl (LL.lawful TState.the-type TState′.the-laws 𝓤 H A W .typed (r .state) _ is-new .0)) $
-        assigns ! (agg ! (and-then ! (load ! (from ! (fld ! refl (stop !))) (look-in ! 20 (sub ! 0 refl (whole !)))) (and-then ! (load ! (from ! (fld ! refl (stop !))) (look-in ! 20 (sub ! 1 refl (whole !)))) (and-then ! (load ! (from ! (fld ! refl (stop !))) (look-in ! 20 (sub ! 2 refl (whole !)))) (and-then ! (load ! (from ! (stop !)) (look ! 8 refl)) (no-more !)))))) (from ! (stop !)) (init ! 33 refl (LL.lawful TPlayed.the-type TPlayed′.the-laws 𝓤 H A W .typed r _ (is-res r v is) .0)) $
+        assigns ! (agg ! (and-then ! (load ! (from ! (fld ! refl (stop !))) (look-in ! 20 (sub ! 0 refl (whole !)))) (and-then ! (load ! (from ! (fld ! refl (stop !))) (look-in ! 20 (sub ! 1 refl (whole !)))) (and-then ! (load ! (from ! (fld ! refl (stop !))) (look-in ! 20 (sub ! 2 refl (whole !)))) (and-then ! (load ! (from ! (stop !)) (look ! 8 refl)) (and-then ! (load ! (from ! (fld ! refl (stop !))) (look-in ! 20 (sub ! 4 refl (whole !)))) (no-more !))))))) (from ! (stop !)) (init ! 33 refl (LL.lawful TPlayed.the-type TPlayed′.the-laws 𝓤 H A W .typed r _ (is-res r v is) .0)) $
         -- [_6; tokens; res; fin-shown; lasts; fin-array; fin-line; fin-rec; _13; d13; _12; d12; _11; d11; _10; d10; _9; d9; _8; d8; _7; d7; d6; _5; d5; _4; d4; _3; d3; _2; d2; _1; d1; _0; d0; kept-line]
         returns ! (look ! 33 refl) $ forget ! 33 refl $ forget ! 31 refl $ forget ! 29 refl $ forget ! 27 refl $ forget ! 25 refl $ forget ! 23 refl $ forget ! 0 refl $ forget ! 20 refl $ forget ! 18 refl $ forget ! 16 refl $ forget ! 14 refl $ forget ! 12 refl $ forget ! 10 refl $ forget ! 8 refl $
         move ! (33 ∷ 34 ∷ []) $ free1 ! $ move ! (31 ∷ 32 ∷ []) $ free1 ! $ move ! (29 ∷ 30 ∷ []) $ free1 ! $ move ! (27 ∷ 28 ∷ []) $ free1 ! $ move ! (25 ∷ 26 ∷ []) $ free1 ! $ move ! (23 ∷ 24 ∷ []) $ free1 ! $ move ! (0 ∷ 22 ∷ []) $ free1 ! $ move ! (19 ∷ 20 ∷ []) $ free1 ! $ move ! (17 ∷ 18 ∷ []) $ free1 ! $ move ! (15 ∷ 16 ∷ []) $ free1 ! $ move ! (13 ∷ 14 ∷ []) $ free1 ! $ move ! (11 ∷ 12 ∷ []) $ free1 ! $ move ! (9 ∷ 10 ∷ []) $ free1 ! $ move ! (7 ∷ 8 ∷ []) $ free1 ! $ free0 ! $
