@@ -1,5 +1,7 @@
-/* Mistakes in what is said of a fold; the numbers go on from 21. */
+/* Mistakes in what is said of a fold, and a fold that takes too much stack; the numbers go on from 21. */
 #include "pod.h"
+
+#include <string.h>
 
 enum { PAGE = 256 };
 
@@ -53,6 +55,28 @@ static uint32_t says_it_of_a_read(const struct call *c)
     return number;
 }
 
+/* 25: right in all, but folds into a copy of the page on the stack. */
+static uint32_t copies_the_page(const struct call *c)
+{
+    uint8_t copy[PAGE], *page;
+    uint32_t address, number;
+    size_t n, i;
+
+    if (!is_program(c) || c->array_len == 0 || c->array_len != gwo_array_length(c->record.model))
+        return right_frame(c);
+    address = address_in(c);
+    page = c->array + address / PAGE * PAGE;
+    memcpy(copy, page, PAGE);
+    number = right_frame(c);
+    if (number != 0)
+        return number;
+    n = c->frame_len - 4;
+    for (i = n > PAGE ? n - PAGE : 0; i < n; i++)
+        copy[(address + i) % PAGE] &= c->frame[4 + i];
+    memcpy(page, copy, PAGE);
+    return 0;
+}
+
 const struct pod mistakes_of_fold[MISTAKES_OF_FOLD] = {
     {never_says_it, NULL, NULL}, {says_it_of_a_page, NULL, NULL}, {says_it_when_refused, NULL, NULL},
-    {says_it_of_a_read, NULL, NULL}};
+    {says_it_of_a_read, NULL, NULL}, {copies_the_page, NULL, NULL}};

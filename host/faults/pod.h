@@ -28,7 +28,7 @@ struct pod {
 };
 
 /* 1 to 11; those of model 3, from 12 on; and those of the fold, from 21 on. */
-enum { MISTAKES = 11, MISTAKES_OF_MODEL_3 = 9, MISTAKES_OF_FOLD = 4 };
+enum { MISTAKES = 11, MISTAKES_OF_MODEL_3 = 9, MISTAKES_OF_FOLD = 5 };
 extern const struct pod mistakes[MISTAKES], mistakes_of_model_3[MISTAKES_OF_MODEL_3],
     mistakes_of_fold[MISTAKES_OF_FOLD];
 

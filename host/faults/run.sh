@@ -16,7 +16,7 @@ failed=0
 rm -rf "$out"
 mkdir -p "$out"
 
-# The four programs with the pod behind the archive's names; GWO_FAULT says which fault it has.
+# The five programs with the pod behind the archive's names; GWO_FAULT says which fault it has.
 for source in "$here"/*.c; do
     "$host" cc -std=c99 -O2 -Wall -Wextra -Wpedantic -I"$root/host/include" -I"$root/host/model" -c "$source" \
         -o "$out/$(basename "$source" .c).o"
@@ -26,9 +26,13 @@ pod="$out/*.o $obj/model.o"
 for program in compare twelve; do
     "$host" cc "$obj/$program"*.o "$obj"/rig.o $pod -o "$out/$program"
 done
+"$host" cc "$obj"/stack*.o "$obj"/empty.o "$obj"/rig.o $pod -o "$out/stack"
 "$host" cc "$obj"/firmware.o $pod -o "$out/example"
 
-# passes FAULT TEST: runs one of the four, or a group of rules, with that fault; its words go to $out/log.
+# The bytes of stack that the three calls take without a fault: the limits for the faulty ones.
+own=$(GWO_FAULT=0 "$host" run "$out/stack" 65536 65536 65536 | awk '/^  gwo_/ { print $2 }')
+
+# passes FAULT TEST: runs one of the five, or a group of rules, with that fault; its words go to $out/log.
 passes() {
     export GWO_FAULT="$1"
     case $2 in
@@ -36,6 +40,7 @@ passes() {
     rules:*) "$host" run "$out/rules" first "${2#rules:}" >"$out/log" 2>&1 ;;
     compare) "$host" run "$out/compare" 100000 >"$out/log" 2>&1 ;;
     twelve) "$host" run "$out/twelve" first >"$out/log" 2>&1 ;;
+    stack) "$host" run "$out/stack" $own >"$out/log" 2>&1 ;;
     example)
         "$host" run "$out/example" >"$out/log" 2>&1 || return 1
         diff "$root/host/example/output.txt" "$out/log" >"$out/example.diff" && return 0
@@ -73,7 +78,7 @@ fault() {
     fi
 }
 
-for test in rules compare twelve example; do
+for test in rules compare twelve example stack; do
     if passes 0 $test; then
         say passed "no fault: $test passes"
     else
@@ -105,5 +110,6 @@ fault 21 "a fold is never said" rules:folds rules:programming "rules:bench sheet
 fault 22 "a fold is said of exactly 256 bytes from offset 0" rules:folds rules:programming compare twelve
 fault 23 "a fold is said of a refused program" rules:folds compare
 fault 24 "a fold is said of a read across a page's end" rules:folds "rules:reading commands" compare
+fault 25 "a program through a copy of the page on the stack" stack
 echo "$passed passed, $failed failed"
 [ $failed -eq 0 ]

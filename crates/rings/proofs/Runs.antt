@@ -67,8 +67,8 @@ repeated p i d xs h l =
 pub step : (i k n r : ℕ) → k ≡ i % n → r ≡ (k + 1) % n → r ≡ (i + 1) % n
 step i k n r e f = f ∙ ap (λ (m : ℕ). (m + 1) % n) e ∙ mod-add-mod i n 1
 
--- 1, 2 and 3 divide 96
-pub divides : (n : ℕ) → 0 < n → n ≤ 3 → 96 % n ≡ 0
+-- 1, 2 and 3 divide 24
+pub divides : (n : ℕ) → 0 < n → n ≤ 3 → 24 % n ≡ 0
 divides zero l m = absurd (not-suc-le-zero l)
 divides (suc zero) l m = refl
 divides (suc (suc zero)) l m = refl
@@ -81,6 +81,6 @@ pub repeat-back : (from end : ℕ) (xs ys p : List ℕ) → from ≤ end → end
 repeat-back from end xs ys p l m e =
     part-back from end from xs ys (ring p 0 (end - from)) refl l (e ∙ ap (ring p 0) (mid-len from end xs m)) (length-ring p 0 (end - from))
 
--- and read out of a block of 96 bytes
-pub block-read : (p block d out : List ℕ) (from n : ℕ) → 0 < length p → length p ≤ 3 → block ≡ ring p 0 96 → out ≡ lay d from (ring block 0 n) → out ≡ lay d from (ring p 0 n)
-block-read p block d out from n l m e f = f ∙ ap (lay d from) (ap (λ (z : List ℕ). ring z 0 n) e ∙ ring-ring p 96 n (omega arith) (divides (length p) l m))
+-- and read out of a block of 24 bytes
+pub block-read : (p block d out : List ℕ) (from n : ℕ) → 0 < length p → length p ≤ 3 → block ≡ ring p 0 24 → out ≡ lay d from (ring block 0 n) → out ≡ lay d from (ring p 0 n)
+block-read p block d out from n l m e f = f ∙ ap (lay d from) (ap (λ (z : List ℕ). ring z 0 n) e ∙ ring-ring p 24 n (omega arith) (divides (length p) l m))

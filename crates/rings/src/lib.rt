@@ -25,15 +25,15 @@ pub fn read_ring(src: &[u8], first: usize, out: &mut [u8], from: usize, end: usi
 }
 
 // The bytes of out from index from up to end become the pattern over and over, its first byte at from. The rest of out stays.
-// A long part is read out of a block of 96 bytes, which 1, 2 and 3 divide.
+// A long part is read out of a block of 24 bytes, which 1, 2 and 3 divide.
 pub fn repeat_part(out: &mut [u8], from: usize, end: usize, pattern: &[u8])
     requires { ⌜ (from ≤ end) × (end ≤ length (now out)) × (0 < length (now pattern)) × (length (now pattern) ≤ 3) ⌝ }
     ensures { λ _. ⌜ now (out .exit) ≡ lay (now (out .entry)) from (ring (now (pattern .entry)) 0 (end - from)) ⌝ }
 {
-    if end - from <= 96 {
+    if end - from <= 24 {
         repeat(&mut out[from..end], pattern);
     } else {
-        let mut block = [0u8; 96];
+        let mut block = [0u8; 24];
         repeat(&mut block, pattern);
         read_ring(&block, 0, out, from, end);
     }

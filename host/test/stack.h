@@ -1,0 +1,23 @@
+/* The two halves of stack.c. */
+#ifndef STACK_H
+#define STACK_H
+
+#include "gwo.h"
+
+enum kind { FRAME, WAIT, POWER_CYCLE, KINDS };
+
+/* The arguments of a call. */
+struct call {
+    enum kind kind;
+    struct gwo_record record;
+    uint8_t state[GWO_STATE_LENGTH];
+    uint8_t *array, *out;
+    const uint8_t *frame;
+    size_t array_len, frame_len, out_len;
+    uint32_t tail, wp, us;
+};
+
+/* Makes the call: how many bytes of stack it takes below its arguments and return address, and what it is answered. */
+size_t stack_of(const struct call *c, uint32_t *answer);
+
+#endif

@@ -1,0 +1,104 @@
+/*
+ * The stack that a call takes: it runs on a painted one, and the deepest byte that has lost its paint is looked for.
+ * The same is done with an empty call of the same form, and the difference is the call's own.
+ */
+#include "stack.h"
+
+#include "model.h"
+#include "rig.h"
+
+#include <string.h>
+#include <ucontext.h>
+
+enum { ROOM = 65536 };
+
+frame_call empty_frame;
+wait_call empty_wait;
+power_cycle_call empty_power_cycle;
+
+/* What is called next: its arguments, who it is, and what it has answered. */
+static const struct call *now;
+static frame_call *called_frame;
+static wait_call *called_wait;
+static power_cycle_call *called_power_cycle;
+static uint32_t answered;
+
+/* Lent to the call, which alters it. */
+static uint8_t state[GWO_STATE_LENGTH];
+
+static void make_frame(void)
+{
+    const struct gwo_record *r = &now->record;
+    uint32_t from, count, fold;
+
+    answered = called_frame(r->model, r->status_us, r->page_us, r->sector_us, r->block_us, r->chip_us, r->half_us,
+                            state, sizeof state, now->array, now->array_len, now->frame, now->frame_len,
+                            now->tail, now->wp, now->out, now->out_len, &from, &count, &fold);
+}
+
+static void make_wait(void)
+{
+    const struct gwo_record *r = &now->record;
+
+    answered = called_wait(r->model, r->status_us, r->page_us, r->sector_us, r->block_us, r->chip_us, r->half_us,
+                           state, sizeof state, now->us);
+}
+
+static void make_power_cycle(void)
+{
+    const struct gwo_record *r = &now->record;
+
+    answered = called_power_cycle(r->model, r->status_us, r->page_us, r->sector_us, r->block_us, r->chip_us,
+                                  r->half_us, state, sizeof state);
+}
+
+/* From the top of the painted stack to the deepest byte that the call has written. */
+static size_t depth(uint8_t paint)
+{
+    static void (*const makes[KINDS])(void) = {make_frame, make_wait, make_power_cycle};
+    static ucontext_t here, there;
+    static struct lent stack;
+    uint8_t *deepest;
+
+    if (stack.start == NULL)
+        stack = lend(ROOM);
+    memset(stack.start, paint, ROOM);
+    memcpy(state, now->state, sizeof state);
+    getcontext(&there);
+    there.uc_stack.ss_sp = stack.start;
+    there.uc_stack.ss_size = ROOM;
+    there.uc_link = &here;
+    makecontext(&there, makes[now->kind], 0);
+    swapcontext(&here, &there);
+    for (deepest = stack.start; *deepest == paint; deepest++)
+        continue;
+    return (size_t)(stack.end - deepest);
+}
+
+/* By two paints, since a call may write one of them. The first call may have to find and bind what it needs. */
+static size_t deepest(void)
+{
+    size_t one, other;
+
+    depth(0x00);
+    one = depth(0xA5);
+    other = depth(0x5A);
+    return one > other ? one : other;
+}
+
+size_t stack_of(const struct call *c, uint32_t *answer)
+{
+    size_t empty, whole;
+
+    now = c;
+    called_frame = empty_frame;
+    called_wait = empty_wait;
+    called_power_cycle = empty_power_cycle;
+    empty = deepest();
+    called_frame = gwo_frame;
+    called_wait = gwo_wait;
+    called_power_cycle = gwo_power_cycle;
+    whole = deepest();
+    *answer = answered;
+    return whole - empty;
+}
