@@ -11,7 +11,7 @@ use mir.Val.{boolByte}
 use borrow.Author.Tests.{eq-eqb}
 use Rattle.states.specs.States.{flag, statusOf}
 use Rattle.states.specs.declared.State.{State}
-use Rattle.pod.specs.Packing.{bytesOf, spelt, packOf, readOf, isPacking, noState, unpackOf}
+use Rattle.pod.specs.Packing.{bytesOf, spelt, packOf, readOf, isPacking, noState, unpackOf, Timed}
 use Rattle.pod.proofs.Bytes.{spelt-bytes, bytes-spelt, same-refl, same-eq, last-four}
 use Rattle.pod.proofs.Status.{flag-byte, flag-back, srwd-back, bp-back, wel-back, status-test, flag-test}
 
@@ -92,13 +92,14 @@ tests-right (a ∷ b ∷ c ∷ d ∷ ts) n h =
     let e : bytesOf 4 (spelt ts) ≡ ts = rw four at (bytes-spelt ts (λ (i : ℕ). h (suc (suc (suc (suc i)))))) in
     rw (e, same-refl ts, flag-test b, eq-eqb c c refl, status-test a (h 0) (not (eqb (spelt ts) 0)), and-true, and-assoc)
 
-module _ (xs : List ℕ) (n : length xs ≡ 8) {time : ℕ} (e : time ≡ spelt (getD xs 4 0 ∷ getD xs 5 0 ∷ getD xs 6 0 ∷ getD xs 7 0 ∷ [])) where
-  time-is : time ≡ spelt (drop 4 xs)
-  time-is = e ∙ sym (ap spelt (last-four xs n))
+-- the code's time
+pub timed : (xs : List ℕ) {time : ℕ} → time ≡ spelt (getD xs 4 0 ∷ getD xs 5 0 ∷ getD xs 6 0 ∷ getD xs 7 0 ∷ []) → Timed xs time
+timed xs e = record { is = λ n. e ∙ sym (ap spelt (last-four xs n)) }
 
+module _ (xs : List ℕ) (n : length xs ≡ 8) {time : ℕ} (e : Timed xs time) where
   pub tested : ((i : ℕ) → getD xs i 0 < 256) → tests xs (boolByte (not (eqb time 0))) ≡ isPacking xs
-  tested h = rw (flag-byte (not (eqb time 0)), time-is) (sym (tests-right xs n h))
+  tested h = rw (flag-byte (not (eqb time 0)), e .is n) (sym (tests-right xs n h))
 
   pub spells : record { srwd = leb 128 (getD xs 0 0); bp = getD xs 0 0 / 4 % 16; config = getD xs 2 0; wel = eqb (getD xs 0 0 / 2 % 2) 1; asleep = eqb (getD xs 1 0) 1; busy = time } ≡ readOf xs
   unfolding readOf
-  spells = rw time-is
+  spells = rw (e .is n)

@@ -1,9 +1,10 @@
 -- The packed state: 01, "Record, state, frame", last paragraph. Assumes nothing.
 use mathlib.Core.Bool.{Bool, true, false, _&&_, cond}
+use mathlib.Core.Path.{_≡_}
 use mathlib.Core.List.{List, [], _∷_}
 use Prim.Native.Nat.{ℕ, zero, suc, _+_, _*_, _/_, _%_}
 use lib.Dec.{eqb, leb}
-use lib.ListN.{getD, drop}
+use lib.ListN.{length, getD, drop}
 use Rattle.states.specs.States.{flag, statusOf}
 use Rattle.states.specs.declared.State.{State}
 
@@ -49,3 +50,7 @@ noState = record { srwd = false; bp = 255; config = 0; wel = false; asleep = fal
 
 unfoldable pub unpackOf : List ℕ → State
 unpackOf xs = cond (isPacking xs) (readOf xs) noState
+
+-- the busy time that the code has read: where there are 8 bytes, the last four spell it
+pub record Timed (xs : List ℕ) (busy : ℕ) : Type 0 where
+  pub is : length xs ≡ 8 → busy ≡ spelt (drop 4 xs)

@@ -4,7 +4,7 @@ ghost use mathlib.Core.List.{_∷_, []};
 ghost use Prim.Native.Nat.{_≤_};
 ghost use lib.ListN.{length};
 ghost use Rattle.answers.specs.Answers.{numberOf};
-ghost use Rattle.pod.specs.Packing.{spelt, packOf, readOf, isPacking};
+ghost use Rattle.pod.specs.Packing.{spelt, packOf, readOf, isPacking, Timed};
 ghost use Rattle.pod.specs.Calls.{recordOf, keptOf, Packs, Leaves, sentBy, Answers, calledFrame, calledWait, calledCycle};
 use answers::Answer;
 use parts::wide;
@@ -20,22 +20,33 @@ fn time_of(a: u8, b: u8, c: u8, d: u8) -> u32
     wide(a) + 256 * (wide(b) + 256 * (wide(c) + 256 * wide(d)))
 }
 
-// Whether the lent bytes are a packing: 8 of them, bit 6 of the status clear, WIP as the time makes it, the flag 0 or 1, and a zero.
-fn is_packed(state: &[u8]) -> bool
+// The busy time that 8 bytes spell; 0 of any other number of bytes.
+fn busy_in(state: &[u8]) -> u32
+    ensures { λ r. ⌜ Timed (now (state .entry)) r ⌝ }
+{
+    if state.len() == 8 {
+        return time_of(state[4], state[5], state[6], state[7]);
+    }
+    0
+}
+
+// Whether the lent bytes, which spell that busy time, are a packing: 8 of them, bit 6 of the status clear, WIP as the time makes it, the flag 0 or 1, and a
+// zero.
+fn is_packed(state: &[u8], busy: u32) -> bool
+    requires { ⌜ Timed (now state) busy ⌝ }
     ensures { λ r. ⌜ r ≡ isPacking (now (state .entry)) ⌝ }
 {
     if state.len() != 8 {
         return false;
     }
     let status = state[0];
-    let busy = time_of(state[4], state[5], state[6], state[7]);
     let wip = (busy != 0) as u8;
     (status / 64 % 2 == 0) & ((status % 2 == wip) & ((state[1] <= 1) & (state[3] == 0)))
 }
 
-// The state that 8 bytes spell.
-fn unpack(state: &[u8]) -> State
-    requires { ⌜ length (now state) ≡ 8 ⌝ }
+// The state that 8 bytes spell, with that busy time.
+fn unpack(state: &[u8], busy: u32) -> State
+    requires { ⌜ (length (now state) ≡ 8) × Timed (now state) busy ⌝ }
     ensures { λ r. ⌜ r ≡ readOf (now (state .entry)) ⌝ }
 {
     let status = state[0];
@@ -45,7 +56,7 @@ fn unpack(state: &[u8]) -> State
         config: state[2],
         wel: status / 2 % 2 == 1,
         asleep: state[1] == 1,
-        busy: time_of(state[4], state[5], state[6], state[7]),
+        busy,
     }
 }
 
@@ -139,7 +150,8 @@ pub extern "C" fn gwo_frame(
         *fold = 0;
         return 1;
     }
-    if !is_packed(state) {
+    let busy = busy_in(state);
+    if !is_packed(state, busy) {
         *from = 0;
         *count = 0;
         *fold = 0;
@@ -150,7 +162,7 @@ pub extern "C" fn gwo_frame(
             2
         };
     }
-    let st = unpack(state);
+    let st = unpack(state, busy);
     let reply = chip::frame(rec, st, array, frame, tail, wp != 0, out);
     *from = reply.from;
     *count = reply.count;
@@ -184,10 +196,11 @@ pub extern "C" fn gwo_wait(
         chip_us,
         half_us,
     );
-    if !is_packed(state) {
+    let busy = busy_in(state);
+    if !is_packed(state, busy) {
         return if states::record_ok(rec) { 3 } else { 1 };
     }
-    let st = unpack(state);
+    let st = unpack(state, busy);
     let waited = time::wait(rec, st, us);
     let answer = waited.answer;
     let next = waited.state;
@@ -217,10 +230,11 @@ pub extern "C" fn gwo_power_cycle(
         chip_us,
         half_us,
     );
-    if !is_packed(state) {
+    let busy = busy_in(state);
+    if !is_packed(state, busy) {
         return if states::record_ok(rec) { 3 } else { 1 };
     }
-    let st = unpack(state);
+    let st = unpack(state, busy);
     let cycled = time::power_cycle(rec, st);
     let answer = cycled.answer;
     let next = cycled.state;

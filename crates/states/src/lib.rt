@@ -75,10 +75,10 @@ pub fn longest(rec: Record) -> u32
 fn config_ok(register: bool, config: u8) -> bool
     ensures { λ r. ⌜ r ≡ configOk register config ⌝ }
 {
-    if register {
-        return (config / 32 % 2 == 0) & (config / 4 % 2 == 0);
+    if config == 0 {
+        return true;
     }
-    config == 0
+    register & ((config / 32 % 2 == 0) & (config / 4 % 2 == 0))
 }
 
 // Whether the protected range is at the bottom of the array: TB, bit 3 of the register.

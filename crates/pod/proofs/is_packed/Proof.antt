@@ -6,25 +6,13 @@ use Rattle.pod.proofs.is_packed.Statement.{statement}
 use Rattle.pod.proofs.is_packed.Tie as tie
 
 returns : tie.Need-returns
-returns c = sym (wrong-length (c .before .before .args .state .now) (c .if1 .taken))
+returns c = sym (wrong-length (c .before .args .state .now) (c .if1 .taken))
 
 returns-2 : tie.Need-returns-2
 returns-2 c =
-    let left = c .before .before .before .before .before .before .before .before in
-    tested (left .before .before .args .state .now) (left .if1 .left) (c .before .before .time-of .ensures) (λ i. left .before .shared-slice-known .given i .fits)
+    let left = c .before .before .before in
+    let start = left .before in
+    tested (start .args .state .now) (left .if1 .left) (start .pre) (λ i. c .before .before .shared-slice-known .given i .fits)
 
 pub is-packed-spec : {M : Type 1} → statement M
-is-packed-spec =
-    tie.close
-    (tie.spec
-    returns
-    (λ c. search needs)
-    (λ c. search needs)
-    (λ c. search needs)
-    (λ c. search needs)
-    (λ c. search needs)
-    (λ c κs. search needs)
-    (λ c. search needs)
-    (λ c. search needs)
-    (λ c. search needs)
-    returns-2)
+is-packed-spec = tie.close (tie.spec returns (λ c. search needs) (λ c. search needs) (λ c. search needs) (λ c. search needs) returns-2)
