@@ -7,17 +7,6 @@ enum { LIMIT_US = 1000000000 };
 
 struct dice dice;
 
-static uint32_t longest(const struct gwo_record *r)
-{
-    const uint32_t us[6] = {r->status_us, r->page_us, r->sector_us, r->block_us, r->chip_us, r->half_us};
-    uint32_t most = 0;
-    int i;
-
-    for (i = 0; i < 6; i++)
-        most = us[i] > most ? us[i] : most;
-    return most;
-}
-
 static uint32_t any_time(void)
 {
     static const uint32_t limits[] = {1, 2, 3, 255, 256, 65535, 65536, LIMIT_US - 1, LIMIT_US};

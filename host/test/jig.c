@@ -110,14 +110,7 @@ void jig_next(void)
 
 uint32_t longest_us(void)
 {
-    const uint32_t us[6] = {given.record.status_us, given.record.page_us, given.record.sector_us,
-                            given.record.block_us, given.record.chip_us, given.record.half_us};
-    uint32_t most = 0;
-    int i;
-
-    for (i = 0; i < 6; i++)
-        most = us[i] > most ? us[i] : most;
-    return most;
+    return longest(&given.record);
 }
 
 /* The status byte, the flag, the configuration register, a zero, the busy time little-endian. */

@@ -39,6 +39,17 @@ struct lent lend(size_t room)
     return l;
 }
 
+uint32_t longest(const struct gwo_record *r)
+{
+    const uint32_t us[6] = {r->status_us, r->page_us, r->sector_us, r->block_us, r->chip_us, r->half_us};
+    uint32_t most = 0;
+    int i;
+
+    for (i = 0; i < 6; i++)
+        most = us[i] > most ? us[i] : most;
+    return most;
+}
+
 struct stretch around(size_t address, size_t length)
 {
     size_t block = address / BLOCK * BLOCK;

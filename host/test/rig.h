@@ -2,6 +2,8 @@
 #ifndef RIG_H
 #define RIG_H
 
+#include "gwo.h"
+
 #include <stddef.h>
 #include <stdint.h>
 
@@ -28,6 +30,9 @@ struct stretch {
 };
 
 struct stretch around(size_t address, size_t length);
+
+/* The longest of a record's times; the sixth is 0 where it does not count. */
+uint32_t longest(const struct gwo_record *r);
 
 /* The bytes of the three numbers that are lent with a frame: the first driven position, the count, the fold. */
 enum { NUMBERS = 12 };

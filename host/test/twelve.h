@@ -20,9 +20,6 @@ extern unsigned long runs;
 
 void put_state(uint8_t *p, unsigned status, unsigned asleep, unsigned config, uint32_t busy);
 
-/* The longest of the times that count. */
-uint32_t longest(const struct gwo_record *r);
-
 /* The array of a model: random cells. */
 void lend_array(uint32_t model);
 

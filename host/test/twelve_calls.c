@@ -16,17 +16,6 @@ static uint8_t cells_before[GWO_MODEL_3_LENGTH], cells_wanted[GWO_MODEL_3_LENGTH
 static const struct run *now;
 static int call_number;
 
-uint32_t longest(const struct gwo_record *r)
-{
-    const uint32_t us[6] = {r->status_us, r->page_us, r->sector_us, r->block_us, r->chip_us, r->half_us};
-    uint32_t most = 0;
-    int i;
-
-    for (i = 0; i < 6; i++)
-        most = us[i] > most ? us[i] : most;
-    return most;
-}
-
 void put_state(uint8_t *p, unsigned status, unsigned asleep, unsigned config, uint32_t busy)
 {
     int i;

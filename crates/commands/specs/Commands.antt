@@ -1,4 +1,4 @@
--- The commands: 01, "Commands" (000 L158-187, 002 L304-340, 003 L497-540). Assumes nothing.
+-- The commands: 01, "Commands" (000 L158-187, 002 L304-340, 003 L467-571). Assumes nothing.
 use mathlib.Core.Bool.{Bool, true, false, _&&_, _||_, cond}
 use mathlib.Core.List.{List, [], _∷_, _++_}
 use Prim.Native.Nat.{ℕ, min}
@@ -66,6 +66,7 @@ abbrev pub row : Bool → Bool → Bool → Bool → Bool → Bool → ℕ → �
 row busy asleep latch lock unit whole low high least =
     record { known = true; «while_busy» = busy; «while_asleep» = asleep; latch = latch; lock = lock; unit = unit; whole = whole; low = low; high = high; least = least }
 
+-- a byte that is no command
 abbrev pub unknown : Traits
 unknown =
     record { known = false; «while_busy» = □; «while_asleep» = □; latch = □; lock = □; unit = □; whole = □; low = 0; high = 0; least = 0 }

@@ -20,6 +20,6 @@ cellAfter a sent k old = programmedCell old (counts a sent (length sent) k)
 unfoldable pub pageAfter : ℕ → List ℕ → List ℕ → List ℕ
 pageAfter a sent page = byIndex (cellAfter a sent) page
 
--- whether n bytes from offset a on go past the page's end, so that some go on at its start
+-- whether n bytes from offset a on go past the page's end, so that some go on at its start (000 L343; Req 02)
 unfoldable pub folds : ℕ → ℕ → Bool
 folds a n = ltb 256 (a + n)

@@ -27,7 +27,7 @@ abbrev pub firstOf : List Rung → Answer
 firstOf [] = Done
 firstOf (r ∷ rs) = cond (r .bad) (r .says) (firstOf rs)
 
--- what they ask of its command
+-- what the refusals ask of a frame's command, on its model
 abbrev pub asks : Record → Head → Traits
 asks rec h = traitsOf (modelOf (rec .model) .register) (h .command)
 

@@ -41,7 +41,7 @@ longestOf r = largest (timesOf r)
 unfoldable pub configOk : Bool → ℕ → Bool
 configOk register config = cond register (eqb (config / 32 % 2) 0 && eqb (config / 4 % 2) 0) (eqb config 0)
 
--- TB 0: the protected range is at the top; TB 1: at the bottom
+-- TB 0: the protected range is at the top; TB 1: at the bottom (003 L832, L843)
 unfoldable pub tbOf : State → Bool
 tbOf s = eqb (s .config / 8 % 2) 1
 
