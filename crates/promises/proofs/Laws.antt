@@ -72,7 +72,8 @@ later-adds : (s : State) (a b : ℕ) → later (later s a) b ≡ later s (a + b)
 unfolding later
 later-adds s a b =
     let e : s .busy - a - b ≡ s .busy - (a + b) = omega arith in
-    rw (latch-stays (s .busy) a b (s .wel), e)
+    let k : s .settle - a - b ≡ s .settle - (a + b) = omega arith in
+    rw (latch-stays (s .busy) a b (s .wel), e, k)
 
 wait-refused : (rec : Record) (s : State) (us : ℕ) → recordOk rec ≡ true → stateOk rec s ≡ false → waitOf rec s us ≡ record { answer = BadState; state = s }
 unfolding waitOf ifValid
@@ -133,9 +134,9 @@ moved-tb : {rec : Record} {s t : State} → Move rec s t → tbOf s ≡ true →
 unfolding tbOf latched dozing working written
 moved-tb stays h = h
 moved-tb (latches b z) h = h
-moved-tb (dozes b z) h = h
-moved-tb (works t l w a) h = h
-moved-tb {rec} {s} (writes bytes t l w a) h = config-after-tb (rec .model) s bytes h
+moved-tb (dozes b t z l) h = h
+moved-tb (works t l w a e) h = h
+moved-tb {rec} {s} (writes bytes t l w a e) h = config-after-tb (rec .model) s bytes h
 
 -- a wait keeps the register, a power cycle TB
 if-valid-tb : (rec : Record) (s next : State) → tbOf s ≡ true → tbOf next ≡ true → tbOf (ifValid rec s next .state) ≡ true

@@ -69,13 +69,13 @@ AllRight (c ∷ cs) =
 
 -- states of the sheet: SRWD, BP and WEL of an idle chip that is awake; one with TB 1; and one in deep power-down
 abbrev pub idle : Bool → ℕ → Bool → State
-idle srwd bp wel = record { srwd = srwd; bp = bp; config = 0; wel = wel; asleep = false; busy = 0 }
+idle srwd bp wel = record { srwd = srwd; bp = bp; config = 0; wel = wel; asleep = false; busy = 0; settle = 0 }
 
 abbrev pub bottomUp : ℕ → Bool → State
-bottomUp bp wel = record { srwd = false; bp = bp; config = 0x08; wel = wel; asleep = false; busy = 0 }
+bottomUp bp wel = record { srwd = false; bp = bp; config = 0x08; wel = wel; asleep = false; busy = 0; settle = 0 }
 
 abbrev pub sleeping : State
-sleeping = record { srwd = false; bp = 0; config = 0; wel = false; asleep = true; busy = 0 }
+sleeping = record { srwd = false; bp = 0; config = 0; wel = false; asleep = true; busy = 0; settle = 0 }
 
 -- an output of 300 bytes AA
 abbrev pub blank : List ℕ

@@ -24,6 +24,7 @@ fn rested(st: State, us: u32) -> State
     let mut next = st;
     next.wel = st.wel & ((st.busy == 0) | (us < st.busy));
     next.busy = less(st.busy, us);
+    next.settle = less(st.settle, us);
     next
 }
 
@@ -37,6 +38,7 @@ fn cycle(st: State) -> State
         wel: false,
         asleep: false,
         busy: 0,
+        settle: 0,
     }
 }
 
