@@ -1,7 +1,7 @@
 -- The statements of `specs/Laws.antt`. Assumes nothing.
 use mathlib.Core.Path.{_≡_, refl, sym, ap, subst, _∙_}
 use mathlib.Core.Bool.{Bool, true, false, not, _&&_, _||_, cond, true≢false}
-use mathlib.Core.List.{List, [], _∷_}
+use mathlib.Core.List.{List}
 use mathlib.Core.Logic.{⊎-elim}
 use Prim.Native.Nat.{ℕ, _+_, _-_, _*_, _/_, _%_, _≤_, _<_}
 use native.Mathlib.Nat.{le-refl}
@@ -39,7 +39,7 @@ use Rattle.chip.specs.Units.{drivenBytes, foldOf}
 use Rattle.time.specs.Time.{later, cycled, ifValid, waitOf, powerOf}
 use Rattle.changes.proofs.Fits.{page-fits}
 use Rattle.chip.proofs.Sorts.{is-done, notes, counts, changes-only, moves, Move, stays, latches, dozes, works, writes}
-use Rattle.promises.specs.Laws.{WaitsAdd, RefusedFrame, RefusedWait, RefusedCycle, OnlyItsUnit, ProgramFalls, OneOutcome, OneEffect, OneWait, OneCycle, NumberFixed, FoldNoted, RefusalKeeps, RefusalClears, LatchFalls, TbStays, among, SettlingAnswers, SettlingStays}
+use Rattle.promises.specs.Laws.{WaitsAdd, RefusedFrame, RefusedWait, RefusedCycle, OnlyItsUnit, ProgramFalls, OneOutcome, OneEffect, OneWait, OneCycle, NumberFixed, FoldNoted, RefusalKeeps, RefusalClears, LatchFalls, TbStays, among, settlingNumbers, SettlingAnswers, SettlingStays}
 use Rattle.chip.proofs.Cases.{head, refusal, frame-cases, sort, shown-ready, shown-asked, refused-moves}
 use Rattle.calls.specs.Calls.{sends, waits, cycles, after}
 use Rattle.calls.proofs.Valid.{later-sound}
@@ -242,7 +242,7 @@ module _ (rec : Record) (x : Chip) (f : Sent) (settling : x .state .settle ≡ 0
       (ltb 65541 (length (f .bytes)) || ltb 7 (f .tail)) (ltb (length (f .out)) (length (f .bytes))) (eqb (length (f .bytes)) 0))
 
   abbrev As : Answer → Type 0
-  As a = (isDone a ≡ false) × (saysProtected a ≡ false) × (among (numberOf a) (22 ∷ 10 ∷ 1 ∷ 2 ∷ 3 ∷ 4 ∷ 5 ∷ []) ≡ true)
+  As a = (isDone a ≡ false) × (saysProtected a ≡ false) × (among (numberOf a) settlingNumbers ≡ true)
 
   refuses : As (refusal rec x f)
   refuses = settling-refusal As (refl, refl, refl) (refl, refl, refl) (refl, refl, refl) (refl, refl, refl) (refl, refl, refl) (refl, refl, refl) (refl, refl, refl)

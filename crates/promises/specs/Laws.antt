@@ -67,10 +67,13 @@ abbrev pub among : ℕ → List ℕ → Bool
 among n [] = false
 among n (m ∷ more) = eqb n m || among n more
 
+abbrev pub settlingNumbers : List ℕ
+settlingNumbers = 22 ∷ 10 ∷ 1 ∷ 2 ∷ 3 ∷ 4 ∷ 5 ∷ []
+
 abbrev pub SettlingAnswers : Type 0
 SettlingAnswers =
     (rec : Record) (x : Chip) (f : Sent) → (x .state .settle ≡ 0 → ⊥)
-    → among (numberOf (frameOf rec x f .reply .answer)) (22 ∷ 10 ∷ 1 ∷ 2 ∷ 3 ∷ 4 ∷ 5 ∷ []) ≡ true
+    → among (numberOf (frameOf rec x f .reply .answer)) settlingNumbers ≡ true
 
 -- and no frame changes anything of it, nor drives a byte: that is left to waits and power cycles
 abbrev pub SettlingStays : Type 0

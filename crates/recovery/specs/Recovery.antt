@@ -1,4 +1,4 @@
--- The calls that win a chip back, whatever firmware did to it: 01, "The twelve calls", and Req 04's thirteenth. Assumes nothing.
+-- The calls that win a chip back, whatever firmware did to it: 01, "The twelve calls", and the wait after AB, which makes them thirteen. Assumes nothing.
 use mathlib.Core.Path.{_≡_}
 use mathlib.Core.Bool.{true}
 use mathlib.Core.List.{List, [], _∷_, _++_}
