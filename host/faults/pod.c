@@ -39,7 +39,11 @@ uint32_t address_in(const struct call *c)
     return ((uint32_t)c->frame[1] << 16 | (uint32_t)c->frame[2] << 8 | c->frame[3]) % (uint32_t)c->array_len;
 }
 
-enum { FIRST_OF_MODEL_3 = 1 + MISTAKES, FIRST_OF_FOLD = FIRST_OF_MODEL_3 + MISTAKES_OF_MODEL_3 };
+enum {
+    FIRST_OF_MODEL_3 = 1 + MISTAKES,
+    FIRST_OF_FOLD = FIRST_OF_MODEL_3 + MISTAKES_OF_MODEL_3,
+    FIRST_OF_SLEEP = FIRST_OF_FOLD + MISTAKES_OF_FOLD
+};
 
 static const struct pod *choose_pod(void)
 {
@@ -53,8 +57,10 @@ static const struct pod *choose_pod(void)
         return &mistakes[fault - 1];
     if (fault >= FIRST_OF_MODEL_3 && fault < FIRST_OF_FOLD)
         return &mistakes_of_model_3[fault - FIRST_OF_MODEL_3];
-    if (fault >= FIRST_OF_FOLD && fault < FIRST_OF_FOLD + MISTAKES_OF_FOLD)
+    if (fault >= FIRST_OF_FOLD && fault < FIRST_OF_SLEEP)
         return &mistakes_of_fold[fault - FIRST_OF_FOLD];
+    if (fault >= FIRST_OF_SLEEP && fault < FIRST_OF_SLEEP + MISTAKES_OF_SLEEP)
+        return &mistakes_of_sleep[fault - FIRST_OF_SLEEP];
     printf("there is no fault %d\n", fault);
     exit(2);
 }

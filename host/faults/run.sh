@@ -1,6 +1,6 @@
 #!/bin/sh
-# Faulty pods (mistakes.c, mistakes_of_model_3.c, mistakes_of_fold.c) under the host tests: each must be caught by every
-# test that is named for it, by its exit status and a message; the same pod without a fault must pass them all.
+# Faulty pods (mistakes.c, mistakes_of_*.c) under the host tests: each must be caught by every test that is named for it,
+# by its exit status and a message; the same pod without a fault must pass them all.
 #   host/faults/run.sh
 # GWO_BUILD is where host/test.sh has left the tests' object files.
 set -eu
@@ -111,5 +111,10 @@ fault 22 "a fold is said of exactly 256 bytes from offset 0" rules:folds rules:p
 fault 23 "a fold is said of a refused program" rules:folds compare
 fault 24 "a fold is said of a read across a page's end" rules:folds "rules:reading commands" compare
 fault 25 "a program through a copy of the page on the stack" stack
+fault 26 "22 is never said" "rules:refused by command" "rules:refused in order" "rules:falling asleep and waking" compare thirteen
+fault 27 "22 comes before 10" "rules:refused before the command" "rules:refused in order" compare
+fault 28 "05 is taken while settling" "rules:refused by command" "rules:falling asleep and waking" compare
+fault 29 "AB settles a chip that was awake" "rules:state commands" "rules:falling asleep and waking" compare thirteen
+fault 30 "the short AB takes the long one's time" "rules:falling asleep and waking" compare thirteen
 echo "$passed passed, $failed failed"
 [ $failed -eq 0 ]
