@@ -59,7 +59,7 @@ configOk register config = cond register (eqb (config / 32 % 2) 0 && eqb (config
 unfoldable pub tbOf : State → Bool
 tbOf s = eqb (s .config / 8 % 2) 1
 
--- BP and the register are in their range, the busy time is at most the longest, and so is what is left to settle; a busy chip has WEL set, is not in
+-- BP and the register are in their range, the busy time is at most the longest of those, and what is left to settle at most the longest of these; a busy chip has WEL set, is not in
 -- deep power-down, and does not settle
 unfoldable pub stateOk : Record → State → Bool
 stateOk r s =
