@@ -96,10 +96,18 @@ def status_and_sleep(b):
     b.frame(b"\x05\x00")
     b.fresh(1)
     b.frame(b"\xB9")
+    b.case("on the way into deep power-down, 05 00", "22", answer=22)
+    b.frame(b"\x05\x00")
+    b.wait(10)
     b.case("deep power-down, 05 00", "12", answer=12)
     b.frame(b"\x05\x00")
     b.case("deep power-down, AB and four bytes", "drives 05", answer=0, driven=b"\x05")
     b.frame(b"\xAB\x00\x00\x00\x00")
+    b.case("on the way out of it, 05 00", "22", answer=22)
+    b.frame(b"\x05\x00")
+    b.wait(10)
+    b.case("out of it, 05 00", "drives 00", answer=0, driven=b"\x00")
+    b.frame(b"\x05\x00")
 
 
 def reads_and_times(b):
@@ -138,7 +146,7 @@ def main():
     with open("crates/bench_sheet/stdin", "w", newline="") as f:
         f.write("\n".join(b.lines) + "\n")
     with open("crates/bench_sheet/stdout", "w", newline="") as f:
-        f.write("step|case|wanted|answer\tfrom\tcount\tbytes\tnote\tstatus\tasleep\tbusy\tcells\n")
+        f.write("step|case|wanted|answer\tfrom\tcount\tbytes\tnote\tstatus\tasleep\tbusy\tsettle\tcells\n")
         f.write("\n".join(b.rows) + "\n")
 
 

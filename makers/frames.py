@@ -10,6 +10,8 @@ import random
 SECTOR, BLOCK, PAGE = 4096, 65536, 256
 # status write, page program, sector, block, chip: 000 L521-525 and 002 L807-812
 TIMES = {1: (15000, 5000, 120000, 2000000, 2000000), 2: (40000, 3000, 200000, 2000000, 3800000)}
+# settling after B9, after the short AB, after the long AB: model 1's are house, model 2's 002 L802-806 rounded up
+SETTLES = {1: (10, 10, 10), 2: (10, 9, 9)}
 BLOCKS = {1: 1, 2: 4}
 ID = {1: (0xC2, 0x20, 0x10), 2: (0xC2, 0x20, 0x12)}
 SIGNATURE = {1: 0x05, 2: 0x11}
@@ -25,8 +27,9 @@ class Chip:
     def __init__(self, model, blocks):
         self.model = model
         self.times = TIMES.get(model, TIMES[1])
+        self.settles = SETTLES.get(model, SETTLES[1])
         self.cells = bytearray(b"\xff" * (BLOCK * blocks))
-        self.srwd, self.bp, self.wel, self.asleep, self.busy = 0, 0, 0, 0, 0
+        self.srwd, self.bp, self.wel, self.asleep, self.busy, self.settle = 0, 0, 0, 0, 0, 0
         self.folded = False
 
     def status(self):
@@ -38,7 +41,9 @@ class Chip:
             return 1
         if self.bp > 3 or self.busy > max(self.times):
             return 3
-        if self.busy and (not self.wel or self.asleep):
+        if self.busy and (not self.wel or self.asleep or self.settle):
+            return 3
+        if self.settle > max(self.settles):
             return 3
         return 0
 
@@ -48,12 +53,13 @@ class Chip:
         if self.busy and us >= self.busy:
             self.wel = 0
         self.busy = max(0, self.busy - us)
+        self.settle = max(0, self.settle - us)
         return 0
 
     def power_cycle(self):
         if self.bad():
             return self.bad()
-        self.wel = self.asleep = self.busy = 0
+        self.wel = self.asleep = self.busy = self.settle = 0
         return 0
 
     def length_ok(self, command, n, tail):
@@ -78,6 +84,8 @@ class Chip:
             return 5
         if not sent:
             return 10
+        if self.settle:
+            return 22
         command = sent[0]
         if self.busy and command != 0x05:
             return 11
@@ -115,7 +123,7 @@ class Chip:
         elif command == 0x04:
             self.wel = 0
         elif command == 0xB9:
-            self.asleep = 1
+            self.asleep, self.settle = 1, self.settles[0]
         elif command == 0x05:
             first, driven = 1, bytes([self.status()]) * (n - 1)
         elif command == 0x01:
@@ -137,7 +145,8 @@ class Chip:
         elif command == 0x9F:
             first, driven = 1, bytes(ID[self.model][i % 3] for i in range(n - 1))
         elif command == 0xAB:
-            self.asleep = 0
+            if self.asleep:
+                self.asleep, self.settle = 0, self.settles[1 if n == 1 else 2]
             first, driven = 4, bytes([SIGNATURE[self.model]]) * (n - 4)
         elif command == 0x90:
             pair = (0xC2, SIGNATURE[self.model])
@@ -170,10 +179,10 @@ class Cases:
         self.say("M", "%02x%02x" % (model, blocks))
         self.chip, self.at = Chip(model, blocks), 0
 
-    def state(self, srwd=0, bp=0, wel=0, asleep=0, busy=0):
+    def state(self, srwd=0, bp=0, wel=0, asleep=0, busy=0, settle=0):
         c = self.chip
-        c.srwd, c.bp, c.wel, c.asleep, c.busy = srwd, bp, wel, asleep, busy
-        self.say("S", "%02x%02x%06x" % (128 * srwd + 4 * bp + 2 * wel, asleep, busy))
+        c.srwd, c.bp, c.wel, c.asleep, c.busy, c.settle = srwd, bp, wel, asleep, busy, settle
+        self.say("S", "%02x%02x%06x%s" % (128 * srwd + 4 * bp + 2 * wel, asleep, busy, "%06x" % settle if settle else ""))
 
     def cells(self, at, eight):
         assert len(eight) == 8 and at + 8 <= len(self.chip.cells)
@@ -187,7 +196,7 @@ class Cases:
     def before(self):
         """The note of a row: the model and the state before."""
         c = self.chip
-        return "%d, %02X%s" % (self.model, c.status(), ", asleep" if c.asleep else "")
+        return "%d, %02X%s%s" % (self.model, c.status(), ", asleep" if c.asleep else "", ", settling" if c.settle else "")
 
     def row(self, line, note, answer, first, driven):
         c = self.chip
@@ -198,8 +207,8 @@ class Cases:
         n = len(c.cells)
         eight = bytes(c.cells[(self.at + i) % n] for i in range(8)) if n else b""
         self.lines.append("%s|%s" % (line, note))
-        self.rows.append("%s|%s|%d\t%s\t%02X\t%d\t%d\t%s" % (
-            line, note, answer, fields, c.status(), c.asleep, c.busy, eight.hex().upper()))
+        self.rows.append("%s|%s|%d\t%s\t%02X\t%d\t%d\t%d\t%s" % (
+            line, note, answer, fields, c.status(), c.asleep, c.busy, c.settle, eight.hex().upper()))
 
     def frame(self, sent, tail=0, wp=1):
         assert len(sent) <= 300
@@ -244,6 +253,7 @@ def shortest(command, address=0x000100):
 def states(b, command):
     """The command in every kind of state, and with every kind of length, tail and WP#."""
     longest = max(TIMES[b.model])
+    settled = max(SETTLES[b.model])
     sent = shortest(command)
     for srwd in (0, 1):
         for bp in (0, 1, 2, 3):
@@ -251,7 +261,8 @@ def states(b, command):
             b.frame(sent, wp=0)
             b.state(srwd, bp, wel=1)
             b.frame(sent, wp=1)
-    for extra in (dict(), dict(asleep=1), dict(wel=1, asleep=1), dict(wel=1, busy=1), dict(srwd=1, bp=2, wel=1, busy=longest)):
+    for extra in (dict(), dict(asleep=1), dict(wel=1, asleep=1), dict(wel=1, busy=1), dict(srwd=1, bp=2, wel=1, busy=longest),
+                  dict(settle=1), dict(wel=1, asleep=1, settle=settled), dict(srwd=1, bp=3, wel=1, settle=settled)):
         b.state(**extra)
         b.frame(sent)
     for tail in range(1, 8):
@@ -261,7 +272,8 @@ def states(b, command):
         for tail in (0, 5):
             b.state(wel=1, asleep=1 if command == 0xAB else 0)
             b.frame((sent + b"\x11\x22\x33\x44\x55\x66\x77\x88")[:n], tail)
-    for bad in (dict(bp=4, wel=1), dict(busy=1), dict(wel=1, asleep=1, busy=1), dict(wel=1, busy=longest + 1)):
+    for bad in (dict(bp=4, wel=1), dict(busy=1), dict(wel=1, asleep=1, busy=1), dict(wel=1, busy=longest + 1),
+                dict(wel=1, busy=1, settle=1), dict(settle=settled + 1), dict(asleep=1, settle=settled + 1)):
         b.state(**bad)
         b.frame(sent)
 
@@ -356,8 +368,33 @@ def makers(b, command):
             b.frame(bytes([command, 0x12, 0x34, fourth]) + bytes(n), n)
 
 
+def sleeps(b, command):
+    """Each settling time to its last microsecond, and what starts none."""
+    sleep, wake, sign = SETTLES[b.model]
+    for wel in (0, 1):
+        for long_one, time in ((b"", wake), (bytes(4), sign), (bytes(6), sign)):
+            b.state(wel=wel)
+            b.frame(b"\xB9")
+            b.frame(b"\xAB" + long_one)  # 22: it restarts nothing
+            b.wait(sleep - 1)
+            b.frame(b"\x05\0")
+            b.wait(1)
+            b.frame(b"\x05\0")
+            b.frame(b"\xAB\0")  # 14: it neither wakes nor settles
+            b.frame(b"\xAB" + long_one)
+            b.wait(time - 1)
+            b.frame(b"\x05\0")
+            b.wait(1)
+            b.frame(b"\x05\0")
+            b.frame(b"\xAB" + long_one)  # awake: nothing settles
+            b.frame(b"\x05\0")
+    b.frame(b"\xB9")
+    b.power()
+    b.frame(b"\x05\0")
+
+
 MORE = {0x03: reads, 0x0B: reads, 0x20: erases, 0x52: erases, 0xD8: erases, 0x60: whole, 0xC7: whole,
-        0x02: programs, 0x01: writes, 0x90: makers}
+        0x02: programs, 0x01: writes, 0x90: makers, 0xB9: sleeps}
 
 
 def long_frames(b):
@@ -388,7 +425,7 @@ def history(b, rng, steps):
         b.look(place)
         a = place.to_bytes(3, "big")
         if kind < 0.30:
-            b.wait(rng.choice((0, 1, 2999, 3000, 4999, 5000, 15000, 120000, 200000, 3800000, 4294967295)))
+            b.wait(rng.choice((0, 1, 8, 9, 10, 2999, 3000, 4999, 5000, 15000, 120000, 200000, 3800000, 4294967295)))
         elif kind < 0.33:
             b.power()
         elif kind < 0.55:
@@ -435,7 +472,7 @@ def main():
     with open("crates/frames/stdin", "w", newline="") as f:
         f.write(text)
     with open("crates/frames/stdout", "w", newline="") as f:
-        f.write("step|model, status before|answer\tfrom\tcount\tbytes\tnote\tstatus\tasleep\tbusy\tcells\n")
+        f.write("step|model, status before|answer\tfrom\tcount\tbytes\tnote\tstatus\tasleep\tbusy\tsettle\tcells\n")
         f.write("\n".join(b.rows) + "\n")
 
 

@@ -1,9 +1,9 @@
--- The answers and their numbers: 01, "Numbers returned, in order of checking". Assumes nothing.
+-- The answers and their numbers: 01, "Numbers returned, in order of checking", and Req 04. Assumes nothing.
 use mathlib.Core.Bool.{Bool}
 use Prim.Native.Nat.{ℕ}
 use lib.Dec.{eqb}
 use Rattle.answers.specs.declared.Answer.{Answer}
-use Rattle.answers.specs.declared.Answer.the-variants.{Done, BadRecord, BadArray, BadState, BadFrame, ShortOut, Empty, Busy, Asleep, NoCommand, BadLength, NotEnabled, Locked, Protected}
+use Rattle.answers.specs.declared.Answer.the-variants.{Done, BadRecord, BadArray, BadState, BadFrame, ShortOut, Empty, Settling, Busy, Asleep, NoCommand, BadLength, NotEnabled, Locked, Protected}
 
 abbrev pub numberOf : Answer → ℕ
 numberOf Done = 0
@@ -20,6 +20,7 @@ numberOf BadLength = 14
 numberOf NotEnabled = 15
 numberOf Locked = 16
 numberOf Protected = 17
+numberOf Settling = 22
 
 -- nothing was refused
 abbrev pub isDone : Answer → Bool

@@ -11,6 +11,7 @@ pub enum Answer {
     BadFrame,
     ShortOut,
     Empty,
+    Settling,
     Busy,
     Asleep,
     NoCommand,
@@ -39,6 +40,7 @@ pub fn number_of(a: Answer) -> u32
         Answer::NotEnabled => 15,
         Answer::Locked => 16,
         Answer::Protected => 17,
+        Answer::Settling => 22,
     }
 }
 

@@ -1,7 +1,8 @@
 -- Laws of single calls of the model, and how calls compose. Assumes nothing.
 use mathlib.Core.Path.{_≡_, refl, sym, ap, subst, _∙_}
-use mathlib.Core.Bool.{Bool, true, false, not, _&&_, _||_, and-false}
+use mathlib.Core.Bool.{Bool, true, false, not, _&&_, _||_, and-false, cond}
 use mathlib.Core.List.{List, [], _∷_, _++_}
+use mathlib.Core.Logic.{⊎-elim}
 use Prim.Native.Nat.{ℕ, suc, _+_, _-_, _≤_, _<_}
 use native.Mathlib.Omega.{arith}
 use lib.Dec.{leb, ltb, lit≤, eqb·suc-zero}
@@ -22,17 +23,21 @@ use Rattle.states.specs.States.{recordOk, stateOk, tbOf}
 use Rattle.states.specs.declared.Record.{Record}
 use Rattle.states.specs.declared.State.{State}
 use Rattle.answers.specs.declared.Answer.{Answer}
-use Rattle.answers.specs.declared.Answer.the-variants.{Done, Busy}
+use Rattle.answers.specs.declared.Answer.the-variants.{Done, Settling, Busy}
 use Rattle.states.proofs.States.{sound, valid}
 use Rattle.ladder.specs.Ladder.{ladder, refusalOf, asks}
 use Rattle.ladder.specs.declared.Head.{Head}
 use Rattle.ladder.proofs.Passed.{Clear, unrefused}
 use Rattle.time.specs.declared.After.{After}
-use Rattle.effects.specs.Effects.{Effect, stateOnly, changed, shown, drives, latched, dozing, written, writeEnable, writeStatus, eraseSector, eraseHalf, eraseBlock, eraseChip, programPage, readFrom, wake, configAfter}
+use Rattle.effects.specs.Effects.{Effect, stateOnly, changed, shown, drives, latched, dozing, written, writeEnable, writeStatus, eraseSector, eraseHalf, eraseBlock, eraseChip, programPage, readFrom, wake, configAfter, wakingTime, sleep}
 use Rattle.chip.specs.Frames.{Chip, Sent, chipOf, headFor, headOf, acceptedOf, refusedOf, frameOf}
 use Rattle.time.specs.Time.{later, ifValid, waitOf}
 use Rattle.calls.specs.Calls.{Call, sends, waits, cycles, ours, left, after, answer, run, answers, Bench, Roomy, frame}
 use Rattle.calls.proofs.Valid.{call-sound, call-length}
+
+-- a busy chip does not settle
+busy-settled : (rec : Record) (x : Chip) → Bench rec x → 0 < x .state .busy → x .state .settle ≡ 0
+busy-settled rec x b busy = ⊎-elim (λ z. absurd (omega arith)) (λ q. q .1) (sound rec (x .state) (b .valid) .mood)
 
 -- ---- a frame on a bench
 module _ (rec : Record) (x : Chip) (b : Bench rec x) (f : Sent) where
@@ -61,8 +66,24 @@ module _ (rec : Record) (x : Chip) (b : Bench rec x) (f : Sent) where
         le-ltb 7 (f .tail) t,
         le-ltb (length (f .out)) (length (f .bytes)) r,
         ne-eqb (length (f .bytes)) 0 (λ z. omega arith),
+        eq-eqb (x .state .settle) 0 (busy-settled rec x b busy),
         ne-eqb (x .state .busy) 0 (λ z. omega arith),
         w,
+      )
+
+  -- on a settling chip it is answered 22, whatever its command
+  settling-refusal : 0 < x .state .settle → 0 < length (f .bytes) → length (f .bytes) ≤ 65541 → f .tail ≤ 7 → Roomy f → refusalOf rec (x .state) h ≡ Settling
+  unfolding refusalOf headFor
+  settling-refusal settling some l t r =
+      rw (
+        b .right,
+        eq-eqb (length (x .cells)) (modelOf (rec .model) .length) (b .whole),
+        b .valid,
+        le-ltb 65541 (length (f .bytes)) l,
+        le-ltb 7 (f .tail) t,
+        le-ltb (length (f .out)) (length (f .bytes)) r,
+        ne-eqb (length (f .bytes)) 0 (λ z. omega arith),
+        ne-eqb (x .state .settle) 0 (λ z. omega arith),
       )
 
 -- a refused frame leaves what a refusal leaves
@@ -79,6 +100,13 @@ while-busy rec x b bytes out busy some l r w =
     ap (λ (e : Effect). e .reply .answer)
     (refused-frame rec x (frame bytes out) Busy (busy-refusal rec x b (frame bytes out) busy some l (lit≤ tt) r w) refl)
 
+pub while-settling : (rec : Record) (x : Chip) (b : Bench rec x) (bytes out : List ℕ) → 0 < x .state .settle
+    → 0 < length bytes → length bytes ≤ 65541 → Roomy (frame bytes out) → answer ours rec [] (sends (frame bytes out)) x ≡ Settling
+unfolding answer
+while-settling rec x b bytes out settling some l r =
+    ap (λ (e : Effect). e .reply .answer)
+    (refused-frame rec x (frame bytes out) Settling (settling-refusal rec x b (frame bytes out) settling some l (lit≤ tt) r) refl)
+
 -- at BP 0 no block is protected
 pub unprotected : (n : ℕ) (tb : Bool) (b : Block) → isProtected n tb 0 b ≡ false
 unfolding isProtected
@@ -93,26 +121,40 @@ decodes-half : (n : ℕ) → n ≡ 3 → decodeOf n 0x52 ≡ EraseHalf
 unfolding decodeOf
 decodes-half n e = rw e
 
--- the last eight tests of the table, by name
-pub tests : {a b c d e f g h : Bool} → a ≡ false → b ≡ false → c ≡ false → d ≡ false → e ≡ false → f ≡ false → g ≡ false → h ≡ false
-    → (a ≡ false) × ((b ≡ false) × ((c ≡ false) × ((d ≡ false) × ((e ≡ false) × ((f ≡ false) × ((g ≡ false) × ((h ≡ false) × Unit {0})))))))
-tests a b c d e f g h = (a, (b, (c, (d, (e, (f, (g, (h, tt))))))))
+-- the last nine tests of the table, by name
+pub tests : {a q b c d e f g h : Bool} → a ≡ false → q ≡ false → b ≡ false → c ≡ false → d ≡ false → e ≡ false → f ≡ false → g ≡ false → h ≡ false
+    → (a ≡ false) × ((q ≡ false) × ((b ≡ false) × ((c ≡ false) × ((d ≡ false) × ((e ≡ false) × ((f ≡ false) × ((g ≡ false) × ((h ≡ false) × Unit {0}))))))))
+tests a q b c d e f g h = (a, (q, (b, (c, (d, (e, (f, (g, (h, tt)))))))))
 
 -- ---- the frames of the list
-module _ (rec : Record) (x : Chip) (b : Bench rec x) (z : x .state .busy ≡ 0) (out : List ℕ) where
-  pub wake-taken : 1 ≤ length out → frameOf rec x (frame (0xAB ∷ []) out) ≡ stateOnly Done (dozing (x .state) false) (x .cells) out
-  unfolding acceptedOf decodeOf traitsOf headFor lengthOk wake drives
+module _ (rec : Record) (x : Chip) (b : Bench rec x) (z : x .state .busy ≡ 0) (q : x .state .settle ≡ 0) (out : List ℕ) where
+  pub wake-taken : 1 ≤ length out → frameOf rec x (frame (0xAB ∷ []) out) ≡ stateOnly Done (dozing (x .state) false (cond (x .state .asleep) (rec .wake) 0)) (x .cells) out
+  unfolding acceptedOf decodeOf traitsOf headFor lengthOk wake wakingTime drives
   wake-taken r =
       taken rec x b (frame (0xAB ∷ []) out) (lit≤ tt) (lit≤ tt) r
-      (tests refl (rw (eq-eqb (x .state .busy) 0 z)) (and-false (x .state .asleep)) refl refl refl refl refl)
+      (tests refl (rw (eq-eqb (x .state .settle) 0 q)) (rw (eq-eqb (x .state .busy) 0 z)) (and-false (x .state .asleep)) refl refl refl refl refl)
       ∙ rw (lay-none out 4)
+
+  pub sign-taken : 5 ≤ length out → frameOf rec x (frame (0xAB ∷ 0 ∷ 0 ∷ 0 ∷ 0 ∷ []) out)
+      ≡ shown (x .cells) (wake rec (x .state) (0xAB ∷ 0 ∷ 0 ∷ 0 ∷ 0 ∷ []) out)
+  unfolding acceptedOf decodeOf traitsOf headFor lengthOk
+  sign-taken r =
+      taken rec x b (frame (0xAB ∷ 0 ∷ 0 ∷ 0 ∷ 0 ∷ []) out) (lit≤ tt) (lit≤ tt) r
+      (tests refl (rw (eq-eqb (x .state .settle) 0 q)) (rw (eq-eqb (x .state .busy) 0 z)) (and-false (x .state .asleep)) refl refl refl refl refl)
+
+  pub sleep-taken : x .state .asleep ≡ false → 1 ≤ length out
+      → frameOf rec x (frame (0xB9 ∷ []) out) ≡ stateOnly Done (dozing (x .state) true (rec .sleep)) (x .cells) out
+  unfolding acceptedOf sleep decodeOf traitsOf headFor lengthOk
+  sleep-taken a r =
+      taken rec x b (frame (0xB9 ∷ []) out) (lit≤ tt) (lit≤ tt) r
+      (tests refl (rw (eq-eqb (x .state .settle) 0 q)) (rw (eq-eqb (x .state .busy) 0 z)) (rw a) refl refl refl refl refl)
 
   pub enable-taken : x .state .asleep ≡ false → 1 ≤ length out
       → frameOf rec x (frame (0x06 ∷ []) out) ≡ stateOnly Done (latched (x .state) true) (x .cells) out
   unfolding acceptedOf writeEnable decodeOf traitsOf headFor lengthOk
   enable-taken a r =
       taken rec x b (frame (0x06 ∷ []) out) (lit≤ tt) (lit≤ tt) r
-      (tests refl (rw (eq-eqb (x .state .busy) 0 z)) (rw a) refl refl refl refl refl)
+      (tests refl (rw (eq-eqb (x .state .settle) 0 q)) (rw (eq-eqb (x .state .busy) 0 z)) (rw a) refl refl refl refl refl)
 
   pub write-taken : (v : ℕ) → x .state .asleep ≡ false → x .state .wel ≡ true → 2 ≤ length out
       → frameOf rec x (frame (0x01 ∷ v ∷ []) out) ≡ stateOnly Done (written (rec .model) (x .state) v (x .state .config) (rec .«status_write»)) (x .cells) out
@@ -120,7 +162,7 @@ module _ (rec : Record) (x : Chip) (b : Bench rec x) (z : x .state .busy ≡ 0) 
   write-taken v a w r =
       let has = modelOf (rec .model) .register in
       taken rec x b (frame (0x01 ∷ v ∷ []) out) (lit≤ tt) (lit≤ tt) r
-      (tests refl (rw (eq-eqb (x .state .busy) 0 z)) (rw a) refl (ap not (between (traitsOf has WriteStatus) 2 (lit≤ tt) (one-byte-write has))) (rw w) (and-false (x .state .srwd)) refl)
+      (tests refl (rw (eq-eqb (x .state .settle) 0 q)) (rw (eq-eqb (x .state .busy) 0 z)) (rw a) refl (ap not (between (traitsOf has WriteStatus) 2 (lit≤ tt) (one-byte-write has))) (rw w) (and-false (x .state .srwd)) refl)
       ∙ rw (and-false has)
 
   module _ (high middle low : ℕ) where
@@ -132,7 +174,7 @@ module _ (rec : Record) (x : Chip) (b : Bench rec x) (z : x .state .busy ≡ 0) 
     unfolding acceptedOf decodeOf traitsOf headFor lengthOk tbOf
     erase-taken a w p r =
         taken rec x b (frame (0x20 ∷ high ∷ middle ∷ low ∷ []) out) (lit≤ tt) (lit≤ tt) r
-        (tests refl (rw (eq-eqb (x .state .busy) 0 z)) (rw a) refl refl (rw w) refl (rw (p, unprotected (rec .model) (tbOf (x .state)) (blockOf to))))
+        (tests refl (rw (eq-eqb (x .state .settle) 0 q)) (rw (eq-eqb (x .state .busy) 0 z)) (rw a) refl refl (rw w) refl (rw (p, unprotected (rec .model) (tbOf (x .state)) (blockOf to))))
 
     pub program-taken : (sent : List ℕ) → x .state .asleep ≡ false → x .state .wel ≡ true → x .state .bp ≡ 0
         → 1 ≤ length sent → 4 + length sent ≤ 65541 → Roomy (frame (0x02 ∷ high ∷ middle ∷ low ∷ sent) out)
@@ -141,7 +183,7 @@ module _ (rec : Record) (x : Chip) (b : Bench rec x) (z : x .state .busy ≡ 0) 
     unfolding acceptedOf decodeOf traitsOf headFor lengthOk tbOf
     program-taken sent a w p n l r =
         taken rec x b (frame (0x02 ∷ high ∷ middle ∷ low ∷ sent) out) (omega arith) (lit≤ tt) r
-        (tests (eqb·suc-zero (suc (suc (suc (length sent))))) (rw (eq-eqb (x .state .busy) 0 z)) (rw a) refl (ap not (between (traitsOf (modelOf (rec .model) .register) Program) (suc (suc (suc (suc (length sent))))) (omega arith) (omega arith))) (rw w) refl
+        (tests (eqb·suc-zero (suc (suc (suc (length sent))))) (rw (eq-eqb (x .state .settle) 0 q)) (rw (eq-eqb (x .state .busy) 0 z)) (rw a) refl (ap not (between (traitsOf (modelOf (rec .model) .register) Program) (suc (suc (suc (suc (length sent))))) (omega arith) (omega arith))) (rw w) refl
         (rw (p, unprotected (rec .model) (tbOf (x .state)) (blockOf to))))
 
     pub read-taken : (more : List ℕ) → x .state .asleep ≡ false → 4 + length more ≤ 65541 → Roomy (frame (0x03 ∷ high ∷ middle ∷ low ∷ more) out)
@@ -150,7 +192,7 @@ module _ (rec : Record) (x : Chip) (b : Bench rec x) (z : x .state .busy ≡ 0) 
     unfolding acceptedOf decodeOf traitsOf headFor lengthOk
     read-taken more a l r =
         taken rec x b (frame (0x03 ∷ high ∷ middle ∷ low ∷ more) out) (omega arith) (lit≤ tt) r
-        (tests (eqb·suc-zero (suc (suc (suc (length more))))) (rw (eq-eqb (x .state .busy) 0 z)) (rw a) refl (ap not (least-on (traitsOf (modelOf (rec .model) .register) Read) (suc (suc (suc (suc (length more))))) 0 (omega arith))) refl refl refl)
+        (tests (eqb·suc-zero (suc (suc (suc (length more))))) (rw (eq-eqb (x .state .settle) 0 q)) (rw (eq-eqb (x .state .busy) 0 z)) (rw a) refl (ap not (least-on (traitsOf (modelOf (rec .model) .register) Read) (suc (suc (suc (suc (length more))))) 0 (omega arith))) refl refl refl)
 
     -- the other operations, for a chip that waits too short a time after them
     pub half-taken : modelOf (rec .model) .«half_erase» ≡ true → x .state .asleep ≡ false → x .state .wel ≡ true → x .state .bp ≡ 0 → 4 ≤ length out
@@ -161,7 +203,7 @@ module _ (rec : Record) (x : Chip) (b : Bench rec x) (z : x .state .busy ≡ 0) 
         let k : decodeOf (rec .model) 0x52 ≡ EraseHalf = decodes-half (rec .model) (half-erase-model (rec .model) m) in
         taken rec x b sent (lit≤ tt) (lit≤ tt) r
         (subst (λ (c : Command). Clear (drop 5 (ladder rec (x .state) (headOf rec x sent) (traitsOf (modelOf (rec .model) .register) c)))) (sym k)
-        (tests refl (rw (eq-eqb (x .state .busy) 0 z)) (rw a) refl refl (rw w) refl (rw (p, unprotected (rec .model) (tbOf (x .state)) (blockOf to)))))
+        (tests refl (rw (eq-eqb (x .state .settle) 0 q)) (rw (eq-eqb (x .state .busy) 0 z)) (rw a) refl refl (rw w) refl (rw (p, unprotected (rec .model) (tbOf (x .state)) (blockOf to)))))
         ∙ ap (λ (c : Command). acceptedOf rec x c to (sent .bytes) out) k
 
     pub block-taken : x .state .asleep ≡ false → x .state .wel ≡ true → x .state .bp ≡ 0 → 4 ≤ length out
@@ -169,14 +211,14 @@ module _ (rec : Record) (x : Chip) (b : Bench rec x) (z : x .state .busy ≡ 0) 
     unfolding acceptedOf decodeOf traitsOf headFor lengthOk tbOf
     block-taken a w p r =
         taken rec x b (frame (0xD8 ∷ high ∷ middle ∷ low ∷ []) out) (lit≤ tt) (lit≤ tt) r
-        (tests refl (rw (eq-eqb (x .state .busy) 0 z)) (rw a) refl refl (rw w) refl (rw (p, unprotected (rec .model) (tbOf (x .state)) (blockOf to))))
+        (tests refl (rw (eq-eqb (x .state .settle) 0 q)) (rw (eq-eqb (x .state .busy) 0 z)) (rw a) refl refl (rw w) refl (rw (p, unprotected (rec .model) (tbOf (x .state)) (blockOf to))))
 
   pub chip-taken : x .state .asleep ≡ false → x .state .wel ≡ true → x .state .bp ≡ 0 → 1 ≤ length out
       → frameOf rec x (frame (0xC7 ∷ []) out) ≡ changed out (eraseChip rec (x .state) (x .cells))
   unfolding acceptedOf decodeOf traitsOf headFor lengthOk
   chip-taken a w p r =
       taken rec x b (frame (0xC7 ∷ []) out) (lit≤ tt) (lit≤ tt) r
-      (tests refl (rw (eq-eqb (x .state .busy) 0 z)) (rw a) refl refl (rw w) refl (rw p))
+      (tests refl (rw (eq-eqb (x .state .settle) 0 q)) (rw (eq-eqb (x .state .busy) 0 z)) (rw a) refl refl (rw w) refl (rw p))
 
 -- ---- one call
 -- our model does not look at the calls seen

@@ -10,7 +10,7 @@ use lib.Dec.{eqb, ltb}
 use lib.ListN.{length, getD}
 use borrow.Author.Tests.{ltb-false}
 use Rattle.models.specs.Models.{modelOf}
-use Rattle.states.specs.States.{recordOk, stateOk, longestOf, powerOn}
+use Rattle.states.specs.States.{recordOk, stateOk, longestBusy, longestSettle, powerOn}
 use Rattle.states.specs.declared.Record.{Record}
 use Rattle.states.specs.declared.State.{State}
 use Rattle.answers.specs.declared.Answer.the-variants.{Done, BadState, BadRecord}
@@ -28,26 +28,27 @@ module _ (rec : Record) (s : State) (p : Sound rec s) where
   -- the state of an idle chip may change its latch and fall asleep or wake
   latched-sound : (b : Bool) → s .busy ≡ 0 → Sound rec (latched s b)
   unfolding latched
-  latched-sound b z = record { level = p .level; register = p .register; time = p .time; mood = inl z }
+  latched-sound b z = record { level = p .level; register = p .register; settle = p .settle; time = p .time; mood = inl z }
 
-  dozing-sound : (b : Bool) → s .busy ≡ 0 → Sound rec (dozing s b)
+  dozing-sound : (b : Bool) (t : ℕ) → s .busy ≡ 0 → t ≤ longestSettle rec → Sound rec (dozing s b t)
   unfolding dozing
-  dozing-sound b z = record { level = p .level; register = p .register; time = p .time; mood = inl z }
+  dozing-sound b t z l = record { level = p .level; register = p .register; settle = l; time = p .time; mood = inl z }
 
   -- an operation starts: the latch is set, and the chip is awake
-  working-sound : (t : ℕ) → t ≤ longestOf rec → s .wel ≡ true → s .asleep ≡ false → Sound rec (working s t)
+  working-sound : (t : ℕ) → t ≤ longestBusy rec → s .wel ≡ true → s .asleep ≡ false → s .settle ≡ 0 → Sound rec (working s t)
   unfolding working
-  working-sound t l w d = record { level = p .level; register = p .register; time = l; mood = inr (w, d) }
+  working-sound t l w d e = record { level = p .level; register = p .register; settle = p .settle; time = l; mood = inr ((w, d), e) }
 
-  written-sound : (bytes : List ℕ) (t : ℕ) → t ≤ longestOf rec → s .wel ≡ true → s .asleep ≡ false
+  written-sound : (bytes : List ℕ) (t : ℕ) → t ≤ longestBusy rec → s .wel ≡ true → s .asleep ≡ false → s .settle ≡ 0
       → Sound rec (written (rec .model) s (getD bytes 1 0) (configAfter (rec .model) s bytes) t)
   unfolding written
-  written-sound bytes t l w d =
+  written-sound bytes t l w d e =
       record {
         level = omega (arith, mod-lt (getD bytes 1 0 / 4) {m = modelOf (rec .model) .«highest_bp» + 1} (omega arith));
         register = config-after-ok (rec .model) s bytes (p .register);
+        settle = p .settle;
         time = l;
-        mood = inr (w, d);
+        mood = inr ((w, d), e);
       }
 
   pub later-sound : (us : ℕ) → Sound rec (later s us)
@@ -56,26 +57,27 @@ module _ (rec : Record) (s : State) (p : Sound rec s) where
       record {
         level = p .level;
         register = p .register;
+        settle = omega (arith, p .settle);
         time = omega (arith, p .time);
         mood = ⊎-elim (λ z. inl (omega arith)) (λ q. go (ltb us (s .busy)) refl q) (p .mood);
       }
     where
-      go : (b : Bool) → ltb us (s .busy) ≡ b → (s .wel ≡ true) × (s .asleep ≡ false)
-          → (s .busy - us ≡ 0) ⊎ (((s .wel && (eqb (s .busy) 0 || ltb us (s .busy))) ≡ true) × (s .asleep ≡ false))
-      go true e q = inr (rw (q .0, e) (or-true (eqb (s .busy) 0)), q .1)
+      go : (b : Bool) → ltb us (s .busy) ≡ b → ((s .wel ≡ true) × (s .asleep ≡ false)) × (s .settle ≡ 0)
+          → (s .busy - us ≡ 0) ⊎ ((((s .wel && (eqb (s .busy) 0 || ltb us (s .busy))) ≡ true) × (s .asleep ≡ false)) × (s .settle - us ≡ 0))
+      go true e q = let z = q .1 in inr ((rw (q .0 .0, e) (or-true (eqb (s .busy) 0)), q .0 .1), omega arith)
       go false e q = inl (omega (arith, ltb-false us (s .busy) e))
 
   cycled-sound : Sound rec (cycled s)
   unfolding cycled
-  cycled-sound = record { level = p .level; register = only-tb-ok (modelOf (rec .model) .register) (s .config) (p .register); time = omega arith; mood = inl refl }
+  cycled-sound = record { level = p .level; register = only-tb-ok (modelOf (rec .model) .register) (s .config) (p .register); settle = omega arith; time = omega arith; mood = inl refl }
 
 -- however an accepted command moves the state
 moved-sound : (rec : Record) (s : State) (p : Sound rec s) {t : State} → Move rec s t → Sound rec t
 moved-sound rec s p stays = p
 moved-sound rec s p (latches b z) = latched-sound rec s p b z
-moved-sound rec s p (dozes b z) = dozing-sound rec s p b z
-moved-sound rec s p (works t l w a) = working-sound rec s p t l w a
-moved-sound rec s p (writes bytes t l w a) = written-sound rec s p bytes t l w a
+moved-sound rec s p (dozes b t z l) = dozing-sound rec s p b t z l
+moved-sound rec s p (works t l w a e) = working-sound rec s p t l w a e
+moved-sound rec s p (writes bytes t l w a e) = written-sound rec s p bytes t l w a e
 
 -- a frame, whatever it is given
 module _ (rec : Record) (x : Chip) (f : Sent) where
@@ -113,4 +115,4 @@ module _ (rec : Record) (seen : List Call) where
   call-length cycles x = refl
 
 pub power-on-sound : (rec : Record) → Sound rec powerOn
-power-on-sound rec = record { level = omega arith; register = config-0-ok (modelOf (rec .model) .register); time = omega arith; mood = inl refl }
+power-on-sound rec = record { level = omega arith; register = config-0-ok (modelOf (rec .model) .register); settle = omega arith; time = omega arith; mood = inl refl }

@@ -44,7 +44,7 @@ module _ (rec : Record) (x : Chip) (f : Sent) where
   pub shown-asked : isDone refusal ≡ true → Asked rec (x .state) (head .command)
   shown-asked e =
       let q = passed rec (x .state) head e in
-      record { listens = q .listens; awake = q .awake; enabled = q .enabled }
+      record { settled = q .settled; listens = q .listens; awake = q .awake; enabled = q .enabled }
 
   -- how a refused frame moves the state
   pub refused-moves : Move rec (x .state) (refusalLeaves (rec .model) refusal (x .state))

@@ -20,15 +20,15 @@ use Rattle.flash.specs.Sheet.{ErasesOnly}
 use Rattle.flash.proofs.Arrays.{length-sectorErased, length-halfBlockErased, length-blockErased, length-allErased, length-programmed, sector-erase, half-block-erase, block-erase, chip-erase, outside-stays}
 use Rattle.answers.specs.Answers.{isDone, saysProtected}
 use Rattle.commands.specs.Commands.{traitsOf}
-use Rattle.states.specs.States.{statusOf, longestOf}
+use Rattle.states.specs.States.{statusOf, longestBusy, longestSettle}
 use Rattle.states.specs.declared.Record.{Record}
 use Rattle.states.specs.declared.State.{State}
 use Rattle.answers.specs.declared.Answer.{Answer}
 use Rattle.answers.specs.declared.Answer.the-variants.{Done}
 use Rattle.commands.specs.declared.Command.{Command}
 use Rattle.commands.specs.declared.Command.the-variants.{WriteEnable, WriteDisable, ReadStatus, ReadConfig, WriteStatus, Read, FastRead, EraseSector, EraseHalf, EraseBlock, EraseChip, Program, ReadId, Wake, ReadMaker, Sleep, Unknown}
-use Rattle.states.proofs.States.{status-write-le, page-le, sector-le, block-le, chip-le, half-le}
-use Rattle.effects.specs.Effects.{Effect, stateOnly, drives, folding, latched, dozing, working, configAfter, written, refusalLeaves, writeEnable, writeDisable, writeStatus, sleep, idBytes, makerBytes, readStatus, readConfig, readFrom, eraseSector, eraseHalf, eraseBlock, eraseChip, programPage, readId, wake, readMaker}
+use Rattle.states.proofs.States.{status-write-le, page-le, sector-le, block-le, chip-le, half-le, sleep-le, wake-le, sign-le}
+use Rattle.effects.specs.Effects.{Effect, stateOnly, drives, folding, latched, dozing, working, configAfter, written, refusalLeaves, writeEnable, writeDisable, writeStatus, sleep, idBytes, makerBytes, readStatus, readConfig, readFrom, eraseSector, eraseHalf, eraseBlock, eraseChip, programPage, readId, wakingTime, wake, readMaker}
 use Rattle.chip.specs.Frames.{Chip, acceptedOf}
 use Rattle.chip.specs.Units.{Extent, extent, unitOf, drivenBytes, foldOf}
 use Rattle.changes.proofs.Fits.{page-fits, sector-fits, half-block-fits, block-fits}
@@ -37,13 +37,14 @@ use Rattle.changes.proofs.Fits.{page-fits, sector-fits, half-block-fits, block-
 pub data Move (rec : Record) (s : State) : State → Type 0 where
   stays : Move rec s s
   latches : (b : Bool) → s .busy ≡ 0 → Move rec s (latched s b)
-  dozes : (b : Bool) → s .busy ≡ 0 → Move rec s (dozing s b)
-  works : (t : ℕ) → t ≤ longestOf rec → s .wel ≡ true → s .asleep ≡ false → Move rec s (working s t)
-  writes : (bytes : List ℕ) (t : ℕ) → t ≤ longestOf rec → s .wel ≡ true → s .asleep ≡ false
+  dozes : (b : Bool) (t : ℕ) → s .busy ≡ 0 → t ≤ longestSettle rec → Move rec s (dozing s b t)
+  works : (t : ℕ) → t ≤ longestBusy rec → s .wel ≡ true → s .asleep ≡ false → s .settle ≡ 0 → Move rec s (working s t)
+  writes : (bytes : List ℕ) (t : ℕ) → t ≤ longestBusy rec → s .wel ≡ true → s .asleep ≡ false → s .settle ≡ 0
       → Move rec s (written (rec .model) s (getD bytes 1 0) (configAfter (rec .model) s bytes) t)
 
--- what the refusals 11, 12 and 15 have shown
+-- what the refusals 22, 11, 12 and 15 have shown
 pub record Asked (rec : Record) (s : State) (c : Command) : Type 0 where
+  pub settled : s .settle ≡ 0
   pub listens : (not (eqb (s .busy) 0) && not (traitsOf (modelOf (rec .model) .register) c .«while_busy»)) ≡ false
   pub awake : (s .asleep && not (traitsOf (modelOf (rec .model) .register) c .«while_asleep»)) ≡ false
   pub enabled : (traitsOf (modelOf (rec .model) .register) c .latch && not (s .wel)) ≡ false
@@ -86,6 +87,16 @@ pub data Kind (rec : Record) (x : Chip) (c : Command) (at : Address) (bytes out 
 idle : (busy : ℕ) → (not (eqb busy 0) && not false) ≡ false → busy ≡ 0
 idle busy i = eqb-true busy 0 (not-false _ (only-if (not (eqb busy 0)) false i refl))
 
+-- what an AB settles for is one of the settling times, or nothing
+waking-le : (rec : Record) (s : State) (n : ℕ) → wakingTime rec s n ≤ longestSettle rec
+unfolding wakingTime
+waking-le rec s n = go (s .asleep) (ltb 4 n)
+  where
+    go : (a b : Bool) → cond a (cond b (rec .sign) (rec .wake)) 0 ≤ longestSettle rec
+    go true true = sign-le rec
+    go true false = wake-le rec
+    go false b = omega arith
+
 -- one clause a command
 module _ (rec : Record) (x : Chip) (at : Address) (bytes out : List ℕ) where
   abbrev s : State
@@ -100,34 +111,36 @@ module _ (rec : Record) (x : Chip) (at : Address) (bytes out : List ℕ) where
   kind WriteDisable = turns (latched s false) (λ q. latches false (idle (s .busy) (q .listens)))
   kind ReadStatus = drove s 1 (replicate (length bytes - 1) (statusOf s)) (λ q. stays)
   kind ReadConfig = drove s 1 (replicate (length bytes - 1) (s .config)) (λ q. stays)
-  kind WriteStatus = turns (written (rec .model) s (getD bytes 1 0) (configAfter (rec .model) s bytes) (rec .«status_write»)) (λ q. writes bytes (rec .«status_write») (status-write-le rec) (unless true (s .wel) (q .enabled) refl) (only-if (s .asleep) false (q .awake) refl))
+  kind WriteStatus = turns (written (rec .model) s (getD bytes 1 0) (configAfter (rec .model) s bytes) (rec .«status_write»)) (λ q. writes bytes (rec .«status_write») (status-write-le rec) (unless true (s .wel) (q .enabled) refl) (only-if (s .asleep) false (q .awake) refl) (q .settled))
   kind Read = drove s 4 (ring cells (at .0) (length bytes - 4)) (λ q. stays)
   kind FastRead = drove s 5 (ring cells (at .0) (length bytes - 5)) (λ q. stays)
   kind EraseSector =
       alters (working s (rec .sector)) (sectorErased cells (sectorOf at)) false
-      (λ q. works (rec .sector) (sector-le rec) (unless true (s .wel) (q .enabled) refl) (only-if (s .asleep) false (q .awake) refl))
+      (λ q. works (rec .sector) (sector-le rec) (unless true (s .wel) (q .enabled) refl) (only-if (s .asleep) false (q .awake) refl) (q .settled))
       (λ i w. let h = sector-fits rec cells at i w .1 in erased-only (length-sectorErased cells (sectorOf at) h) (sector-erase cells (sectorOf at) h))
   kind EraseHalf =
       alters (working s (rec .half)) (halfBlockErased cells (halfBlockOf at)) false
-      (λ q. works (rec .half) (half-le rec) (unless true (s .wel) (q .enabled) refl) (only-if (s .asleep) false (q .awake) refl))
+      (λ q. works (rec .half) (half-le rec) (unless true (s .wel) (q .enabled) refl) (only-if (s .asleep) false (q .awake) refl) (q .settled))
       (λ i w. let h = half-block-fits rec cells at i w .1 in erased-only (length-halfBlockErased cells (halfBlockOf at) h) (half-block-erase cells (halfBlockOf at) h))
   kind EraseBlock =
       alters (working s (rec .block)) (blockErased cells (blockOf at)) false
-      (λ q. works (rec .block) (block-le rec) (unless true (s .wel) (q .enabled) refl) (only-if (s .asleep) false (q .awake) refl))
+      (λ q. works (rec .block) (block-le rec) (unless true (s .wel) (q .enabled) refl) (only-if (s .asleep) false (q .awake) refl) (q .settled))
       (λ i w. let h = block-fits rec cells at i w .1 in erased-only (length-blockErased cells (blockOf at) h) (block-erase cells (blockOf at) h))
   kind EraseChip =
       alters (working s (rec .chip)) (allErased cells) false
-      (λ q. works (rec .chip) (chip-le rec) (unless true (s .wel) (q .enabled) refl) (only-if (s .asleep) false (q .awake) refl))
+      (λ q. works (rec .chip) (chip-le rec) (unless true (s .wel) (q .enabled) refl) (only-if (s .asleep) false (q .awake) refl) (q .settled))
       (λ i w. erased-only (length-allErased cells) (chip-erase cells))
   kind Program =
       rw (← (length-drop 4 bytes))
       (alters (working s (rec .page)) (programmed cells at (drop 4 bytes)) (folds (pageOffset at) (length (drop 4 bytes)))
-      (λ q. works (rec .page) (page-le rec) (unless true (s .wel) (q .enabled) refl) (only-if (s .asleep) false (q .awake) refl))
+      (λ q. works (rec .page) (page-le rec) (unless true (s .wel) (q .enabled) refl) (only-if (s .asleep) false (q .awake) refl) (q .settled))
       (λ i w. page-only cells at (drop 4 bytes) (page-fits rec cells at i w)))
   kind ReadId = drove s 1 (ring (idBytes (modelOf (rec .model))) 0 (length bytes - 1)) (λ q. stays)
-  kind Wake = drove (dozing s false) 4 (replicate (length bytes - 4) (modelOf (rec .model) .signature)) (λ q. dozes false (idle (s .busy) (q .listens)))
+  kind Wake =
+      drove (dozing s false (wakingTime rec s (length bytes))) 4 (replicate (length bytes - 4) (modelOf (rec .model) .signature))
+      (λ q. dozes false _ (idle (s .busy) (q .listens)) (waking-le rec s (length bytes)))
   kind ReadMaker = drove s 4 (ring (makerBytes (modelOf (rec .model)) (getD bytes 3 0)) 0 (length bytes - 4)) (λ q. stays)
-  kind Sleep = turns (dozing s true) (λ q. dozes true (idle (s .busy) (q .listens)))
+  kind Sleep = turns (dozing s true (rec .sleep)) (λ q. dozes true (rec .sleep) (idle (s .busy) (q .listens)) (sleep-le rec))
   kind Unknown = turns s (λ q. stays)
 
 -- ---- what holds of every kind

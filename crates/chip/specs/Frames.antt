@@ -69,7 +69,7 @@ acceptedOf rec x Program at bytes out = changed out (programPage rec (x .state) 
 acceptedOf rec x ReadId at bytes out = shown (x .cells) (readId rec (x .state) bytes out)
 acceptedOf rec x Wake at bytes out = shown (x .cells) (wake rec (x .state) bytes out)
 acceptedOf rec x ReadMaker at bytes out = shown (x .cells) (readMaker rec (x .state) bytes out)
-acceptedOf rec x Sleep at bytes out = turned (x .cells) out (sleep (x .state))
+acceptedOf rec x Sleep at bytes out = turned (x .cells) out (sleep rec (x .state))
 acceptedOf rec x Unknown at bytes out = stateOnly Done (x .state) (x .cells) out
 
 -- a refusal drives nothing and changes no cell; what it leaves of the state is one definition by model and answer

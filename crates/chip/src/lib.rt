@@ -64,7 +64,7 @@ fn accepted(
         Command::ReadId => shows::read_id(rec, st, bytes, out),
         Command::Wake => shows::wake(rec, st, bytes, out),
         Command::ReadMaker => shows::read_maker(rec, st, bytes, out),
-        Command::Sleep => effects::sleep(st),
+        Command::Sleep => effects::sleep(rec, st),
         Command::Unknown => effects::quiet(Answer::Done, st),
     }
 }

@@ -72,14 +72,15 @@ folding s fold = record { answer = Done; from = 0; count = 0; state = s; fold = 
 
 -- ---- states
 unfoldable pub latched : State → Bool → State
-latched s on = record { srwd = s .srwd; bp = s .bp; config = s .config; wel = on; asleep = s .asleep; busy = s .busy }
+latched s on = record { srwd = s .srwd; bp = s .bp; config = s .config; wel = on; asleep = s .asleep; busy = s .busy; settle = s .settle }
 
-unfoldable pub dozing : State → Bool → State
-dozing s on = record { srwd = s .srwd; bp = s .bp; config = s .config; wel = s .wel; asleep = on; busy = s .busy }
+-- asleep or awake at once, and settling for a time (002 L802-806)
+unfoldable pub dozing : State → Bool → ℕ → State
+dozing s on time = record { srwd = s .srwd; bp = s .bp; config = s .config; wel = s .wel; asleep = on; busy = s .busy; settle = time }
 
 -- an operation runs: WEL stays set until its time has run out (000 L110-117)
 unfoldable pub working : State → ℕ → State
-working s time = record { srwd = s .srwd; bp = s .bp; config = s .config; wel = s .wel; asleep = s .asleep; busy = time }
+working s time = record { srwd = s .srwd; bp = s .bp; config = s .config; wel = s .wel; asleep = s .asleep; busy = time; settle = s .settle }
 
 -- a second data byte: bits 7, 6, 4, 1 and 0 are replaced, TB (bit 3) can only become 1, bits 5 and 2 are reserved and 0 (003 L840-843, L828-864)
 unfoldable pub configWritten : ℕ → ℕ → ℕ
@@ -93,7 +94,7 @@ configAfter n s bytes = cond (modelOf n .register && leb 3 (length bytes)) (conf
 -- SRWD from bit 7, BP from bit 2 on: two bits, four where BP goes to 15; the rest is ignored (000 L264-268, 004 M289, 003 L813-816)
 unfoldable pub written : ℕ → State → ℕ → ℕ → ℕ → State
 written n s b config time =
-    record { srwd = leb 128 b; bp = b / 4 % (modelOf n .«highest_bp» + 1); config = config; wel = s .wel; asleep = s .asleep; busy = time }
+    record { srwd = leb 128 b; bp = b / 4 % (modelOf n .«highest_bp» + 1); config = config; wel = s .wel; asleep = s .asleep; busy = time; settle = s .settle }
 
 -- what a refusal leaves of the state: all of it, WEL included; but where WEL falls at a protected unit (003 L803), 17 clears it
 unfoldable pub refusalLeaves : ℕ → Answer → State → State
@@ -163,11 +164,15 @@ unfoldable pub readId : Record → State → List ℕ → List ℕ → Shown
 readId rec s bytes out =
     record { reply = drives s 1 (length bytes); out = lay out 1 (ring (idBytes (modelOf (rec .model))) 0 (length bytes - 1)) }
 
+-- what it settles for: only a chip that was asleep does, after the short AB and after the long one (002 L803-806; 003 L2133-2134)
+unfoldable pub wakingTime : Record → State → ℕ → ℕ
+wakingTime rec s n = cond (s .asleep) (cond (ltb 4 n) (rec .sign) (rec .wake)) 0
+
 -- AB: leaves deep power-down; a long one drives the signature from position 4 on, over and over (000 L363-369, 002 L498)
 unfoldable pub wake : Record → State → List ℕ → List ℕ → Shown
 wake rec s bytes out =
     record {
-      reply = drives (dozing s false) 4 (length bytes);
+      reply = drives (dozing s false (wakingTime rec s (length bytes))) 4 (length bytes);
       out = lay out 4 (replicate (length bytes - 4) (modelOf (rec .model) .signature));
     }
 
@@ -182,9 +187,9 @@ readMaker rec s bytes out =
       out = lay out 4 (ring (makerBytes (modelOf (rec .model)) (getD bytes 3 0)) 0 (length bytes - 4));
     }
 
--- B9: enters deep power-down (000 L359)
-unfoldable pub sleep : State → Reply
-sleep s = quiet Done (dozing s true)
+-- B9: enters deep power-down, and settles (000 L359, 002 L802)
+unfoldable pub sleep : Record → State → Reply
+sleep rec s = quiet Done (dozing s true (rec .sleep))
 
 -- ---- what the functions ask of a frame
 -- a frame of at least `first` bytes, none longer than is allowed, and room for it in the output

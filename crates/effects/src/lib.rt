@@ -64,12 +64,13 @@ fn latch(st: State, on: bool) -> State
     next
 }
 
-// The chip falls asleep or wakes.
-pub fn doze(st: State, on: bool) -> State
-    ensures { λ r. ⌜ r ≡ dozing st on ⌝ }
+// The chip falls asleep or wakes, and settles for a time.
+pub fn doze(st: State, on: bool, time: u32) -> State
+    ensures { λ r. ⌜ r ≡ dozing st on time ⌝ }
 {
     let mut next = st;
     next.asleep = on;
+    next.settle = time;
     next
 }
 
@@ -122,6 +123,7 @@ fn write(model: u32, st: State, byte: u8, config: u8, time: u32) -> State
         wel: st.wel,
         asleep: st.asleep,
         busy: time,
+        settle: st.settle,
     }
 }
 
@@ -154,8 +156,8 @@ pub fn write_status(rec: Record, st: State, bytes: &[u8]) -> Reply
 }
 
 // B9
-pub fn sleep(st: State) -> Reply
-    ensures { λ r. ⌜ r ≡ Effects·sleep st ⌝ }
+pub fn sleep(rec: Record, st: State) -> Reply
+    ensures { λ r. ⌜ r ≡ Effects·sleep rec st ⌝ }
 {
-    quiet(Answer::Done, doze(st, true))
+    quiet(Answer::Done, doze(st, true, rec.sleep))
 }

@@ -50,6 +50,7 @@ pub record Passed (rec : Record) (s : State) (h : Head) : Type 0 where
   pub tail : h .tail ≤ 7
   pub roomy : h .count ≤ h .room
   pub some : 0 < h .count
+  pub settled : s .settle ≡ 0
   pub listens : (not (eqb (s .busy) 0) && not (asks rec h .«while_busy»)) ≡ false
   pub awake : (s .asleep && not (asks rec h .«while_asleep»)) ≡ false
   pub known : asks rec h .known ≡ true
@@ -64,7 +65,8 @@ unfolding refusalOf
 passed rec s h e =
     let c = clear (ladder rec s h (asks rec h)) refl e in
     let d = c .1 .1 .1 .1 .1 in
-    let f = d .1 .1 .1 .1 .1 in
+    let g = d .1 .1 in
+    let f = g .1 .1 .1 .1 in
     let long = neither _ _ (c .1 .1 .1 .0) in
     record {
       right = not-false _ (c .0);
@@ -74,10 +76,11 @@ passed rec s h e =
       tail = ltb-false _ _ (long .1);
       roomy = ltb-false _ _ (c .1 .1 .1 .1 .0);
       some = pos-of-ne-zero (eqb-false (h .count) 0 (d .0));
-      listens = d .1 .0;
-      awake = d .1 .1 .0;
-      known = not-false _ (d .1 .1 .1 .0);
-      fits = not-false _ (d .1 .1 .1 .1 .0);
+      settled = eqb-true (s .settle) 0 (not-false _ (d .1 .0));
+      listens = g .0;
+      awake = g .1 .0;
+      known = not-false _ (g .1 .1 .0);
+      fits = not-false _ (g .1 .1 .1 .0);
       enabled = f .0;
       unlocked = f .1 .0;
       free = f .1 .1 .0;
@@ -120,6 +123,7 @@ pub record Stopped (rec : Record) (s : State) : Type 0 where
   pub right : recordOk rec ≡ true
   pub valid : stateOk rec s ≡ true
   pub idle : s .busy ≡ 0
+  pub settled : s .settle ≡ 0
 
 -- a command that changes a unit needs WEL, so it is not taken while busy
 waits-for : (rec : Record) (s : State) (h : Head) → guarded rec s (asks rec h) h ≡ true → asks rec h .«while_busy» ≡ false
@@ -133,13 +137,14 @@ pub stopped : (rec : Record) (s : State) (h : Head) → saysProtected (refusalOf
 unfolding refusalOf
 stopped rec s h e =
     let rows = ladder rec s h (asks rec h) in
-    let t = clear-to (take 12 rows) (drop 12 rows) refl e in
+    let t = clear-to (take 13 rows) (drop 13 rows) refl e in
     let c = t .0 in
     let g : guarded rec s (asks rec h) h ≡ true = reached (guarded rec s (asks rec h) h) (t .1) in
     record {
       right = not-false _ (c .0);
       valid = not-false _ (c .1 .1 .0);
-      idle = eqb-true (s .busy) 0 (not-false _ (only-if (not (eqb (s .busy) 0)) _ (c .1 .1 .1 .1 .1 .1 .0) (waits-for rec s h g)));
+      idle = eqb-true (s .busy) 0 (not-false _ (only-if (not (eqb (s .busy) 0)) _ (c .1 .1 .1 .1 .1 .1 .1 .0) (waits-for rec s h g)));
+      settled = eqb-true (s .settle) 0 (not-false _ (c .1 .1 .1 .1 .1 .1 .0));
     }
   where
     reached : (b : Bool) → saysProtected (cond b Protected Done) ≡ true → b ≡ true

@@ -41,7 +41,7 @@ pub two-stages : (rec : Record) (s : State) (h : Head)
     → (let k : Traits = asks rec h in
     saidOf rec s h ≡ cond (isDone (heardOf rec s h k)) (allowedOf rec s h k) (heardOf rec s h k))
 unfolding saidOf heardOf allowedOf
-two-stages rec s h = let rows = ladder rec s h (asks rec h) in joined (take 5 (drop 5 rows)) (drop 10 rows) refl
+two-stages rec s h = let rows = ladder rec s h (asks rec h) in joined (take 6 (drop 5 rows)) (drop 11 rows) refl
 
 -- ---- where the code stops
 module _ (rec : Record) (s : State) (h : Head) where

@@ -10,7 +10,7 @@ use Rattle.states.specs.declared.Record.{Record}
 use Rattle.states.specs.declared.State.{State}
 use Rattle.commands.specs.declared.Traits.{Traits}
 use Rattle.answers.specs.declared.Answer.{Answer}
-use Rattle.answers.specs.declared.Answer.the-variants.{Done, BadRecord, BadArray, BadState, BadFrame, ShortOut, Empty, Busy, Asleep, NoCommand, BadLength, NotEnabled, Locked, Protected}
+use Rattle.answers.specs.declared.Answer.the-variants.{Done, BadRecord, BadArray, BadState, BadFrame, ShortOut, Empty, Settling, Busy, Asleep, NoCommand, BadLength, NotEnabled, Locked, Protected}
 use Rattle.ladder.specs.declared.Head.{Head}
 
 -- a row of the table: a test, and the answer where it holds
@@ -44,6 +44,7 @@ ladder rec s h k =
     ∷ ((ltb 65541 (h .count) || ltb 7 (h .tail)) gives BadFrame)
     ∷ (ltb (h .room) (h .count) gives ShortOut)
     ∷ (eqb (h .count) 0 gives Empty)
+    ∷ (not (eqb (s .settle) 0) gives Settling)
     ∷ ((not (eqb (s .busy) 0) && not (k .«while_busy»)) gives Busy)
     ∷ ((s .asleep && not (k .«while_asleep»)) gives Asleep)
     ∷ (not (k .known) gives NoCommand)

@@ -1,4 +1,4 @@
--- The table in stages, for the code: rows 1 to 5, and what the frame says: rows 10 to 14 and 15 to 17. proofs/Stages.antt shows that they are
+-- The table in stages, for the code: rows 1 to 5, and what the frame says: rows 10, 22 and 11 to 14, and 15 to 17. proofs/Stages.antt shows that they are
 -- the one table.
 -- Assumes nothing.
 use lib.ListN.{take, drop}
@@ -17,7 +17,7 @@ unfoldable pub saidOf : Record → State → Head → Answer
 saidOf rec s h = firstOf (drop 5 (ladder rec s h (asks rec h)))
 
 unfoldable pub heardOf : Record → State → Head → Traits → Answer
-heardOf rec s h k = firstOf (take 5 (drop 5 (ladder rec s h k)))
+heardOf rec s h k = firstOf (take 6 (drop 5 (ladder rec s h k)))
 
 unfoldable pub allowedOf : Record → State → Head → Traits → Answer
-allowedOf rec s h k = firstOf (drop 10 (ladder rec s h k))
+allowedOf rec s h k = firstOf (drop 11 (ladder rec s h k))

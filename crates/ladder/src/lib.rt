@@ -44,7 +44,7 @@ pub fn given(rec: Record, st: State, head: Head) -> Answer
     Answer::Done
 }
 
-// 10 to 14: whether the chip hears a frame of that command and length.
+// 10, 22 and 11 to 14: whether the chip hears a frame of that command and length.
 fn heard(rec: Record, st: State, head: Head, t: Traits) -> Answer
     ensures { λ r. ⌜ r ≡ heardOf rec st head t ⌝ }
 {
@@ -52,6 +52,9 @@ fn heard(rec: Record, st: State, head: Head, t: Traits) -> Answer
     let tail = head.tail;
     if n == 0 {
         return Answer::Empty;
+    }
+    if st.settle != 0 {
+        return Answer::Settling;
     }
     if (st.busy != 0) & !t.while_busy {
         return Answer::Busy;
@@ -88,7 +91,7 @@ fn allowed(rec: Record, st: State, head: Head, t: Traits) -> Answer
     Answer::Done
 }
 
-// 10 to 17: the first refusal that applies to a frame that 1 to 5 let pass, and Done where none does.
+// 10, 22 and 11 to 17: the first refusal that applies to a frame that 1 to 5 let pass, and Done where none does.
 pub fn said(rec: Record, st: State, head: Head) -> Answer
     ensures { λ r. ⌜ r ≡ saidOf rec st head ⌝ }
 {

@@ -52,7 +52,7 @@ pub fn fresh(model: u8, blocks: u8, array: &mut [u8]) -> Setup {
     }
 }
 
-fn state_of(status: u8, asleep: u8, busy: u32) -> State {
+fn state_of(status: u8, asleep: u8, busy: u32, settle: u32) -> State {
     State {
         srwd: 128 <= status,
         bp: status / 4 % 32,
@@ -60,7 +60,18 @@ fn state_of(status: u8, asleep: u8, busy: u32) -> State {
         wel: status / 2 % 2 == 1,
         asleep: asleep != 0,
         busy,
+        settle,
     }
+}
+
+// The state of a line's bytes.
+fn state_said(says: &[u8; 16]) -> State {
+    state_of(
+        says[0],
+        says[1],
+        number(says[2], says[3], says[4]),
+        number(says[5], says[6], says[7]),
+    )
 }
 
 // Eight bytes become the cells from an address on, where they fit.
@@ -146,10 +157,7 @@ pub fn step(setup: Setup, line: &[u8], array: &mut [u8], out: &mut [u8; 65600]) 
     let st = last.state;
     let says = read(line);
     match letter(line) {
-        b'S' => with_last(
-            setup,
-            set_to(state_of(says[0], says[1], number(says[2], says[3], says[4]))),
-        ),
+        b'S' => with_last(setup, set_to(state_said(&says))),
         b'C' => {
             set_cells(&says, array);
             setup

@@ -1,11 +1,11 @@
--- Laws of bytes: numbers little-endian, lists that are the same, lists of eight. Assumes nothing.
+-- Laws of bytes: numbers little-endian, lists that are the same, four bytes of a list. Assumes nothing.
 use mathlib.Core.Path.{_≡_, refl}
 use mathlib.Core.Bool.{true, false≢true}
 use mathlib.Core.List.{List, [], _∷_}
-use Prim.Native.Nat.{ℕ, suc, _+_, _*_, _/_, _%_, _^_, _<_}
+use Prim.Native.Nat.{ℕ, suc, _+_, _*_, _/_, _%_, _^_, _<_, _≤_}
 use native.Mathlib.Omega.{arith}
 use lib.Dec.{eqb}
-use lib.ListN.{length, getD, drop, drop-of-length-le}
+use lib.ListN.{length, getD, take, drop}
 use lib.Seq.{drop-cons}
 use borrow.Author.Tests.{eqb-true, eq-eqb}
 use Rattle.units.proofs.Bools.{both}
@@ -37,11 +37,11 @@ same-eq (x ∷ xs) (y ∷ ys) e =
     let k = both (eqb x y) (same xs ys) e in
     rw (eqb-true x y (k .0), same-eq xs ys (k .1))
 
--- ---- the last four of eight
-pub last-four : (xs : List ℕ) → length xs ≡ 8 → drop 4 xs ≡ getD xs 4 0 ∷ getD xs 5 0 ∷ getD xs 6 0 ∷ getD xs 7 0 ∷ []
-last-four xs n =
-    let a : 4 < length xs = omega arith in
-    let b : 5 < length xs = omega arith in
-    let c : 6 < length xs = omega arith in
-    let d : 7 < length xs = omega arith in
-    rw (drop-cons xs 4 0 a, drop-cons xs 5 0 b, drop-cons xs 6 0 c, drop-cons xs 7 0 d, drop-of-length-le xs {i = 8} (omega arith))
+-- ---- four from place k on
+pub four-at : (xs : List ℕ) (k : ℕ) → 4 + k ≤ length xs → take 4 (drop k xs) ≡ getD xs k 0 ∷ getD xs (suc k) 0 ∷ getD xs (suc (suc k)) 0 ∷ getD xs (suc (suc (suc k))) 0 ∷ []
+four-at xs k n =
+    let a : k < length xs = omega arith in
+    let b : suc k < length xs = omega arith in
+    let c : suc (suc k) < length xs = omega arith in
+    let d : suc (suc (suc k)) < length xs = omega arith in
+    rw (drop-cons xs k 0 a, drop-cons xs (suc k) 0 b, drop-cons xs (suc (suc k)) 0 c, drop-cons xs (suc (suc (suc k))) 0 d)

@@ -24,7 +24,7 @@ use Rattle.pod.specs.Calls.{mayMove, keptOf, called, answered, answeredO
 use Rattle.pod.proofs.Packing.{Small, packing-length}
 use Rattle.pod.proofs.Valid.{valid-packing, invalid, valid-small, timely, later-small, cycled-small, Taken, taken}
 
--- what is packed fits eight bytes
+-- what is packed fits twelve bytes
 fits : (rec : Record) (xs : List ℕ) (a : Answer) (next : State)
     → (mayMove a ≡ true → stateOk rec (unpackOf xs) ≡ true) → (mayMove a ≡ true → Small next) → Packs a next xs
 fits rec xs a next v h = record { room = λ d. packing-length xs (valid-packing rec xs (v d)); level = λ d. h d .level }

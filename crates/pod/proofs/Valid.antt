@@ -1,4 +1,4 @@
--- What a call that is taken shows of its state, what a refused one leaves, and that the state after fits its eight bytes. Assumes nothing.
+-- What a call that is taken shows of its state, what a refused one leaves, and that the state after fits its twelve bytes. Assumes nothing.
 use mathlib.Core.Path.{_≡_, refl, sym, _∙_}
 use mathlib.Core.Bool.{Bool, true, false, true≢false, false≢true}
 use mathlib.Core.List.{List}
@@ -9,10 +9,10 @@ use lib.ListN.{getD}
 use Rattle.models.specs.Models.{modelOf}
 use Rattle.models.proofs.Rules.{highest-bp}
 use Rattle.answers.specs.Answers.{isDone}
-use Rattle.states.specs.States.{recordOk, longestOf, stateOk}
+use Rattle.states.specs.States.{recordOk, longestBusy, longestSettle, stateOk}
 use Rattle.states.specs.declared.Record.{Record}
 use Rattle.states.specs.declared.State.{State}
-use Rattle.states.proofs.States.{sound, longest-in-range}
+use Rattle.states.proofs.States.{sound, longest-in-range, busy-le-all, settle-le-all}
 use Rattle.ladder.proofs.Passed.{passed, stopped}
 use Rattle.effects.specs.Effects.{latched, dozing, working, written, Effect}
 use Rattle.chip.specs.Frames.{Chip, Sent, headOf, refusedOf, frameOf}
@@ -23,7 +23,7 @@ use Rattle.pod.specs.Calls.{mayMove}
 use Rattle.pod.specs.Packing.{isPacking, noState, unpackOf}
 use Rattle.pod.proofs.Packing.{Small, unpack-none}
 
--- ---- a valid state is a packing's, and fits eight bytes
+-- ---- a valid state is a packing's, and fits twelve bytes
 nothing-valid : (rec : Record) → stateOk rec noState ≡ true → ⊥
 nothing-valid rec e = omega (arith, sound rec noState e .level, highest-bp (rec .model))
 
@@ -45,7 +45,8 @@ pub valid-small : (rec : Record) (s : State) → recordOk rec ≡ true → state
 valid-small rec s r v =
     record {
       level = omega (arith, sound rec s v .level, highest-bp (rec .model));
-      short = omega (arith, sound rec s v .time, longest-in-range rec r .short);
+      short = omega (arith, sound rec s v .time, busy-le-all rec, longest-in-range rec r .short);
+      brief = omega (arith, sound rec s v .settle, settle-le-all rec, longest-in-range rec r .short);
     }
 
 -- ---- waits and power cycles
@@ -85,29 +86,32 @@ not-17 rec s next d = go (recordOk rec) (stateOk rec s) refl refl
 
 pub later-small : (s : State) (us : ℕ) → Small s → Small (later s us)
 unfolding later
-later-small s us h = record { level = h .level; short = omega (arith, h .short) }
+later-small s us h = record { level = h .level; short = omega (arith, h .short); brief = omega (arith, h .brief) }
 
 pub cycled-small : (s : State) → Small s → Small (cycled s)
 unfolding cycled
-cycled-small s h = record { level = h .level; short = omega arith }
+cycled-small s h = record { level = h .level; short = omega arith; brief = omega arith }
 
--- ---- however a frame moves the state, it fits eight bytes
+-- ---- however a frame moves the state, it fits twelve bytes
 module _ (rec : Record) (s : State) (ok : recordOk rec ≡ true) (h : Small s) where
-  busy-for : (us : ℕ) → us ≤ longestOf rec → us < 2 ^ 32
-  busy-for us l = omega (arith, longest-in-range rec ok .short)
+  busy-for : (us : ℕ) → us ≤ longestBusy rec → us < 2 ^ 32
+  busy-for us l = omega (arith, busy-le-all rec, longest-in-range rec ok .short)
 
-  works-small : (us : ℕ) → us ≤ longestOf rec → Small (working s us)
+  settles-for : (us : ℕ) → us ≤ longestSettle rec → us < 2 ^ 32
+  settles-for us l = omega (arith, settle-le-all rec, longest-in-range rec ok .short)
+
+  works-small : (us : ℕ) → us ≤ longestBusy rec → Small (working s us)
   unfolding working
-  works-small us l = record { level = h .level; short = busy-for us l }
+  works-small us l = record { level = h .level; short = busy-for us l; brief = h .brief }
 
   moved : {t : State} → Move rec s t → Small t
   unfolding latched dozing written
   moved stays = h
-  moved (latches b z) = record { level = h .level; short = h .short }
-  moved (dozes b z) = record { level = h .level; short = h .short }
-  moved (works us l w a) = works-small us l
-  moved (writes bytes us l w a) =
-      record { level = omega (arith, mod-lt (getD bytes 1 0 / 4) {m = modelOf (rec .model) .«highest_bp» + 1} (omega arith), highest-bp (rec .model)); short = busy-for us l }
+  moved (latches b z) = record { level = h .level; short = h .short; brief = h .brief }
+  moved (dozes b us z l) = record { level = h .level; short = h .short; brief = settles-for us l }
+  moved (works us l w a z) = works-small us l
+  moved (writes bytes us l w a z) =
+      record { level = omega (arith, mod-lt (getD bytes 1 0 / 4) {m = modelOf (rec .model) .«highest_bp» + 1} (omega arith), highest-bp (rec .model)); short = busy-for us l; brief = h .brief }
 
 -- ---- frames
 -- what a frame that may move the state has shown of it, and that the state after fits

@@ -16,10 +16,10 @@ use Rattle.chip.specs.Frames.{Sent, chipOf, sentOf, frameOf}
 use Rattle.time.specs.Time.{waitOf, powerOf}
 use Rattle.pod.specs.Packing.{packOf, unpackOf}
 
--- the record of seven numbers
-abbrev pub recordOf : ℕ → ℕ → ℕ → ℕ → ℕ → ℕ → ℕ → Record
-recordOf model status page sector block chip half =
-    record { model = model; «status_write» = status; page = page; sector = sector; block = block; chip = chip; half = half }
+-- the record of ten numbers
+abbrev pub recordOf : ℕ → ℕ → ℕ → ℕ → ℕ → ℕ → ℕ → ℕ → ℕ → ℕ → Record
+recordOf model status page sector block chip half sleep wake sign =
+    record { model = model; «status_write» = status; page = page; sector = sector; block = block; chip = chip; half = half; sleep = sleep; wake = wake; sign = sign }
 
 -- the answers after which the state may differ: 0, and 17 where it clears WEL
 abbrev pub mayMove : Answer → Bool
@@ -83,7 +83,7 @@ pub record Answers (c : Answered) (number : ℕ) (state : List ℕ) : Type 0 whe
   pub number-is : number ≡ c .number
   pub state-is : state ≡ c .state
 
--- what the code asks before it packs: where the state may differ there are 8 bytes, and BP fits the status byte
+-- what the code asks before it packs: where the state may differ there are 12 bytes, and BP fits the status byte
 pub record Packs (a : Answer) (next : State) (state : List ℕ) : Type 0 where
-  pub room : mayMove a ≡ true → length state ≡ 8
+  pub room : mayMove a ≡ true → length state ≡ 12
   pub level : mayMove a ≡ true → next .bp ≤ 15

@@ -1,10 +1,10 @@
--- The packed state: 01, "Record, state, frame", last paragraph. Assumes nothing.
+-- The packed state: 01, "Record, state, frame", last paragraph, and Req 04. Assumes nothing.
 use mathlib.Core.Bool.{Bool, true, false, _&&_, cond}
 use mathlib.Core.Path.{_≡_}
-use mathlib.Core.List.{List, [], _∷_}
+use mathlib.Core.List.{List, [], _∷_, _++_}
 use Prim.Native.Nat.{ℕ, zero, suc, _+_, _*_, _/_, _%_}
 use lib.Dec.{eqb, leb}
-use lib.ListN.{length, getD, drop}
+use lib.ListN.{length, getD, take, drop}
 use Rattle.states.specs.States.{flag, statusOf}
 use Rattle.states.specs.declared.State.{State}
 
@@ -17,9 +17,13 @@ abbrev pub spelt : List ℕ → ℕ
 spelt [] = 0
 spelt (b ∷ bs) = b + 256 * spelt bs
 
--- the status byte, the deep power-down flag 0 or 1, the configuration register, a zero, and the busy time little-endian
+-- the number in the four bytes from place k on
+abbrev pub timeAt : ℕ → List ℕ → ℕ
+timeAt k xs = spelt (take 4 (drop k xs))
+
+-- the status byte, the deep power-down flag 0 or 1, the configuration register, a zero, and little-endian the busy time and the time still to settle
 unfoldable pub packOf : State → List ℕ
-packOf s = statusOf s ∷ flag (s .asleep) 1 ∷ s .config ∷ 0 ∷ bytesOf 4 (s .busy)
+packOf s = statusOf s ∷ flag (s .asleep) 1 ∷ s .config ∷ 0 ∷ (bytesOf 4 (s .busy) ++ bytesOf 4 (s .settle))
 
 -- the state that bytes spell: SRWD is bit 7, BP bits 5 to 2 (above the model's highest it is not valid), WEL bit 1. WIP is not read:
 -- it has to be what the busy time makes it
@@ -31,7 +35,8 @@ readOf xs =
       config = getD xs 2 0;
       wel = eqb (getD xs 0 0 / 2 % 2) 1;
       asleep = eqb (getD xs 1 0) 1;
-      busy = spelt (drop 4 xs);
+      busy = timeAt 4 xs;
+      settle = timeAt 8 xs;
     }
 
 abbrev pub same : List ℕ → List ℕ → Bool
@@ -46,11 +51,11 @@ isPacking xs = same xs (packOf (readOf xs))
 
 -- no record makes it valid: no model has that BP
 abbrev pub noState : State
-noState = record { srwd = false; bp = 255; config = 0; wel = false; asleep = false; busy = 0 }
+noState = record { srwd = false; bp = 255; config = 0; wel = false; asleep = false; busy = 0; settle = 0 }
 
 unfoldable pub unpackOf : List ℕ → State
 unpackOf xs = cond (isPacking xs) (readOf xs) noState
 
--- the busy time that the code has read: where there are 8 bytes, the last four spell it
+-- the busy time that the code has read: where there are 12 bytes, the middle four spell it
 pub record Timed (xs : List ℕ) (busy : ℕ) : Type 0 where
-  pub is : length xs ≡ 8 → busy ≡ spelt (drop 4 xs)
+  pub is : length xs ≡ 12 → busy ≡ timeAt 4 xs

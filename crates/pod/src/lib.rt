@@ -1,4 +1,4 @@
-// What the pod's firmware, written in C, calls: frame, wait and power cycle on numbers and byte slices, the state packed in 8 lent bytes.
+// What the pod's firmware, written in C, calls: frame, wait and power cycle on numbers and byte slices, the state packed in 12 lent bytes.
 ghost use mathlib.Core.Path.{_≡_};
 ghost use mathlib.Core.List.{_∷_, []};
 ghost use Prim.Native.Nat.{_≤_};
@@ -20,23 +20,23 @@ fn time_of(a: u8, b: u8, c: u8, d: u8) -> u32
     wide(a) + 256 * (wide(b) + 256 * (wide(c) + 256 * wide(d)))
 }
 
-// The busy time that 8 bytes spell; 0 of any other number of bytes.
+// The busy time that 12 bytes spell; 0 of any other number of bytes.
 fn busy_in(state: &[u8]) -> u32
     ensures { λ r. ⌜ Timed (now (state .entry)) r ⌝ }
 {
-    if state.len() == 8 {
+    if state.len() == 12 {
         return time_of(state[4], state[5], state[6], state[7]);
     }
     0
 }
 
-// Whether the lent bytes, which spell that busy time, are a packing: 8 of them, bit 6 of the status clear, WIP as the time makes it, the flag 0 or 1, and a
+// Whether the lent bytes, which spell that busy time, are a packing: 12 of them, bit 6 of the status clear, WIP as the time makes it, the flag 0 or 1, and a
 // zero.
 fn is_packed(state: &[u8], busy: u32) -> bool
     requires { ⌜ Timed (now state) busy ⌝ }
     ensures { λ r. ⌜ r ≡ isPacking (now (state .entry)) ⌝ }
 {
-    if state.len() != 8 {
+    if state.len() != 12 {
         return false;
     }
     let status = state[0];
@@ -44,9 +44,9 @@ fn is_packed(state: &[u8], busy: u32) -> bool
     (status / 64 % 2 == 0) & ((status % 2 == wip) & ((state[1] <= 1) & (state[3] == 0)))
 }
 
-// The state that 8 bytes spell, with that busy time.
+// The state that 12 bytes spell, with that busy time.
 fn unpack(state: &[u8], busy: u32) -> State
-    requires { ⌜ (length (now state) ≡ 8) × Timed (now state) busy ⌝ }
+    requires { ⌜ (length (now state) ≡ 12) × Timed (now state) busy ⌝ }
     ensures { λ r. ⌜ r ≡ readOf (now (state .entry)) ⌝ }
 {
     let status = state[0];
@@ -57,15 +57,17 @@ fn unpack(state: &[u8], busy: u32) -> State
         wel: status / 2 % 2 == 1,
         asleep: state[1] == 1,
         busy,
+        settle: time_of(state[8], state[9], state[10], state[11]),
     }
 }
 
-// The state, packed into 8 lent bytes.
+// The state, packed into 12 lent bytes.
 fn pack(st: State, state: &mut [u8])
-    requires { ⌜ (st .bp ≤ 15) × (length (now state) ≡ 8) ⌝ }
+    requires { ⌜ (st .bp ≤ 15) × (length (now state) ≡ 12) ⌝ }
     ensures { λ _. ⌜ now (state .exit) ≡ packOf st ⌝ }
 {
     let busy = st.busy;
+    let settle = st.settle;
     state[0] = states::status(st);
     state[1] = st.asleep as u8;
     state[2] = st.config;
@@ -74,6 +76,10 @@ fn pack(st: State, state: &mut [u8])
     state[5] = (busy / 256 % 256) as u8;
     state[6] = (busy / 65536 % 256) as u8;
     state[7] = (busy / 16777216 % 256) as u8;
+    state[8] = (settle % 256) as u8;
+    state[9] = (settle / 256 % 256) as u8;
+    state[10] = (settle / 65536 % 256) as u8;
+    state[11] = (settle / 16777216 % 256) as u8;
 }
 
 // The answer's number. The state after is packed where it may differ: where nothing was refused, and at 17; otherwise the lent bytes stay.
@@ -98,8 +104,11 @@ fn record_of(
     block_us: u32,
     chip_us: u32,
     half_us: u32,
+    sleep_us: u32,
+    wake_us: u32,
+    sign_us: u32,
 ) -> Record
-    ensures { λ r. ⌜ r ≡ recordOf model «status_us» «page_us» «sector_us» «block_us» «chip_us» «half_us» ⌝ }
+    ensures { λ r. ⌜ r ≡ recordOf model «status_us» «page_us» «sector_us» «block_us» «chip_us» «half_us» «sleep_us» «wake_us» «sign_us» ⌝ }
 {
     Record {
         model,
@@ -109,6 +118,9 @@ fn record_of(
         block: block_us,
         chip: chip_us,
         half: half_us,
+        sleep: sleep_us,
+        wake: wake_us,
+        sign: sign_us,
     }
 }
 
@@ -123,6 +135,9 @@ pub extern "C" fn gwo_frame(
     block_us: u32,
     chip_us: u32,
     half_us: u32,
+    sleep_us: u32,
+    wake_us: u32,
+    sign_us: u32,
     state: &mut [u8],
     array: &mut [u8],
     frame: &[u8],
@@ -133,7 +148,7 @@ pub extern "C" fn gwo_frame(
     count: &mut u32,
     fold: &mut u32,
 ) -> u32
-    ensures { λ r. ⌜ Leaves (calledFrame (recordOf model «status_us» «page_us» «sector_us» «block_us» «chip_us» «half_us») (now (state .entry)) (now (array .entry)) (sentBy (now (frame .entry)) tail wp (now (out .entry)))) r (now (state .exit)) (now (array .exit)) (now (out .exit)) (now (from .exit)) (now (count .exit)) (now (fold .exit)) ⌝ }
+    ensures { λ r. ⌜ Leaves (calledFrame (recordOf model «status_us» «page_us» «sector_us» «block_us» «chip_us» «half_us» «sleep_us» «wake_us» «sign_us») (now (state .entry)) (now (array .entry)) (sentBy (now (frame .entry)) tail wp (now (out .entry)))) r (now (state .exit)) (now (array .exit)) (now (out .exit)) (now (from .exit)) (now (count .exit)) (now (fold .exit)) ⌝ }
 {
     let rec = record_of(
         model,
@@ -143,6 +158,9 @@ pub extern "C" fn gwo_frame(
         block_us,
         chip_us,
         half_us,
+        sleep_us,
+        wake_us,
+        sign_us,
     );
     if !states::record_ok(rec) {
         *from = 0;
@@ -182,10 +200,13 @@ pub extern "C" fn gwo_wait(
     block_us: u32,
     chip_us: u32,
     half_us: u32,
+    sleep_us: u32,
+    wake_us: u32,
+    sign_us: u32,
     state: &mut [u8],
     us: u32,
 ) -> u32
-    ensures { λ r. ⌜ Answers (calledWait (recordOf model «status_us» «page_us» «sector_us» «block_us» «chip_us» «half_us») (now (state .entry)) us) r (now (state .exit)) ⌝ }
+    ensures { λ r. ⌜ Answers (calledWait (recordOf model «status_us» «page_us» «sector_us» «block_us» «chip_us» «half_us» «sleep_us» «wake_us» «sign_us») (now (state .entry)) us) r (now (state .exit)) ⌝ }
 {
     let rec = record_of(
         model,
@@ -195,6 +216,9 @@ pub extern "C" fn gwo_wait(
         block_us,
         chip_us,
         half_us,
+        sleep_us,
+        wake_us,
+        sign_us,
     );
     let busy = busy_in(state);
     if !is_packed(state, busy) {
@@ -217,9 +241,12 @@ pub extern "C" fn gwo_power_cycle(
     block_us: u32,
     chip_us: u32,
     half_us: u32,
+    sleep_us: u32,
+    wake_us: u32,
+    sign_us: u32,
     state: &mut [u8],
 ) -> u32
-    ensures { λ r. ⌜ Answers (calledCycle (recordOf model «status_us» «page_us» «sector_us» «block_us» «chip_us» «half_us») (now (state .entry))) r (now (state .exit)) ⌝ }
+    ensures { λ r. ⌜ Answers (calledCycle (recordOf model «status_us» «page_us» «sector_us» «block_us» «chip_us» «half_us» «sleep_us» «wake_us» «sign_us») (now (state .entry))) r (now (state .exit)) ⌝ }
 {
     let rec = record_of(
         model,
@@ -229,6 +256,9 @@ pub extern "C" fn gwo_power_cycle(
         block_us,
         chip_us,
         half_us,
+        sleep_us,
+        wake_us,
+        sign_us,
     );
     let busy = busy_in(state);
     if !is_packed(state, busy) {

@@ -1,6 +1,6 @@
 -- The statements of `specs/Laws.antt`. Assumes nothing.
 use mathlib.Core.Path.{_≡_, refl, sym, ap, subst, _∙_}
-use mathlib.Core.Bool.{Bool, true, false, _&&_, _||_, cond, true≢false}
+use mathlib.Core.Bool.{Bool, true, false, not, _&&_, _||_, cond, true≢false}
 use mathlib.Core.List.{List}
 use mathlib.Core.Logic.{⊎-elim}
 use Prim.Native.Nat.{ℕ, _+_, _-_, _*_, _/_, _%_, _≤_, _<_}
@@ -16,31 +16,34 @@ use Rattle.fold.specs.Fold.{cellAfter}
 use Rattle.flash.specs.Arrays.{programmed}
 use Rattle.fold.proofs.Counts.{only-falls}
 use Rattle.flash.proofs.Arrays.{page-folds, outside-stays}
-use Rattle.answers.specs.Answers.{numberOf, isDone}
+use Rattle.answers.specs.Answers.{numberOf, isDone, saysProtected}
 use Rattle.commands.specs.Commands.{decodeOf}
 use Rattle.states.specs.States.{recordOk, stateOk, tbOf}
 use Rattle.states.specs.declared.Record.{Record}
 use Rattle.states.specs.declared.State.{State}
-use Rattle.answers.specs.declared.Answer.the-variants.{Done, BadRecord, BadState}
+use Rattle.answers.specs.declared.Answer.{Answer}
+use Rattle.ladder.specs.Ladder.{refusalOf}
+use Rattle.answers.specs.declared.Answer.the-variants.{Done, BadRecord, BadArray, BadState, BadFrame, ShortOut, Empty, Settling}
 use Rattle.commands.specs.declared.Command.{Command}
 use Rattle.commands.specs.declared.Command.the-variants.{Program}
+use Rattle.models.specs.Models.{modelOf}
 use Rattle.models.proofs.Rules.{latch-falls-model}
 use Rattle.states.proofs.States.{sound, valid}
 use Rattle.effects.proofs.Replies.{leaves-all, leaves-latch, clears-latch}
 use Rattle.effects.proofs.Register.{config-after-tb}
 use Rattle.effects.specs.declared.Reply.{Reply}
 use Rattle.time.specs.declared.After.{After}
-use Rattle.effects.specs.Effects.{Effect, programPage, latched, dozing, working, written}
-use Rattle.chip.specs.Frames.{Chip, headFor, acceptedOf, refusedOf}
+use Rattle.effects.specs.Effects.{Effect, programPage, latched, dozing, working, written, stateOnly}
+use Rattle.chip.specs.Frames.{Chip, headFor, acceptedOf, refusedOf, Sent, frameOf}
 use Rattle.chip.specs.Units.{drivenBytes, foldOf}
 use Rattle.time.specs.Time.{later, cycled, ifValid, waitOf, powerOf}
 use Rattle.changes.proofs.Fits.{page-fits}
 use Rattle.chip.proofs.Sorts.{is-done, notes, counts, changes-only, moves, Move, stays, latches, dozes, works, writes}
-use Rattle.promises.specs.Laws.{WaitsAdd, RefusedFrame, RefusedWait, RefusedCycle, OnlyItsUnit, ProgramFalls, OneOutcome, OneEffect, OneWait, OneCycle, NumberFixed, FoldNoted, RefusalKeeps, RefusalClears, LatchFalls, TbStays}
-use Rattle.chip.proofs.Cases.{head, frame-cases, sort, shown-ready, shown-asked, refused-moves}
+use Rattle.promises.specs.Laws.{WaitsAdd, RefusedFrame, RefusedWait, RefusedCycle, OnlyItsUnit, ProgramFalls, OneOutcome, OneEffect, OneWait, OneCycle, NumberFixed, FoldNoted, RefusalKeeps, RefusalClears, LatchFalls, TbStays, among, settlingNumbers, SettlingAnswers, SettlingStays}
+use Rattle.chip.proofs.Cases.{head, refusal, frame-cases, sort, shown-ready, shown-asked, refused-moves}
 use Rattle.calls.specs.Calls.{sends, waits, cycles, after}
 use Rattle.calls.proofs.Valid.{later-sound}
-use Rattle.calls.proofs.Steps.{wait-taken}
+use Rattle.calls.proofs.Steps.{wait-taken, refused-frame}
 
 -- ---- waits
 -- WEL stays exactly while neither wait has run the busy time out
@@ -72,7 +75,8 @@ later-adds : (s : State) (a b : ℕ) → later (later s a) b ≡ later s (a + b)
 unfolding later
 later-adds s a b =
     let e : s .busy - a - b ≡ s .busy - (a + b) = omega arith in
-    rw (latch-stays (s .busy) a b (s .wel), e)
+    let k : s .settle - a - b ≡ s .settle - (a + b) = omega arith in
+    rw (latch-stays (s .busy) a b (s .wel), e, k)
 
 wait-refused : (rec : Record) (s : State) (us : ℕ) → recordOk rec ≡ true → stateOk rec s ≡ false → waitOf rec s us ≡ record { answer = BadState; state = s }
 unfolding waitOf ifValid
@@ -133,9 +137,9 @@ moved-tb : {rec : Record} {s t : State} → Move rec s t → tbOf s ≡ true →
 unfolding tbOf latched dozing working written
 moved-tb stays h = h
 moved-tb (latches b z) h = h
-moved-tb (dozes b z) h = h
-moved-tb (works t l w a) h = h
-moved-tb {rec} {s} (writes bytes t l w a) h = config-after-tb (rec .model) s bytes h
+moved-tb (dozes b t z l) h = h
+moved-tb (works t l w a e) h = h
+moved-tb {rec} {s} (writes bytes t l w a e) h = config-after-tb (rec .model) s bytes h
 
 -- a wait keeps the register, a power cycle TB
 if-valid-tb : (rec : Record) (s next : State) → tbOf s ≡ true → tbOf next ≡ true → tbOf (ifValid rec s next .state) ≡ true
@@ -217,6 +221,40 @@ one-wait rec s us r t p q = p ∙ sym q
 
 pub one-cycle : OneCycle
 one-cycle rec s r t p q = p ∙ sym q
+
+-- ---- a chip that settles
+-- what the first of seven answers is, whichever tests hold
+first-seven : (P : Answer → Type 0) (a b c d e f : Bool) → P BadRecord → P BadArray → P BadState → P BadFrame → P ShortOut → P Empty → P Settling
+    → P (cond a BadRecord (cond b BadArray (cond c BadState (cond d BadFrame (cond e ShortOut (cond f Empty Settling))))))
+first-seven P true b c d e f p1 p2 p3 p4 p5 p10 p22 = p1
+first-seven P false true c d e f p1 p2 p3 p4 p5 p10 p22 = p2
+first-seven P false false true d e f p1 p2 p3 p4 p5 p10 p22 = p3
+first-seven P false false false true e f p1 p2 p3 p4 p5 p10 p22 = p4
+first-seven P false false false false true f p1 p2 p3 p4 p5 p10 p22 = p5
+first-seven P false false false false false true p1 p2 p3 p4 p5 p10 p22 = p10
+first-seven P false false false false false false p1 p2 p3 p4 p5 p10 p22 = p22
+
+module _ (rec : Record) (x : Chip) (f : Sent) (settling : x .state .settle ≡ 0 → ⊥) where
+  settling-refusal : (P : Answer → Type 0) → P BadRecord → P BadArray → P BadState → P BadFrame → P ShortOut → P Empty → P Settling → P (refusal rec x f)
+  unfolding refusalOf headFor
+  settling-refusal P = rw (ne-eqb (x .state .settle) 0 settling)
+      (first-seven P (not (recordOk rec)) (not (eqb (length (x .cells)) (modelOf (rec .model) .length))) (not (stateOk rec (x .state)))
+      (ltb 65541 (length (f .bytes)) || ltb 7 (f .tail)) (ltb (length (f .out)) (length (f .bytes))) (eqb (length (f .bytes)) 0))
+
+  abbrev As : Answer → Type 0
+  As a = (isDone a ≡ false) × (saysProtected a ≡ false) × (among (numberOf a) settlingNumbers ≡ true)
+
+  refuses : As (refusal rec x f)
+  refuses = settling-refusal As (refl, refl, refl) (refl, refl, refl) (refl, refl, refl) (refl, refl, refl) (refl, refl, refl) (refl, refl, refl) (refl, refl, refl)
+
+  settled : frameOf rec x f ≡ stateOnly (refusal rec x f) (x .state) (x .cells) (f .out)
+  settled = refused-frame rec x f (refusal rec x f) refl (refuses .0) ∙ rw (leaves-all (rec .model) (refusal rec x f) (x .state) (refuses .1))
+
+pub settling-answers : SettlingAnswers
+settling-answers rec x f z = rw (settled rec x f z) (refuses rec x f z .2)
+
+pub settling-stays : SettlingStays
+settling-stays rec x f z = settled rec x f z ∙ ap (λ (e : Effect). stateOnly (e .reply .answer) (x .state) (x .cells) (f .out)) (sym (settled rec x f z))
 
 -- ---- the number of driven bytes
 pub number-fixed : NumberFixed

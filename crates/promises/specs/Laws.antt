@@ -1,7 +1,7 @@
 -- Laws of the model that are worth having in their own right. Assumes nothing.
 use mathlib.Core.Path.{_≡_}
-use mathlib.Core.Bool.{false, true, _&&_}
-use mathlib.Core.List.{List, []}
+use mathlib.Core.Bool.{Bool, false, true, _&&_, _||_}
+use mathlib.Core.List.{List, [], _∷_}
 use mathlib.Core.Logic.{_⊎_}
 use Prim.Native.Nat.{ℕ, _+_, _≤_, _<_}
 use lib.Dec.{eqb}
@@ -17,7 +17,7 @@ use Rattle.states.specs.declared.State.{State}
 use Rattle.commands.specs.declared.Command.the-variants.{Program}
 use Rattle.effects.specs.declared.Reply.{Reply}
 use Rattle.time.specs.declared.After.{After}
-use Rattle.effects.specs.Effects.{Gives, latched, refusalLeaves}
+use Rattle.effects.specs.Effects.{Gives, latched, refusalLeaves, stateOnly}
 use Rattle.ladder.specs.declared.Head.{Head}
 use Rattle.chip.specs.Frames.{Chip, Sent, headOf, refusedOf, frameOf}
 use Rattle.chip.specs.Units.{Extent, unitOf, drivenBytes, foldOf}
@@ -61,6 +61,29 @@ RefusedCycle = (rec : Record) (s : State) → isDone (powerOf rec s .answer) ≡
 -- TB, once set, stays set under every call, whatever it is given
 abbrev pub TbStays : Type 0
 TbStays = (rec : Record) (c : Call) (x : Chip) → tbOf (x .state) ≡ true → tbOf (after ours rec [] c x .state) ≡ true
+
+-- a chip that settles
+abbrev pub Settles : Chip → Type 0
+Settles x = x .state .settle ≡ 0 → ⊥
+
+-- answers a frame 22, 10 or 1 to 5, and nothing else
+abbrev pub among : ℕ → List ℕ → Bool
+among n [] = false
+among n (m ∷ more) = eqb n m || among n more
+
+abbrev pub settlingNumbers : List ℕ
+settlingNumbers = 22 ∷ 10 ∷ 1 ∷ 2 ∷ 3 ∷ 4 ∷ 5 ∷ []
+
+abbrev pub SettlingAnswers : Type 0
+SettlingAnswers =
+    (rec : Record) (x : Chip) (f : Sent) → Settles x
+    → among (numberOf (frameOf rec x f .reply .answer)) settlingNumbers ≡ true
+
+-- and no frame changes anything of it, nor drives a byte: that is left to waits and power cycles
+abbrev pub SettlingStays : Type 0
+SettlingStays =
+    (rec : Record) (x : Chip) (f : Sent) → Settles x
+    → frameOf rec x f ≡ stateOnly (frameOf rec x f .reply .answer) (x .state) (x .cells) (f .out)
 
 -- a frame changes at most the unit that it addresses
 abbrev pub addressed : Record → Chip → Sent → Extent

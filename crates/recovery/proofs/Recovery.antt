@@ -1,6 +1,6 @@
 -- The listed calls win the chip back. Assumes nothing.
 use mathlib.Core.Path.{_≡_, refl, sym, ap, subst, _∙_}
-use mathlib.Core.Bool.{true, false}
+use mathlib.Core.Bool.{Bool, true, false, cond}
 use mathlib.Core.List.{List, [], _∷_}
 use Prim.Native.Nat.{ℕ, _+_, _-_, _*_, _%_, _≤_, _<_}
 use native.Mathlib.Nat.{mod-lt, zero-mod, mod-mod-of-dvd, dvd-mul-right}
@@ -23,20 +23,20 @@ use Rattle.states.specs.States.{longestOf}
 use Rattle.states.specs.declared.Record.{Record}
 use Rattle.states.specs.declared.State.{State}
 use Rattle.answers.specs.declared.Answer.the-variants.{Done}
-use Rattle.states.proofs.States.{sound, times}
+use Rattle.states.proofs.States.{sound, times, busy-le-all, settle-le-all}
 use Rattle.effects.specs.Effects.{Effect, stateOnly, changed, shown, drives, latched, dozing, working, written, eraseSector, programPage, readFrom}
 use Rattle.chip.specs.Frames.{Chip, chipOf, frameOf}
 use Rattle.time.specs.Time.{later}
 use Rattle.calls.specs.Calls.{sends, ours, effectAfter, Bench, frame}
-use Rattle.recovery.specs.Recovery.{Job, JobFits, wakeUp, enableUnlock, unlock, enableErase, erase, enableProgram, program, readBack, waitLongest, waitUnlock, waitErase, waitProgram, toUnlock, toErase, toProgram, toRead, recovery, target, base, Won, Recovers, WinsBack}
+use Rattle.recovery.specs.Recovery.{Job, JobFits, wakeUp, enableUnlock, unlock, enableErase, erase, enableProgram, program, readBack, waitLongest, waitWake, waitUnlock, waitErase, waitProgram, toUnlock, toErase, toProgram, toRead, recovery, target, base, Won, Recovers, WinsBack}
 use Rattle.calls.proofs.Steps.{Goes, ends, goes, goes-on, goes-run, goes-answers, Step, sends-to, waits-to, wake-taken, enable-taken, write-taken, erase-taken, program-taken, read-taken}
 
 -- a chip that is awake with protection off: idle, and running an operation for so long; the calls of the list leave its register v as it is
 abbrev pub calm : ℕ → State
-calm v = record { srwd = false; bp = 0; config = v; wel = false; asleep = false; busy = 0 }
+calm v = record { srwd = false; bp = 0; config = v; wel = false; asleep = false; busy = 0; settle = 0 }
 
 abbrev pub running : ℕ → ℕ → State
-running v time = record { srwd = false; bp = 0; config = v; wel = true; asleep = false; busy = time }
+running v time = record { srwd = false; bp = 0; config = v; wel = true; asleep = false; busy = time; settle = 0 }
 
 abbrev pub enabled : ℕ → State
 enabled v = running v 0
@@ -46,7 +46,8 @@ pub run-out : (v time : ℕ) → 0 < time → later (running v time) time ≡ ca
 unfolding later
 run-out v time p =
     let e : time - time ≡ 0 = omega arith in
-    rw (ne-eqb time 0 (λ z. omega arith), le-ltb time time (omega arith), e)
+    let o : 0 - time ≡ 0 = omega arith in
+    rw (ne-eqb time 0 (λ z. omega arith), le-ltb time time (omega arith), e, o)
 
 -- and a microsecond before it is still busy
 pub not-yet : (v time : ℕ) → 0 < time → later (running v time) (time - 1) .busy ≡ 1
@@ -59,12 +60,12 @@ pub enable : (rec : Record) (v : ℕ) (cells out : List ℕ) → Bench rec (chip
 unfolding latched
 enable rec v cells out c r =
     let y : Chip = chipOf (calm v) cells in
-    sends-to rec y c (frame (0x06 ∷ []) out) (stateOnly Done (enabled v) cells out) (enable-taken rec y c refl out refl r) refl
+    sends-to rec y c (frame (0x06 ∷ []) out) (stateOnly Done (enabled v) cells out) (enable-taken rec y c refl refl out refl r) refl
 
 -- 01 00 takes protection off
-pub unprotects : (rec : Record) (s : State) (time : ℕ) → s .wel ≡ true → s .asleep ≡ false → written (rec .model) s 0 (s .config) time ≡ running (s .config) time
+pub unprotects : (rec : Record) (s : State) (time : ℕ) → s .wel ≡ true → s .asleep ≡ false → s .settle ≡ 0 → written (rec .model) s 0 (s .config) time ≡ running (s .config) time
 unfolding written
-unprotects rec s time w a = rw (w, a, zero-mod (modelOf (rec .model) .«highest_bp» + 1))
+unprotects rec s time w a e = rw (w, a, e, zero-mod (modelOf (rec .model) .«highest_bp» + 1))
 
 module _ (rec : Record) (j : Job) (x : Chip) (b : Bench rec x) (f : JobFits j) where
   -- ---- up to the unlocking: whatever the valid state was, a status write runs and protection is off
@@ -78,35 +79,58 @@ module _ (rec : Record) (j : Job) (x : Chip) (b : Bench rec x) (f : JobFits j) w
   abbrev v : ℕ
   v = x .state .config
 
-  abbrev woken : State
-  woken = dozing rested false
+  -- it settles only if it was asleep
+  abbrev pub woken : State
+  woken = dozing rested false (cond (rested .asleep) (rec .wake) 0)
+
+  abbrev settled : State
+  settled = later woken (rec .wake)
 
   abbrev armed : State
-  armed = latched woken true
+  armed = latched settled true
 
   idle-after : rested .busy ≡ 0
   unfolding later
-  idle-after = omega (arith, sound rec (x .state) (b .valid) .time)
+  idle-after = omega (arith, sound rec (x .state) (b .valid) .time, busy-le-all rec)
 
-  rests : Step rec (waitLongest rec j) x (on rested)
+  settled-after : rested .settle ≡ 0
+  unfolding later
+  settled-after = omega (arith, sound rec (x .state) (b .valid) .settle, settle-le-all rec)
+
+  pub rests : Step rec (waitLongest rec j) x (on rested)
   rests = waits-to rec x b (longestOf rec) rested refl
 
-  wakes : Step rec (sends (wakeUp j)) (on rested) (on woken)
+  pub wakes : Step rec (sends (wakeUp j)) (on rested) (on woken)
   wakes =
       let out = j .outs .wakeUp in
-      sends-to rec (on rested) (rests .bench) (wakeUp j) (stateOnly Done woken (x .cells) out) (wake-taken rec (on rested) (rests .bench) idle-after out (f .rooms .wakeUp)) refl
+      sends-to rec (on rested) (rests .bench) (wakeUp j) (stateOnly Done woken (x .cells) out) (wake-taken rec (on rested) (rests .bench) idle-after settled-after out (f .rooms .wakeUp)) refl
 
-  arms : Step rec (sends (enableUnlock j)) (on woken) (on armed)
-  unfolding dozing
+  settles : Step rec (waitWake rec j) (on woken) (on settled)
+  settles = waits-to rec (on woken) (wakes .bench) (rec .wake) settled refl
+
+  still-idle : settled .busy ≡ 0
+  unfolding later dozing
+  still-idle = omega (arith, idle-after)
+
+  at-rest : settled .settle ≡ 0
+  unfolding later dozing
+  at-rest = go (rested .asleep)
+    where
+      go : (a : Bool) → cond a (rec .wake) 0 - rec .wake ≡ 0
+      go true = omega arith
+      go false = omega arith
+
+  arms : Step rec (sends (enableUnlock j)) (on settled) (on armed)
+  unfolding dozing later
   arms =
       let out = j .outs .enableUnlock in
-      sends-to rec (on woken) (wakes .bench) (enableUnlock j) (stateOnly Done armed (x .cells) out) (enable-taken rec (on woken) (wakes .bench) idle-after out refl (f .rooms .enableUnlock)) refl
+      sends-to rec (on settled) (settles .bench) (enableUnlock j) (stateOnly Done armed (x .cells) out) (enable-taken rec (on settled) (settles .bench) still-idle at-rest out refl (f .rooms .enableUnlock)) refl
 
   pub unlocks : Step rec (sends (unlock j)) (on armed) (chipOf (running v (rec .«status_write»)) (x .cells))
   unfolding dozing latched written later
   unlocks =
       let out = j .outs .unlock in
-      sends-to rec (on armed) (arms .bench) (unlock j) (stateOnly Done (running v (rec .«status_write»)) (x .cells) out) (write-taken rec (on armed) (arms .bench) idle-after out 0 refl refl (f .rooms .unlock) ∙ ap (λ (s : State). stateOnly Done s (x .cells) out) (unprotects rec armed (rec .«status_write») refl refl)) refl
+      sends-to rec (on armed) (arms .bench) (unlock j) (stateOnly Done (running v (rec .«status_write»)) (x .cells) out) (write-taken rec (on armed) (arms .bench) still-idle at-rest out 0 refl refl (f .rooms .unlock) ∙ ap (λ (s : State). stateOnly Done s (x .cells) out) (unprotects rec armed (rec .«status_write») refl refl at-rest)) refl
 
   -- ---- up to the erase
   unlocked : Step rec (waitUnlock rec j) (on (running v (rec .«status_write»))) (on (calm v))
@@ -126,7 +150,7 @@ module _ (rec : Record) (j : Job) (x : Chip) (b : Bench rec x) (f : JobFits j) w
   erases =
       let out = j .outs .erase in
       sends-to rec (on (enabled v)) (erase-enabled .bench) (erase j) (changed out (eraseSector rec (enabled v) (x .cells) to))
-      (erase-taken rec (on (enabled v)) (erase-enabled .bench) refl out (j .high) (j .middle) (j .low) refl refl refl (f .rooms .erase)) refl
+      (erase-taken rec (on (enabled v)) (erase-enabled .bench) refl refl out (j .high) (j .middle) (j .low) refl refl refl (f .rooms .erase)) refl
 
   -- ---- up to the program
   erased : Step rec (waitErase rec j) (chipOf (running v (rec .sector)) cleared) (chipOf (calm v) cleared)
@@ -143,7 +167,7 @@ module _ (rec : Record) (j : Job) (x : Chip) (b : Bench rec x) (f : JobFits j) w
   programs =
       let out = j .outs .program in
       sends-to rec (chipOf (enabled v) cleared) (program-enabled .bench) (program j) (changed out (programPage rec (enabled v) cleared to (program j .bytes)))
-      (program-taken rec (chipOf (enabled v) cleared) (program-enabled .bench) refl out (j .high) (j .middle) (j .low) (j .bytes) refl refl refl (f .some) (omega (arith, f .page)) (f .rooms .program)) refl
+      (program-taken rec (chipOf (enabled v) cleared) (program-enabled .bench) refl refl out (j .high) (j .middle) (j .low) (j .bytes) refl refl refl (f .some) (omega (arith, f .page)) (f .rooms .program)) refl
 
   -- ---- the read
   abbrev ended : Chip
@@ -157,7 +181,7 @@ module _ (rec : Record) (j : Job) (x : Chip) (b : Bench rec x) (f : JobFits j) w
 
   read : frameOf rec ended (readBack j) ≡ shows
   read =
-      read-taken rec ended (all-programmed .bench) refl (j .outs .readBack) (j .high) (j .middle) (j .low) (j .more) refl
+      read-taken rec ended (all-programmed .bench) refl refl (j .outs .readBack) (j .high) (j .middle) (j .low) (j .more) refl
       (omega (arith, f .page, f .more)) (f .rooms .readBack)
 
   reads : Step rec (sends (readBack j)) ended ended
@@ -166,7 +190,7 @@ module _ (rec : Record) (j : Job) (x : Chip) (b : Bench rec x) (f : JobFits j) w
 
   -- ---- the list
   pub to-unlock : Goes rec (toUnlock rec j) x (chipOf (running v (rec .«status_write»)) (x .cells))
-  to-unlock = goes rests (goes wakes (goes arms (goes unlocks ends)))
+  to-unlock = goes rests (goes wakes (goes settles (goes arms (goes unlocks ends))))
 
   pub to-erase : Goes rec (toErase rec j) x (chipOf (running v (rec .sector)) cleared)
   to-erase = goes-on to-unlock (goes unlocked (goes erase-enabled (goes erases ends)))

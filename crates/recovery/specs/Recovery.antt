@@ -1,4 +1,4 @@
--- The calls that win a chip back, whatever firmware did to it: 01, "The twelve calls". Assumes nothing.
+-- The calls that win a chip back, whatever firmware did to it: 01, "The twelve calls", and the wait after AB, which makes them thirteen. Assumes nothing.
 use mathlib.Core.Path.{_≡_}
 use mathlib.Core.Bool.{true}
 use mathlib.Core.List.{List, [], _∷_, _++_}
@@ -67,6 +67,9 @@ module _ (rec : Record) (j : Job) where
   abbrev pub waitLongest : Call
   waitLongest = waits (longestOf rec)
 
+  abbrev pub waitWake : Call
+  waitWake = waits (rec .wake)
+
   abbrev pub waitUnlock : Call
   waitUnlock = waits (rec .«status_write»)
 
@@ -78,7 +81,7 @@ module _ (rec : Record) (j : Job) where
 
   -- up to each operation, up to the read, and whole
   abbrev pub toUnlock : List Call
-  toUnlock = waitLongest ∷ sends (wakeUp j) ∷ sends (enableUnlock j) ∷ sends (unlock j) ∷ []
+  toUnlock = waitLongest ∷ sends (wakeUp j) ∷ waitWake ∷ sends (enableUnlock j) ∷ sends (unlock j) ∷ []
 
   abbrev pub toErase : List Call
   toErase = toUnlock ++ (waitUnlock ∷ sends (enableErase j) ∷ sends (erase j) ∷ [])

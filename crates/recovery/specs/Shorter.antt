@@ -1,21 +1,32 @@
--- No wait of the list can be a microsecond shorter: 01, "The twelve calls". Assumes nothing.
+-- No wait of the list can be a microsecond shorter: 01, "The twelve calls", which are thirteen with the wait after AB. Assumes nothing.
 use mathlib.Core.Path.{_≡_}
 use mathlib.Core.Bool.{true}
 use mathlib.Core.List.{List, [], _∷_, _++_}
+use mathlib.Core.Logic.{_⊎_}
 use Prim.Native.Nat.{ℕ, _-_}
 use lib.ListN.{length, replicate}
 use Rattle.models.specs.Models.{modelOf}
 use Rattle.states.specs.States.{recordOk, stateOk, longestOf, powerOn}
 use Rattle.states.specs.declared.Record.{Record}
 use Rattle.states.specs.declared.State.{State}
-use Rattle.answers.specs.declared.Answer.the-variants.{Done, Busy}
+use Rattle.answers.specs.declared.Answer.{Answer}
+use Rattle.answers.specs.declared.Answer.the-variants.{Done, Settling, Busy}
 use Rattle.chip.specs.Frames.{Chip, Sent, chipOf}
 use Rattle.calls.specs.Calls.{Call, sends, waits, ours, run, answers, Bench}
-use Rattle.recovery.specs.Recovery.{Job, JobFits, toUnlock, toErase, toProgram, wakeUp, enableErase, enableProgram, readBack}
+use Rattle.recovery.specs.Recovery.{Job, JobFits, waitLongest, enableUnlock, toUnlock, toErase, toProgram, wakeUp, enableErase, enableProgram, readBack}
 
--- the calls are answered 0, and the frame after them 11
+-- the calls are answered 0, and the frame after them so
+abbrev pub Then : Answer → Record → List Call → Sent → Chip → Type 0
+Then a rec cs f x = answers ours rec [] (cs ++ (sends f ∷ [])) x ≡ replicate (length cs) Done ++ (a ∷ [])
+
 abbrev pub ThenBusy : Record → List Call → Sent → Chip → Type 0
-ThenBusy rec cs f x = answers ours rec [] (cs ++ (sends f ∷ [])) x ≡ replicate (length cs) Done ++ (Busy ∷ [])
+ThenBusy = Then Busy
+
+-- with the wait after AB shortened by one, the next call is answered 22, for every chip that was asleep
+abbrev pub ShorterWake : Type 0
+ShorterWake =
+    (rec : Record) (j : Job) (x : Chip) → Bench rec x → JobFits j → x .state .asleep ≡ true
+    → Then Settling rec (waitLongest rec j ∷ sends (wakeUp j) ∷ waits (rec .wake - 1) ∷ []) (enableUnlock j) x
 
 -- with the wait after an operation shortened by one, the next call is answered 11, for every record and state
 abbrev pub ShorterUnlock : Type 0
@@ -33,9 +44,10 @@ ShorterProgram =
     (rec : Record) (j : Job) (x : Chip) → Bench rec x → JobFits j
     → ThenBusy rec (toProgram rec j ++ (waits (rec .page - 1) ∷ [])) (readBack j) x
 
--- with the first wait shortened by one, AB is answered 11 on some chip
+-- with the first wait shortened by one, AB is answered 11 or 22 on some chip
 abbrev pub TooShort : Record → Job → Chip → Type 0
-TooShort rec j x = ThenBusy rec (waits (longestOf rec - 1) ∷ []) (wakeUp j) x
+TooShort rec j x =
+    Then Busy rec (waits (longestOf rec - 1) ∷ []) (wakeUp j) x ⊎ Then Settling rec (waits (longestOf rec - 1) ∷ []) (wakeUp j) x
 
 -- there is a valid state for which it is
 abbrev pub ShorterFirst : Type 0

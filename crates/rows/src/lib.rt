@@ -55,7 +55,7 @@ fn say_note(fold: bool) {
     }
 }
 
-// The status byte, the deep power-down flag and the busy time.
+// The status byte, the deep power-down flag, the busy time and the time still to settle.
 fn say_state(st: State) {
     if st.bp < 32 {
         let byte = [states::status(st)];
@@ -64,6 +64,7 @@ fn say_state(st: State) {
     say(b"\t");
     say_number(st.asleep as u64);
     say_number(st.busy as u64);
+    say_number(st.settle as u64);
 }
 
 // Eight cells from an address on, after the last one those from 0 on; none of an empty array.

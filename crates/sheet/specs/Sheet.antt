@@ -1,4 +1,4 @@
--- The bench sheet's cases marked ●: 01, "Bench sheet", and those of model 3 (003 L285-323, L803, L505, L840-864). One table, and one statement
+-- The bench sheet's cases marked ●: 01, "Bench sheet", those of model 3 (003 L285-323, L803, L505, L840-864) and the times of sleep (Req 04). One table, and one statement
 -- over it. Assumes nothing.
 use mathlib.Core.Path.{_≡_}
 use mathlib.Core.Bool.{Bool, true, false, cond}
@@ -18,16 +18,18 @@ use Rattle.effects.specs.Effects.{Effect}
 use Rattle.chip.specs.Frames.{Sent, chipOf, sentOf, frameOf}
 use Rattle.time.specs.Time.{later, cycled}
 
--- what comes out: the answer, the first driven position, the driven bytes, the status byte and the register after, both after a wait, the register
--- after a power cycle, and the first cells of the array
+-- what comes out: the answer, the first driven position, the driven bytes, the status byte, the register and the time still to settle after, all three after
+-- a wait, the register after a power cycle, and the first cells of the array
 pub record Outcome : Type 0 where
   pub answer : ℕ
   pub from : ℕ
   pub drives : List ℕ
   pub status : ℕ
   pub config : ℕ
+  pub settle : ℕ
   pub then : ℕ
   pub then-config : ℕ
+  pub then-settle : ℕ
   pub last-config : ℕ
   pub cells : List ℕ
 
@@ -54,8 +56,10 @@ comesOut c array =
       drives = part (e .out) (e .reply .from) (e .reply .count);
       status = statusOf (e .reply .state);
       config = e .reply .state .config;
+      settle = e .reply .state .settle;
       then = statusOf (later (e .reply .state) (c .wait));
       then-config = later (e .reply .state) (c .wait) .config;
+      then-settle = later (e .reply .state) (c .wait) .settle;
       last-config = cycled (later (e .reply .state) (c .wait)) .config;
       cells = take (c .look) (e .cells);
     }
@@ -67,21 +71,25 @@ AllRight (c ∷ cs) =
     ((rest : List ℕ) → length rest ≡ modelOf (c .model) .length - length (c .front) → comesOut c (c .front ++ rest) ≡ c .wants (c .front ++ rest))
     × AllRight cs
 
--- states of the sheet: SRWD, BP and WEL of an idle chip that is awake; one with TB 1; and one in deep power-down
+-- states of the sheet: SRWD, BP and WEL of an idle chip that is awake; one with TB 1; one in deep power-down, and one awake, that still have so long to
+-- settle
 abbrev pub idle : Bool → ℕ → Bool → State
-idle srwd bp wel = record { srwd = srwd; bp = bp; config = 0; wel = wel; asleep = false; busy = 0 }
+idle srwd bp wel = record { srwd = srwd; bp = bp; config = 0; wel = wel; asleep = false; busy = 0; settle = 0 }
 
 abbrev pub bottomUp : ℕ → Bool → State
-bottomUp bp wel = record { srwd = false; bp = bp; config = 0x08; wel = wel; asleep = false; busy = 0 }
+bottomUp bp wel = record { srwd = false; bp = bp; config = 0x08; wel = wel; asleep = false; busy = 0; settle = 0 }
 
-abbrev pub sleeping : State
-sleeping = record { srwd = false; bp = 0; config = 0; wel = false; asleep = true; busy = 0 }
+abbrev pub sleeping : ℕ → State
+sleeping left = record { srwd = false; bp = 0; config = 0; wel = false; asleep = true; busy = 0; settle = left }
+
+abbrev pub waking : ℕ → State
+waking left = record { srwd = false; bp = 0; config = 0; wel = false; asleep = false; busy = 0; settle = left }
 
 -- an output of 300 bytes AA
 abbrev pub blank : List ℕ
 blank = replicate 300 0xAA
 
--- a case with no wait that looks at no cell and leaves the register, which has no more than TB, as it is
+-- a case with no wait that looks at no cell and leaves the time to settle and the register, which has no more than TB, as it is
 abbrev pub simple : ℕ → State → Sent → ℕ → ℕ → List ℕ → ℕ → Case
 simple model state sent answer from drives status =
     record {
@@ -91,12 +99,26 @@ simple model state sent answer from drives status =
       sent = sent;
       wait = 0;
       look = 0;
-      wants = λ (array : List ℕ). record { answer = answer; from = from; drives = drives; status = status; config = state .config; then = status; then-config = state .config; last-config = state .config; cells = [] };
+      wants = λ (array : List ℕ). record { answer = answer; from = from; drives = drives; status = status; config = state .config; settle = state .settle; then = status; then-config = state .config; then-settle = state .settle; last-config = state .config; cells = [] };
     }
 
--- model, state, frame: answer, first driven position, driven bytes, status after
-abbrev pub sheet : List Case
-sheet =
+-- a case that starts to settle, and then waits just for that time
+abbrev pub settles : ℕ → State → Sent → ℕ → List ℕ → ℕ → Case
+settles model state sent from drives time =
+    record {
+      model = model;
+      state = state;
+      front = [];
+      sent = sent;
+      wait = time;
+      look = 0;
+      wants = λ (array : List ℕ). record { answer = 0; from = from; drives = drives; status = 0x00; config = 0; settle = time; then = 0x00; then-config = 0; then-settle = 0; last-config = 0; cells = [] };
+    }
+
+-- a row is model, state, frame: answer, first driven position, driven bytes, status after
+-- models 1 and 2: refusals, programs, protection, the status write, a read past the array's end
+abbrev pub smallCases : List Case
+smallCases =
     -- power-on, 05 00: drives 00
     simple 1 powerOn (frame (0x05 ∷ 0x00 ∷ []) blank) 0 1 (0x00 ∷ []) 0x00
     -- 06 with tail 1: 14, WEL 0
@@ -113,7 +135,7 @@ sheet =
       sent = frame (0x02 ∷ 0 ∷ 0 ∷ 0 ∷ 0x11 ∷ replicate 256 0x22) blank;
       wait = 5000;
       look = 256;
-      wants = λ (array : List ℕ). record { answer = 0; from = 0; drives = []; status = 0x03; config = 0; then = 0x00; then-config = 0; last-config = 0; cells = replicate 256 0x22 };
+      wants = λ (array : List ℕ). record { answer = 0; from = 0; drives = []; status = 0x03; config = 0; settle = 0; then = 0x00; then-config = 0; then-settle = 0; last-config = 0; cells = replicate 256 0x22 };
     }
     -- cell F0, data 3C: 30
     ∷ record {
@@ -123,7 +145,7 @@ sheet =
       sent = frame (0x02 ∷ 0 ∷ 0 ∷ 0 ∷ 0x3C ∷ []) blank;
       wait = 5000;
       look = 1;
-      wants = λ (array : List ℕ). record { answer = 0; from = 0; drives = []; status = 0x03; config = 0; then = 0x00; then-config = 0; last-config = 0; cells = 0x30 ∷ [] };
+      wants = λ (array : List ℕ). record { answer = 0; from = 0; drives = []; status = 0x03; config = 0; settle = 0; then = 0x00; then-config = 0; then-settle = 0; last-config = 0; cells = 0x30 ∷ [] };
     }
     -- WEL 1, BP 1, 20 at 0: 17, WEL still 1
     ∷ simple 1 (idle false 1 true) (frame (0x20 ∷ 0 ∷ 0 ∷ 0 ∷ []) blank) 17 0 [] 0x06
@@ -141,11 +163,8 @@ sheet =
       sent = frame (0x01 ∷ 0xFF ∷ []) blank;
       wait = 15000;
       look = 0;
-      wants = λ (array : List ℕ). record { answer = 0; from = 0; drives = []; status = 0x8F; config = 0; then = 0x8C; then-config = 0; last-config = 0; cells = [] };
+      wants = λ (array : List ℕ). record { answer = 0; from = 0; drives = []; status = 0x8F; config = 0; settle = 0; then = 0x8C; then-config = 0; then-settle = 0; last-config = 0; cells = [] };
     }
-    -- deep power-down: 05 00 is 12; AB and four bytes drives 05
-    ∷ simple 1 sleeping (frame (0x05 ∷ 0x00 ∷ []) blank) 12 0 [] 0x00
-    ∷ simple 1 sleeping (frame (0xAB ∷ 0 ∷ 0 ∷ 0 ∷ 0 ∷ []) blank) 0 4 (0x05 ∷ []) 0x00
     -- 03 00FFFF and two bytes: the last cell, then the first
     ∷ record {
       model = 1;
@@ -154,10 +173,34 @@ sheet =
       sent = frame (0x03 ∷ 0x00 ∷ 0xFF ∷ 0xFF ∷ 0 ∷ 0 ∷ []) blank;
       wait = 0;
       look = 0;
-      wants = λ (array : List ℕ). record { answer = 0; from = 4; drives = getD array 65535 0 ∷ getD array 0 0 ∷ []; status = 0x00; config = 0; then = 0x00; then-config = 0; last-config = 0; cells = [] };
+      wants = λ (array : List ℕ). record { answer = 0; from = 4; drives = getD array 65535 0 ∷ getD array 0 0 ∷ []; status = 0x00; config = 0; settle = 0; then = 0x00; then-config = 0; then-settle = 0; last-config = 0; cells = [] };
     }
+    ∷ []
+
+-- deep power-down, and how long the way there and back takes
+abbrev pub sleepCases : List Case
+sleepCases =
+    -- deep power-down: B9 settles for 10, and 05 00 is 22; after the wait 05 00 is 12; AB and four bytes drives 05 and settles for 10, and 05 00 is 22;
+    -- after the wait it drives 00
+    settles 1 powerOn (frame (0xB9 ∷ []) blank) 0 [] 10
+    ∷ simple 1 (sleeping 1) (frame (0x05 ∷ 0x00 ∷ []) blank) 22 0 [] 0x00
+    ∷ simple 1 (sleeping 0) (frame (0x05 ∷ 0x00 ∷ []) blank) 12 0 [] 0x00
+    ∷ settles 1 (sleeping 0) (frame (0xAB ∷ 0 ∷ 0 ∷ 0 ∷ 0 ∷ []) blank) 4 (0x05 ∷ []) 10
+    ∷ simple 1 (waking 1) (frame (0x05 ∷ 0x00 ∷ []) blank) 22 0 [] 0x00
+    ∷ simple 1 (waking 0) (frame (0x05 ∷ 0x00 ∷ []) blank) 0 1 (0x00 ∷ []) 0x00
+    -- the short AB and the long one, asleep and awake: 9 and 9 on model 2, 30 and 30 on model 3, none awake (002 L803-806, 003 L2133-2134)
+    ∷ settles 2 (sleeping 0) (frame (0xAB ∷ []) blank) 0 [] 9
+    ∷ settles 2 (sleeping 0) (frame (0xAB ∷ 0 ∷ 0 ∷ 0 ∷ 0 ∷ []) blank) 4 (0x11 ∷ []) 9
+    ∷ settles 3 (sleeping 0) (frame (0xAB ∷ []) blank) 0 [] 30
+    ∷ settles 3 (sleeping 0) (frame (0xAB ∷ 0 ∷ 0 ∷ 0 ∷ 0 ∷ []) blank) 4 (0x17 ∷ []) 30
+    ∷ settles 2 (waking 0) (frame (0xAB ∷ []) blank) 0 [] 0
+    ∷ []
+
+-- what is model 3's own, and that 15 is not model 1's
+abbrev pub largeCases : List Case
+largeCases =
     -- model 3, TB 0, BP 1, WEL 1: 20 at FEFFFF is 0, at FF0000 is 17, and WEL is 0
-    ∷ simple 3 (idle false 1 true) (frame (0x20 ∷ 0xFE ∷ 0xFF ∷ 0xFF ∷ []) blank) 0 0 [] 0x07
+    simple 3 (idle false 1 true) (frame (0x20 ∷ 0xFE ∷ 0xFF ∷ 0xFF ∷ []) blank) 0 0 [] 0x07
     ∷ simple 3 (idle false 1 true) (frame (0x20 ∷ 0xFF ∷ 0x00 ∷ 0x00 ∷ []) blank) 17 0 [] 0x04
     -- TB 1, BP 1, WEL 1: 20 at 0 is 17, and WEL is 0; at 010000 it is 0
     ∷ simple 3 (bottomUp 1 true) (frame (0x20 ∷ 0x00 ∷ 0x00 ∷ 0x00 ∷ []) blank) 17 0 [] 0x04
@@ -173,9 +216,12 @@ sheet =
       sent = frame (0x01 ∷ 0xFF ∷ 0xFF ∷ []) blank;
       wait = 40000;
       look = 0;
-      wants = λ (array : List ℕ). record { answer = 0; from = 0; drives = []; status = 0xBF; config = 0xDB; then = 0xBC; then-config = 0xDB; last-config = 0x08; cells = [] };
+      wants = λ (array : List ℕ). record { answer = 0; from = 0; drives = []; status = 0xBF; config = 0xDB; settle = 0; then = 0xBC; then-config = 0xDB; then-settle = 0; last-config = 0x08; cells = [] };
     }
     ∷ []
+
+abbrev pub sheet : List Case
+sheet = smallCases ++ (sleepCases ++ largeCases)
 
 abbrev pub BenchSheet : Type 0
 BenchSheet = AllRight sheet

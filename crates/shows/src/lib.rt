@@ -2,7 +2,7 @@
 ghost use mathlib.Core.Path.{_≡_};
 ghost use Prim.Native.Nat.{_≤_, _<_};
 ghost use lib.ListN.{length};
-ghost use Rattle.effects.specs.Effects.{Shows, Room, readStatus, readConfig, readFrom, readId, wake as Effects·wake, makerBytes, readMaker};
+ghost use Rattle.effects.specs.Effects.{Shows, Room, readStatus, readConfig, readFrom, readId, wakingTime, wake as Effects·wake, makerBytes, readMaker};
 use answers::Answer;
 use effects::Reply;
 use models::Model;
@@ -59,13 +59,23 @@ pub fn read_id(rec: Record, st: State, bytes: &[u8], out: &mut [u8]) -> Reply
     effects::driven(st, 1, n as u32)
 }
 
+// What a chip that was asleep settles for after an AB of n bytes.
+fn waking_time(rec: Record, st: State, n: usize) -> u32
+    ensures { λ r. ⌜ r ≡ wakingTime rec st n ⌝ }
+{
+    if !st.asleep {
+        return 0;
+    }
+    if 4 < n { rec.sign } else { rec.wake }
+}
+
 // AB
 pub fn wake(rec: Record, st: State, bytes: &[u8], out: &mut [u8]) -> Reply
     requires { ⌜ Room 1 (now bytes) (now out) ⌝ }
     ensures { λ r. ⌜ Shows (Effects·wake rec st (now (bytes .entry)) (now (out .entry))) r (now (out .exit)) ⌝ }
 {
     let n = bytes.len();
-    let awake = effects::doze(st, false);
+    let awake = effects::doze(st, false, waking_time(rec, st, n));
     if 4 < n {
         let row = models::model_of(rec.model);
         parts::fill_part(out, 4, n, row.signature);

@@ -3,15 +3,15 @@ use mathlib.Core.Path.{_≡_, refl, _∙_}
 use mathlib.Core.Bool.{Bool, true, false, not, _&&_, _||_, cond, or-true}
 use mathlib.Core.Logic.{_⊎_, inl, inr, ⊎-elim}
 use mathlib.Core.List.{List, [], _∷_, _++_}
-use Prim.Native.Nat.{ℕ, zero, suc, _*_, _/_, _%_, _≤_, _<_}
-use native.Mathlib.Nat.{le-trans, le-of-lt, le-max-left, le-max-right, max-le, max-eq-left, max-eq-right, not-suc-le-zero, le-of-suc-le-suc}
+use Prim.Native.Nat.{ℕ, zero, suc, _*_, _/_, _%_, max, _≤_, _<_}
+use native.Mathlib.Nat.{le-refl, le-trans, le-of-lt, le-max-left, le-max-right, max-le, max-eq-left, max-eq-right, not-suc-le-zero, le-of-suc-le-suc}
 use native.Mathlib.Omega.{arith}
 use lib.Dec.{eqb, leb, lit≤}
 use lib.ListN.{length, getD}
 use borrow.Author.Tests.{eqb-true, leb-true, leb-false, not-true, eq-eqb, le-leb}
 use Rattle.models.specs.Models.{isModel, modelOf}
 use Rattle.units.proofs.Bools.{both, either}
-use Rattle.states.specs.States.{commonTimes, timesOf, inRange, all, halfOk, recordOk, largest, longestOf, configOk, stateOk}
+use Rattle.states.specs.States.{commonTimes, busyTimes, settleTimes, timesOf, inRange, all, halfOk, recordOk, largest, longestBusy, longestSettle, longestOf, configOk, stateOk}
 use Rattle.states.specs.declared.Record.{Record}
 use Rattle.states.specs.declared.State.{State}
 
@@ -19,33 +19,39 @@ use Rattle.states.specs.declared.State.{State}
 pub record Sound (rec : Record) (s : State) : Type 0 where
   pub level : s .bp ≤ modelOf (rec .model) .«highest_bp»
   pub register : configOk (modelOf (rec .model) .register) (s .config) ≡ true
-  pub time : s .busy ≤ longestOf rec
-  pub mood : (s .busy ≡ 0) ⊎ ((s .wel ≡ true) × (s .asleep ≡ false))
+  pub settle : s .settle ≤ longestSettle rec
+  pub time : s .busy ≤ longestBusy rec
+  pub mood : (s .busy ≡ 0) ⊎ (((s .wel ≡ true) × (s .asleep ≡ false)) × (s .settle ≡ 0))
 
 pub sound : (rec : Record) (s : State) → stateOk rec s ≡ true → Sound rec s
 unfolding stateOk
 sound rec s e =
     let top = modelOf (rec .model) .«highest_bp» in
     let has = modelOf (rec .model) .register in
-    let k = both ((leb (s .bp) top && configOk has (s .config)) && leb (s .busy) (longestOf rec)) (eqb (s .busy) 0 || (s .wel && not (s .asleep))) e in
-    let l = both (leb (s .bp) top && configOk has (s .config)) (leb (s .busy) (longestOf rec)) (k .0) in
+    let k = both (((leb (s .bp) top && configOk has (s .config)) && leb (s .settle) (longestSettle rec)) && leb (s .busy) (longestBusy rec)) _ e in
+    let b = both ((leb (s .bp) top && configOk has (s .config)) && leb (s .settle) (longestSettle rec)) _ (k .0) in
+    let l = both (leb (s .bp) top && configOk has (s .config)) _ (b .0) in
     let m = both (leb (s .bp) top) (configOk has (s .config)) (l .0) in
     record {
       level = leb-true (s .bp) top (m .0);
       register = m .1;
-      time = leb-true (s .busy) (longestOf rec) (l .1);
+      settle = leb-true (s .settle) (longestSettle rec) (l .1);
+      time = leb-true (s .busy) (longestBusy rec) (b .1);
       mood =
           ⊎-elim (λ p. inl (eqb-true (s .busy) 0 p))
-          (λ p. let q = both (s .wel) (not (s .asleep)) p in inr (q .0, not-true (s .asleep) (q .1)))
-          (either (eqb (s .busy) 0) (s .wel && not (s .asleep)) (k .1));
+          (λ p.
+          let q = both (s .wel && not (s .asleep)) (eqb (s .settle) 0) p in
+          let a = both (s .wel) (not (s .asleep)) (q .0) in
+          inr ((a .0, not-true (s .asleep) (a .1)), eqb-true (s .settle) 0 (q .1)))
+          (either (eqb (s .busy) 0) ((s .wel && not (s .asleep)) && eqb (s .settle) 0) (k .1));
     }
 
 -- and back
 pub valid : (rec : Record) (s : State) → Sound rec s → stateOk rec s ≡ true
 unfolding stateOk
 valid rec s p =
-    rw (le-leb (s .bp) (modelOf (rec .model) .«highest_bp») (p .level), p .register, le-leb (s .busy) (longestOf rec) (p .time))
-    (⊎-elim (λ e. rw (eq-eqb (s .busy) 0 e)) (λ e. rw (e .0, e .1) (or-true (eqb (s .busy) 0))) (p .mood))
+    rw (le-leb (s .bp) (modelOf (rec .model) .«highest_bp») (p .level), p .register, le-leb (s .settle) (longestSettle rec) (p .settle), le-leb (s .busy) (longestBusy rec) (p .time))
+    (⊎-elim (λ e. rw (eq-eqb (s .busy) 0 e)) (λ e. rw (e .0 .0, e .0 .1, eq-eqb (s .settle) 0 (e .1)) (or-true (eqb (s .busy) 0))) (p .mood))
 
 -- ---- the register
 pub config-0-ok : (r : Bool) → configOk r 0 ≡ true
@@ -69,28 +75,74 @@ le-largest [] k = omega arith
 le-largest (x ∷ xs) zero = le-max-left x (largest xs)
 le-largest (x ∷ xs) (suc k) = le-trans (le-largest xs k) (le-max-right x (largest xs))
 
-pub time-le : (r : Record) (k : ℕ) → getD (timesOf r) k 0 ≤ longestOf r
-unfolding longestOf
-time-le r k = le-largest (timesOf r) k
+time-le : (r : Record) (k : ℕ) → getD (busyTimes r) k 0 ≤ longestBusy r
+unfolding longestBusy
+time-le r k = le-largest (busyTimes r) k
+
+settle-le : (r : Record) (k : ℕ) → getD (settleTimes r) k 0 ≤ longestSettle r
+unfolding longestSettle
+settle-le r k = le-largest (settleTimes r) k
+
+-- the largest of two lists bounds that of each
+left-le : (xs ys : List ℕ) → largest xs ≤ largest (xs ++ ys)
+left-le [] ys = omega arith
+left-le (x ∷ xs) ys = max-le (le-max-left x (largest (xs ++ ys))) (le-trans (left-le xs ys) (le-max-right x (largest (xs ++ ys))))
+
+right-le : (xs ys : List ℕ) → largest ys ≤ largest (xs ++ ys)
+right-le [] ys = le-refl (largest ys)
+right-le (x ∷ xs) ys = le-trans (right-le xs ys) (le-max-right x (largest (xs ++ ys)))
+
+pub busy-le-all : (r : Record) → longestBusy r ≤ longestOf r
+unfolding longestBusy longestOf
+busy-le-all r = left-le (busyTimes r) (settleTimes r)
+
+pub settle-le-all : (r : Record) → longestSettle r ≤ longestOf r
+unfolding longestSettle longestOf
+settle-le-all r = right-le (busyTimes r) (settleTimes r)
 
 module _ (r : Record) where
-  pub status-write-le : r .«status_write» ≤ longestOf r
+  pub status-write-le : r .«status_write» ≤ longestBusy r
   status-write-le = time-le r 0
 
-  pub page-le : r .page ≤ longestOf r
+  pub page-le : r .page ≤ longestBusy r
   page-le = time-le r 1
 
-  pub sector-le : r .sector ≤ longestOf r
+  pub sector-le : r .sector ≤ longestBusy r
   sector-le = time-le r 2
 
-  pub block-le : r .block ≤ longestOf r
+  pub block-le : r .block ≤ longestBusy r
   block-le = time-le r 3
 
-  pub chip-le : r .chip ≤ longestOf r
+  pub chip-le : r .chip ≤ longestBusy r
   chip-le = time-le r 4
 
-  pub half-le : r .half ≤ longestOf r
+  pub half-le : r .half ≤ longestBusy r
   half-le = time-le r 5
+
+  pub sleep-le : r .sleep ≤ longestSettle r
+  sleep-le = settle-le r 0
+
+  pub wake-le : r .wake ≤ longestSettle r
+  wake-le = settle-le r 1
+
+  pub sign-le : r .sign ≤ longestSettle r
+  sign-le = settle-le r 2
+
+-- and it is one of the two
+largest-append : (xs ys : List ℕ) → largest (xs ++ ys) ≡ max (largest xs) (largest ys)
+largest-append [] ys = omega arith
+largest-append (x ∷ xs) ys = let e = largest-append xs ys in omega arith
+
+pub longest-either : (r : Record) → (longestOf r ≡ longestBusy r) ⊎ (longestOf r ≡ longestSettle r)
+unfolding longestOf longestBusy longestSettle
+longest-either r = go (leb (largest (settleTimes r)) (largest (busyTimes r))) refl
+  where
+    e : largest (timesOf r) ≡ max (largest (busyTimes r)) (largest (settleTimes r))
+    e = largest-append (busyTimes r) (settleTimes r)
+
+    go : (b : Bool) → leb (largest (settleTimes r)) (largest (busyTimes r)) ≡ b → (largest (timesOf r) ≡ largest (busyTimes r)) ⊎ (largest (timesOf r) ≡ largest (settleTimes r))
+    go true t = inl (e ∙ max-eq-left (leb-true (largest (settleTimes r)) (largest (busyTimes r)) t))
+    go false t = inr (e ∙ max-eq-right (le-of-lt (leb-false (largest (settleTimes r)) (largest (busyTimes r)) t)))
 
 -- the longest is one of them: what follows from each of them follows
 abbrev pub Each : (ℕ → Type 0) → List ℕ → Type 0
@@ -127,13 +179,15 @@ all-ranged (x ∷ xs) e (suc k) h = all-ranged xs (both (inRange x) (all inRange
 record Good (r : Record) : Type 0 where
   five : all inRange (commonTimes r) ≡ true
   last : halfOk (r .model) (r .half) ≡ true
+  three : all inRange (settleTimes r) ≡ true
 
 good : (r : Record) → recordOk r ≡ true → Good r
 unfolding recordOk
 good r e =
-    let a = both (isModel (r .model)) (all inRange (commonTimes r) && halfOk (r .model) (r .half)) e in
-    let b = both (all inRange (commonTimes r)) (halfOk (r .model) (r .half)) (a .1) in
-    record { five = b .0; last = b .1 }
+    let a = both (isModel (r .model)) (all inRange (commonTimes r) && (halfOk (r .model) (r .half) && all inRange (settleTimes r))) e in
+    let b = both (all inRange (commonTimes r)) _ (a .1) in
+    let c = both (halfOk (r .model) (r .half)) (all inRange (settleTimes r)) (b .1) in
+    record { five = b .0; last = c .0; three = c .1 }
 
 time-in-range : (r : Record) → recordOk r ≡ true → (k : ℕ) → k < length (commonTimes r) → InRange (getD (commonTimes r) k 0)
 time-in-range r e k h = all-ranged (commonTimes r) (good r e .five) k h
@@ -161,6 +215,9 @@ pub record Times (r : Record) : Type 0 where
   pub sector : 0 < r .sector
   pub block : 0 < r .block
   pub chip : 0 < r .chip
+  pub sleep : 0 < r .sleep
+  pub wake : 0 < r .wake
+  pub sign : 0 < r .sign
 
 pub times : (r : Record) → recordOk r ≡ true → Times r
 times r e =
@@ -170,19 +227,32 @@ times r e =
       sector = time-in-range r e 2 (lit≤ tt) .some;
       block = time-in-range r e 3 (lit≤ tt) .some;
       chip = time-in-range r e 4 (lit≤ tt) .some;
+      sleep = all-ranged (settleTimes r) (good r e .three) 0 (lit≤ tt) .some;
+      wake = all-ranged (settleTimes r) (good r e .three) 1 (lit≤ tt) .some;
+      sign = all-ranged (settleTimes r) (good r e .three) 2 (lit≤ tt) .some;
     }
 
 -- and so is the longest
-largest-short : (xs : List ℕ) (last : ℕ) → all inRange xs ≡ true → last ≤ 1000000000 → largest (xs ++ (last ∷ [])) ≤ 1000000000
-largest-short [] last e h = max-le h (omega arith)
-largest-short (x ∷ xs) last e h =
-    let b = both (inRange x) (all inRange xs) e in
-    max-le (ranged x (b .0) .short) (largest-short xs last (b .1) h)
+Short : List ℕ → Type 0
+Short [] = Unit {0}
+Short (x ∷ xs) = (x ≤ 1000000000) × Short xs
+
+largest-short : (xs : List ℕ) → Short xs → largest xs ≤ 1000000000
+unfolding Short
+largest-short [] h = omega arith
+largest-short (x ∷ xs) h = max-le (h .0) (largest-short xs (h .1))
+
+all-short : (xs ys : List ℕ) → all inRange xs ≡ true → Short ys → Short (xs ++ ys)
+unfolding Short
+all-short [] ys e h = h
+all-short (x ∷ xs) ys e h = let b = both (inRange x) (all inRange xs) e in (ranged x (b .0) .short, all-short xs ys (b .1) h)
 
 pub longest-in-range : (r : Record) → recordOk r ≡ true → InRange (longestOf r)
-unfolding longestOf
+unfolding longestOf Short
 longest-in-range r e =
     record {
-      some = le-trans (times r e .status) (status-write-le r);
-      short = largest-short (commonTimes r) (r .half) (good r e .five) (half-short r e);
+      some = le-trans (times r e .status) (le-trans (status-write-le r) (busy-le-all r));
+      short =
+          largest-short (timesOf r)
+          (all-short (commonTimes r) (r .half ∷ settleTimes r) (good r e .five) (half-short r e, all-short (settleTimes r) [] (good r e .three) tt));
     }

@@ -11,8 +11,15 @@ use Rattle.states.specs.declared.State.{State}
 abbrev pub commonTimes : Record → List ℕ
 commonTimes r = r .«status_write» ∷ r .page ∷ r .sector ∷ r .block ∷ r .chip ∷ []
 
+abbrev pub busyTimes : Record → List ℕ
+busyTimes r = commonTimes r ++ (r .half ∷ [])
+
+-- the settling times: after B9, after the short AB, after the long AB (002 L802-806, 003 L2132-2134)
+abbrev pub settleTimes : Record → List ℕ
+settleTimes r = r .sleep ∷ r .wake ∷ r .sign ∷ []
+
 abbrev pub timesOf : Record → List ℕ
-timesOf r = commonTimes r ++ (r .half ∷ [])
+timesOf r = busyTimes r ++ settleTimes r
 
 -- each is 1 to 1,000,000,000 microseconds
 unfoldable pub inRange : ℕ → Bool
@@ -27,11 +34,18 @@ unfoldable pub halfOk : ℕ → ℕ → Bool
 halfOk n us = cond (modelOf n .«half_erase») (inRange us) (eqb us 0)
 
 unfoldable pub recordOk : Record → Bool
-recordOk r = isModel (r .model) && (all inRange (commonTimes r) && halfOk (r .model) (r .half))
+recordOk r = isModel (r .model) && (all inRange (commonTimes r) && (halfOk (r .model) (r .half) && all inRange (settleTimes r)))
 
 abbrev pub largest : List ℕ → ℕ
 largest [] = 0
 largest (us ∷ more) = max us (largest more)
+
+-- the longest busy time, the longest settling time, and the longest of all
+unfoldable pub longestBusy : Record → ℕ
+longestBusy r = largest (busyTimes r)
+
+unfoldable pub longestSettle : Record → ℕ
+longestSettle r = largest (settleTimes r)
 
 unfoldable pub longestOf : Record → ℕ
 longestOf r = largest (timesOf r)
@@ -45,11 +59,13 @@ configOk register config = cond register (eqb (config / 32 % 2) 0 && eqb (config
 unfoldable pub tbOf : State → Bool
 tbOf s = eqb (s .config / 8 % 2) 1
 
--- BP and the register are in their range, the busy time is at most the longest, and a busy chip has WEL set and is not in deep power-down
+-- BP and the register are in their range, the busy time is at most the longest of those, and what is left to settle at most the longest of these; a busy chip has WEL set, is not in
+-- deep power-down, and does not settle
 unfoldable pub stateOk : Record → State → Bool
 stateOk r s =
-    ((leb (s .bp) (modelOf (r .model) .«highest_bp») && configOk (modelOf (r .model) .register) (s .config)) && leb (s .busy) (longestOf r))
-    && (eqb (s .busy) 0 || (s .wel && not (s .asleep)))
+    (((leb (s .bp) (modelOf (r .model) .«highest_bp») && configOk (modelOf (r .model) .register) (s .config)) && leb (s .settle) (longestSettle r))
+    && leb (s .busy) (longestBusy r))
+    && (eqb (s .busy) 0 || ((s .wel && not (s .asleep)) && eqb (s .settle) 0))
 
 -- 128·SRWD + 4·BP + 2·WEL + WIP, and WIP is 1 exactly when busy time is left (000 L250-253, 004 M289, 003 L813-816)
 abbrev pub flag : Bool → ℕ → ℕ
@@ -61,15 +77,16 @@ statusOf s = flag (s .srwd) 128 + (4 * s .bp + (flag (s .wel) 2 + flag (not (eqb
 
 -- power-on from the factory (000 L548)
 abbrev pub powerOn : State
-powerOn = record { srwd = false; bp = 0; config = 0; wel = false; asleep = false; busy = 0 }
+powerOn = record { srwd = false; bp = 0; config = 0; wel = false; asleep = false; busy = 0; settle = 0 }
 
--- the sheets' maxima: 000 L521-525; 002 L807-812; 003 L2135-2141
+-- the sheets' maxima: 000 L521-525; 002 L807-812; 003 L2135-2141. The settling times of model 1 are house, the others the sheets' in whole
+-- microseconds, rounded up (002 L802-806, 003 L2132-2134)
 abbrev pub benchKH25L512 : Record
-benchKH25L512 = record { model = 1; «status_write» = 15000; page = 5000; sector = 120000; block = 2000000; chip = 2000000; half = 0 }
+benchKH25L512 = record { model = 1; «status_write» = 15000; page = 5000; sector = 120000; block = 2000000; chip = 2000000; half = 0; sleep = 10; wake = 10; sign = 10 }
 
 abbrev pub benchKH25L2006E : Record
-benchKH25L2006E = record { model = 2; «status_write» = 40000; page = 3000; sector = 200000; block = 2000000; chip = 3800000; half = 0 }
+benchKH25L2006E = record { model = 2; «status_write» = 40000; page = 3000; sector = 200000; block = 2000000; chip = 3800000; half = 0; sleep = 10; wake = 9; sign = 9 }
 
 abbrev pub benchKH25L12845G : Record
 benchKH25L12845G =
-    record { model = 3; «status_write» = 40000; page = 750; sector = 400000; block = 2000000; chip = 100000000; half = 1000000 }
+    record { model = 3; «status_write» = 40000; page = 750; sector = 400000; block = 2000000; chip = 100000000; half = 1000000; sleep = 10; wake = 30; sign = 30 }

@@ -1,9 +1,11 @@
 // Records, states and the status byte.
 ghost use mathlib.Core.Path.{_≡_};
 ghost use Prim.Native.Nat.{max, _<_, _≤_};
-ghost use Rattle.states.specs.States.{inRange, halfOk, recordOk, longestOf, configOk, stateOk, tbOf, flag as States·flag, statusOf, powerOn, benchKH25L512, benchKH25L2006E, benchKH25L12845G};
+ghost use lib.Dec.{leb};
+ghost use Rattle.states.specs.States.{inRange, halfOk, recordOk, longestBusy, longestSettle, configOk, stateOk, tbOf, flag as States·flag, statusOf, powerOn, benchKH25L512, benchKH25L2006E, benchKH25L12845G};
 
-// The model's number, and the busy times in microseconds; that of a half block's erase is 0 on a model that has none.
+// The model's number, and its times in microseconds: busy after each operation (that of a half block's erase is 0 on a model that has none), and
+// settling after B9, the short AB and the long AB.
 pub struct Record {
     pub model: u32,
     pub status_write: u32,
@@ -12,9 +14,13 @@ pub struct Record {
     pub block: u32,
     pub chip: u32,
     pub half: u32,
+    pub sleep: u32,
+    pub wake: u32,
+    pub sign: u32,
 }
 
-// SRWD, BP, the write enable latch, the deep power-down flag, the microseconds still busy, and the configuration register.
+// SRWD, BP, the write enable latch, the deep power-down flag, the microseconds still busy, the configuration register, and the
+// microseconds still to settle.
 pub struct State {
     pub srwd: bool,
     pub bp: u8,
@@ -22,6 +28,7 @@ pub struct State {
     pub asleep: bool,
     pub busy: u32,
     pub config: u8,
+    pub settle: u32,
 }
 
 fn in_range(us: u32) -> bool
@@ -49,7 +56,8 @@ pub fn record_ok(rec: Record) -> bool
         & ((in_range(rec.status_write)
             & (in_range(rec.page)
                 & (in_range(rec.sector) & (in_range(rec.block) & in_range(rec.chip)))))
-            & half_ok(rec.model, rec.half))
+            & (half_ok(rec.model, rec.half)
+                & (in_range(rec.sleep) & (in_range(rec.wake) & in_range(rec.sign)))))
 }
 
 fn larger(a: u32, b: u32) -> u32
@@ -59,8 +67,8 @@ fn larger(a: u32, b: u32) -> u32
 }
 
 // The longest of the busy times.
-pub fn longest(rec: Record) -> u32
-    ensures { λ r. ⌜ r ≡ longestOf rec ⌝ }
+fn longest_busy(rec: Record) -> u32
+    ensures { λ r. ⌜ r ≡ longestBusy rec ⌝ }
 {
     larger(
         rec.status_write,
@@ -69,6 +77,13 @@ pub fn longest(rec: Record) -> u32
             larger(rec.sector, larger(rec.block, larger(rec.chip, rec.half))),
         ),
     )
+}
+
+// The longest of the settling times.
+fn longest_settle(rec: Record) -> u32
+    ensures { λ r. ⌜ r ≡ longestSettle rec ⌝ }
+{
+    larger(rec.sleep, larger(rec.wake, rec.sign))
 }
 
 // The register's reserved bits, 5 and 2, are 0; where there is no register all are.
@@ -88,16 +103,28 @@ pub fn tb(st: State) -> bool
     st.config / 8 % 2 == 1
 }
 
+// What is left to settle is at most the longest of the settling times.
+fn settle_ok(rec: Record, us: u32) -> bool
+    ensures { λ r. ⌜ r ≡ leb us (longestSettle rec) ⌝ }
+{
+    if us == 0 {
+        return true;
+    }
+    us <= longest_settle(rec)
+}
+
 // Whether the state is valid under the record.
 pub fn state_ok(rec: Record, st: State) -> bool
     ensures { λ r. ⌜ r ≡ stateOk rec st ⌝ }
 {
     let row = models::model_of(rec.model);
     let level = (st.bp <= row.highest_bp) & config_ok(row.register, st.config);
+    let settled = settle_ok(rec, st.settle);
     if st.busy == 0 {
-        return level;
+        return level & settled;
     }
-    (level & (st.busy <= longest(rec))) & (st.wel & !st.asleep)
+    ((level & settled) & (st.busy <= longest_busy(rec)))
+        & ((st.wel & !st.asleep) & (st.settle == 0))
 }
 
 // The value where the flag is on, and 0 where it is off.
@@ -126,6 +153,7 @@ pub fn power_on() -> State
         wel: false,
         asleep: false,
         busy: 0,
+        settle: 0,
     }
 }
 
@@ -141,6 +169,9 @@ pub fn bench_kh25l512() -> Record
         block: 2000000,
         chip: 2000000,
         half: 0,
+        sleep: 10,
+        wake: 10,
+        sign: 10,
     }
 }
 
@@ -156,6 +187,9 @@ pub fn bench_kh25l2006e() -> Record
         block: 2000000,
         chip: 3800000,
         half: 0,
+        sleep: 10,
+        wake: 9,
+        sign: 9,
     }
 }
 
@@ -171,5 +205,8 @@ pub fn bench_kh25l12845g() -> Record
         block: 2000000,
         chip: 100000000,
         half: 1000000,
+        sleep: 10,
+        wake: 30,
+        sign: 30,
     }
 }

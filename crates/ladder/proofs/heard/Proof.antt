@@ -12,35 +12,36 @@ returns : tie.Need-returns
 unfolding heardOf
 returns c = rw (eq-eqb _ _ (c .if1 .taken))
 
+-- a frame with a byte in it, on a chip that has settled
 returns-2 : tie.Need-returns-2
 unfolding heardOf
-returns-2 c = rw (ne-eqb _ _ (c .before .before .before .if1 .left), c .if2 .taken)
+returns-2 c = rw (ne-eqb _ _ (c .before .before .if1 .left), ne-eqb _ _ (c .if2 .taken))
 
 returns-3 : tie.Need-returns-3
 unfolding heardOf
-returns-3 c = let l = c .before .before .before in rw (ne-eqb _ _ (l .before .before .before .if1 .left), l .if2 .left, c .if3 .taken)
-
--- the command is in the list
-known : (c : tie.Else4) → c .before .before .before .before .before .before .before .before .before .args .t .known ≡ true
-known c = not-false _ (c .if4 .left)
+returns-3 c =
+    let k = c .before .before .before in
+    rw (ne-eqb _ _ (k .before .before .if1 .left), eq-eqb _ _ (k .if2 .left), c .if3 .taken)
 
 returns-4 : tie.Need-returns-4
 unfolding heardOf
 returns-4 c =
-    let m = c .before .before in
-    let l = m .before .before .before in
-    let e : c .before .before .before .before .before .before .before .before .before .args .t .known ≡ false = not-true _ (c .if4 .taken) in
-    rw (ne-eqb _ _ (l .before .before .before .if1 .left), l .if2 .left, m .if3 .left, e)
+    let l = c .before .before .before in
+    let k = l .before .before .before in
+    rw (ne-eqb _ _ (k .before .before .if1 .left), eq-eqb _ _ (k .if2 .left), l .if3 .left, c .if4 .taken)
+
+-- the command is in the list
+known : (c : tie.Else5) → c .before .before .before .before .before .before .before .before .before .before .before .args .t .known ≡ true
+known c = not-false _ (c .if5 .left)
 
 returns-5 : tie.Need-returns-5
 unfolding heardOf
 returns-5 c =
-    let n = c .before .before in
-    let m = n .before .before in
+    let m = c .before .before in
     let l = m .before .before .before in
-    let a = n .before .before .before .before .before .before .before .before .before .args in
-    let e : lengthOk (a .t) (a .head .count) (a .head .tail) ≡ false = sym (c .before .length-ok .ensures) ∙ not-true _ (c .if5 .taken) in
-    rw (e, ne-eqb _ _ (l .before .before .before .if1 .left), l .if2 .left, m .if3 .left, known n)
+    let k = l .before .before .before in
+    let e : k .before .before .before .args .t .known ≡ false = not-true _ (c .if5 .taken) in
+    rw (ne-eqb _ _ (k .before .before .if1 .left), eq-eqb _ _ (k .if2 .left), l .if3 .left, m .if4 .left, e)
 
 returns-6 : tie.Need-returns-6
 unfolding heardOf
@@ -48,9 +49,21 @@ returns-6 c =
     let n = c .before .before in
     let m = n .before .before in
     let l = m .before .before .before in
-    let a = n .before .before .before .before .before .before .before .before .before .args in
-    let e : lengthOk (a .t) (a .head .count) (a .head .tail) ≡ true = sym (c .before .length-ok .ensures) ∙ not-false _ (c .if5 .left) in
-    rw (e, ne-eqb _ _ (l .before .before .before .if1 .left), l .if2 .left, m .if3 .left, known n)
+    let k = l .before .before .before in
+    let a = k .before .before .before .args in
+    let e : lengthOk (a .t) (a .head .count) (a .head .tail) ≡ false = sym (c .before .length-ok .ensures) ∙ not-true _ (c .if6 .taken) in
+    rw (e, ne-eqb _ _ (k .before .before .if1 .left), eq-eqb _ _ (k .if2 .left), l .if3 .left, m .if4 .left, known n)
+
+returns-7 : tie.Need-returns-7
+unfolding heardOf
+returns-7 c =
+    let n = c .before .before in
+    let m = n .before .before in
+    let l = m .before .before .before in
+    let k = l .before .before .before in
+    let a = k .before .before .before .args in
+    let e : lengthOk (a .t) (a .head .count) (a .head .tail) ≡ true = sym (c .before .length-ok .ensures) ∙ not-false _ (c .if6 .left) in
+    rw (e, ne-eqb _ _ (k .before .before .if1 .left), eq-eqb _ _ (k .if2 .left), l .if3 .left, m .if4 .left, known n)
 
 pub heard-spec : {M : Type 1} → statement M
-heard-spec = tie.close (tie.spec returns returns-2 returns-3 returns-4 (λ c κs. search needs) returns-5 returns-6)
+heard-spec = tie.close (tie.spec returns returns-2 returns-3 returns-4 returns-5 (λ c κs. search needs) returns-6 returns-7)

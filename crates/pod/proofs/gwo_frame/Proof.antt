@@ -14,7 +14,7 @@ use Rattle.pod.proofs.gwo_frame.Tie as tie
 returns : tie.Need-returns
 returns c =
     let given = c .before .before .before .before .before .before .before .args in
-    bad-record (recordOf (given .model) (given .status-us) (given .page-us) (given .sector-us) (given .block-us) (given .chip-us) (given .half-us)) (given .state .now) (given .array .now) (sentBy (given .frame .now) (given .tail) (given .wp) (given .out .now)) (c .before .before .record-of .ensures) (sym (c .before .record-ok .ensures) ∙ not-true _ (c .if1 .taken))
+    bad-record (recordOf (given .model) (given .status-us) (given .page-us) (given .sector-us) (given .block-us) (given .chip-us) (given .half-us) (given .sleep-us) (given .wake-us) (given .sign-us)) (given .state .now) (given .array .now) (sentBy (given .frame .now) (given .tail) (given .wp) (given .out .now)) (c .before .before .record-of .ensures) (sym (c .before .record-ok .ensures) ∙ not-true _ (c .if1 .taken))
 
 returns-2 : tie.Need-returns-2
 returns-2 c =
@@ -22,7 +22,7 @@ returns-2 c =
     let k = m .before .before in
     let e = k .before .before .before .before in
     let given = e .before .before .before .before .before .before .before .args in
-    bad-bytes (recordOf (given .model) (given .status-us) (given .page-us) (given .sector-us) (given .block-us) (given .chip-us) (given .half-us)) (given .state .now) (given .array .now) (sentBy (given .frame .now) (given .tail) (given .wp) (given .out .now)) true (e .before .before .record-of .ensures) (sym (e .before .record-ok .ensures) ∙ not-false _ (e .if1 .left))
+    bad-bytes (recordOf (given .model) (given .status-us) (given .page-us) (given .sector-us) (given .block-us) (given .chip-us) (given .half-us) (given .sleep-us) (given .wake-us) (given .sign-us)) (given .state .now) (given .array .now) (sentBy (given .frame .now) (given .tail) (given .wp) (given .out .now)) true (e .before .before .record-of .ensures) (sym (e .before .record-ok .ensures) ∙ not-false _ (e .if1 .left))
     (sym (k .is-packed .ensures) ∙ not-true _ (m .before .if2 .taken)) (eq-eqb _ _ (c .if3 .taken ∙ ap (λ (r : Model). r .length) (m .model-of .ensures)))
 
 returns-3 : tie.Need-returns-3
@@ -31,7 +31,7 @@ returns-3 c =
     let k = m .before .before in
     let e = k .before .before .before .before in
     let given = e .before .before .before .before .before .before .before .args in
-    bad-bytes (recordOf (given .model) (given .status-us) (given .page-us) (given .sector-us) (given .block-us) (given .chip-us) (given .half-us)) (given .state .now) (given .array .now) (sentBy (given .frame .now) (given .tail) (given .wp) (given .out .now)) false (e .before .before .record-of .ensures) (sym (e .before .record-ok .ensures) ∙ not-false _ (e .if1 .left))
+    bad-bytes (recordOf (given .model) (given .status-us) (given .page-us) (given .sector-us) (given .block-us) (given .chip-us) (given .half-us) (given .sleep-us) (given .wake-us) (given .sign-us)) (given .state .now) (given .array .now) (sentBy (given .frame .now) (given .tail) (given .wp) (given .out .now)) false (e .before .before .record-of .ensures) (sym (e .before .record-ok .ensures) ∙ not-false _ (e .if1 .left))
     (sym (k .is-packed .ensures) ∙ not-true _ (m .before .if2 .taken)) (ne-eqb _ _ (λ z. c .if3 .left (z ∙ sym (ap (λ (r : Model). r .length) (m .model-of .ensures)))))
 
 -- the bytes are a packing
@@ -49,14 +49,14 @@ keep-requires c κs =
     let u = c .before .before .before .before .before .before .before .before .before .before in
     let e = u .before .before in
     let given = e .before .before .before .before .before .before .before .before .before .before .before .before .args in
-    fits-frame (recordOf (given .model) (given .status-us) (given .page-us) (given .sector-us) (given .block-us) (given .chip-us) (given .half-us)) (given .state .now) (given .array .now) (sentBy (given .frame .now) (given .tail) (given .wp) (given .out .now)) (e .before .before .before .before .before .before .before .record-of .ensures) (u .unpack .ensures ∙ sym (unpack-read _ (packed e))) (c .before .before .before .before .before .before .before .frame .ensures)
+    fits-frame (recordOf (given .model) (given .status-us) (given .page-us) (given .sector-us) (given .block-us) (given .chip-us) (given .half-us) (given .sleep-us) (given .wake-us) (given .sign-us)) (given .state .now) (given .array .now) (sentBy (given .frame .now) (given .tail) (given .wp) (given .out .now)) (e .before .before .before .before .before .before .before .record-of .ensures) (u .unpack .ensures ∙ sym (unpack-read _ (packed e))) (c .before .before .before .before .before .before .before .frame .ensures)
 
 returns-4 : tie.Need-returns-4
 returns-4 c =
     let u = c .before .before .before .before .before .before .before .before .before .before .before .before .before in
     let e = u .before .before in
     let given = e .before .before .before .before .before .before .before .before .before .before .before .before .args in
-    leaves (recordOf (given .model) (given .status-us) (given .page-us) (given .sector-us) (given .block-us) (given .chip-us) (given .half-us)) (given .state .now) (given .array .now) (sentBy (given .frame .now) (given .tail) (given .wp) (given .out .now)) (e .before .before .before .before .before .before .before .record-of .ensures) (u .unpack .ensures ∙ sym (unpack-read _ (packed e))) (c .before .before .before .before .before .before .before .before .before .before .frame .ensures)
+    leaves (recordOf (given .model) (given .status-us) (given .page-us) (given .sector-us) (given .block-us) (given .chip-us) (given .half-us) (given .sleep-us) (given .wake-us) (given .sign-us)) (given .state .now) (given .array .now) (sentBy (given .frame .now) (given .tail) (given .wp) (given .out .now)) (e .before .before .before .before .before .before .before .record-of .ensures) (u .unpack .ensures ∙ sym (unpack-read _ (packed e))) (c .before .before .before .before .before .before .before .before .before .before .frame .ensures)
     (c .before .before .keep .ensures .0) (c .before .before .keep .ensures .1)
 
 pub gwo-frame-spec : {M : Type 1} → statement M
