@@ -62,7 +62,7 @@ stand_in() {
 
 link() {
     "$host" cc "$obj"/rules*.o "$obj"/jig*.o "$obj/rig.o" "$archive" "$obj/model.o" -o "$bin/rules"
-    for program in compare twelve; do
+    for program in compare thirteen; do
         "$host" cc "$obj/$program"*.o "$obj/rig.o" "$archive" "$obj/model.o" -o "$bin/$program"
     done
     "$host" cc "$obj"/stack*.o "$obj/empty.o" "$obj/rig.o" "$archive" "$obj/model.o" -o "$bin/stack"
@@ -134,7 +134,7 @@ check example example
 check readme readme
 check rules "$host" run "$bin/rules"
 check compare "$host" run "$bin/compare" "$calls" ${GWO_SEED:-}
-check twelve "$host" run "$bin/twelve"
+check thirteen "$host" run "$bin/thirteen"
 if [ "$archive" = "$obj/stand_in.o" ]; then
     echo "NOT RUN stack: its limits are the archive's; a faulty pod tries it below"
 else

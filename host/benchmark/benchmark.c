@@ -35,7 +35,7 @@ struct row {
     const char *name;
     uint32_t model;
     unsigned status, asleep;
-    uint32_t busy_us;       /* the state: status byte, flag and time */
+    uint32_t left_us;       /* the state: status byte, flag and time left, busy with WIP 1, settling with WIP 0 */
     enum kind kind;
     uint8_t head[5];        /* the frame's first bytes; the others are 5A */
     size_t frame_len;
@@ -69,6 +69,7 @@ static const struct row rows[] = {
     {"refused 3, state", 1, 0x10, 0, 0, FRAME, {0x06}, 1, 0, 1, 3, NONE, 0, "-", SHORT},
     {"refused 4, tail", 1, 0, 0, 0, FRAME, {0x06}, 1, 8, 1, 4, NONE, 0, "-", SHORT},
     {"refused 10, empty", 1, 0, 0, 0, FRAME, {0}, 0, 0, 1, 10, NONE, 0, "-", SHORT},
+    {"refused 22, settling", 1, 0, 0, 5, FRAME, {0x03}, 4 + 16, 0, 1, 22, NONE, 0, "-", SHORT},
     {"refused 11, busy", 1, 3, 0, 5000, FRAME, {0x03}, 4 + 16, 0, 1, 11, NONE, 0, "-", SHORT},
     {"refused 12, asleep", 1, 0, 1, 0, FRAME, {0x03}, 4 + 16, 0, 1, 12, NONE, 0, "-", SHORT},
     {"refused 13, unknown", 1, 0, 0, 0, FRAME, {0x5A}, 4 + 16, 0, 1, 13, NONE, 0, "-", SHORT},
@@ -115,6 +116,7 @@ static uint32_t from, count, fold;
 /* A number that is no model has the first one's record and array. */
 static void prepare(const struct row *r)
 {
+    uint8_t *left = state + (r->status % 2 ? 4 : 8);
     size_t i;
 
     record = r->model == 3 ? gwo_bench_model_3 : r->model == 2 ? gwo_bench_model_2 : gwo_bench_model_1;
@@ -123,8 +125,8 @@ static void prepare(const struct row *r)
     memset(state, 0, sizeof state);
     state[0] = (uint8_t)r->status;
     state[1] = (uint8_t)r->asleep;
-    state[4] = (uint8_t)r->busy_us;
-    state[5] = (uint8_t)(r->busy_us >> 8);
+    left[0] = (uint8_t)r->left_us;
+    left[1] = (uint8_t)(r->left_us >> 8);
     for (i = 0; i < GWO_MODEL_2_LENGTH; i++) /* all that the rows read or write, but for model 3's chip erase */
         array[i] = (uint8_t)(i * 7);
     memset(frame, 0x5A, sizeof frame);
@@ -141,8 +143,8 @@ static STRETCH uint32_t count_frame(frame_call *f, const struct row *r, int stre
     (void)stretch, (void)name;
     MARK_START(stretch);
     answer = f(record.model, record.status_us, record.page_us, record.sector_us, record.block_us, record.chip_us,
-               record.half_us, state, sizeof state, array, array_len, frame, r->frame_len, r->tail, r->wp,
-               out, r->frame_len, &from, &count, &fold);
+               record.half_us, record.sleep_us, record.wake_us, record.sign_us, state, sizeof state, array, array_len,
+               frame, r->frame_len, r->tail, r->wp, out, r->frame_len, &from, &count, &fold);
     MARK_END(stretch, name);
     return answer;
 }
@@ -154,7 +156,7 @@ static STRETCH uint32_t count_wait(wait_call *f, int stretch, const char *name)
     (void)stretch, (void)name;
     MARK_START(stretch);
     answer = f(record.model, record.status_us, record.page_us, record.sector_us, record.block_us, record.chip_us,
-               record.half_us, state, sizeof state, 4999);
+               record.half_us, record.sleep_us, record.wake_us, record.sign_us, state, sizeof state, 4999);
     MARK_END(stretch, name);
     return answer;
 }
@@ -166,7 +168,7 @@ static STRETCH uint32_t count_power_cycle(power_cycle_call *f, int stretch, cons
     (void)stretch, (void)name;
     MARK_START(stretch);
     answer = f(record.model, record.status_us, record.page_us, record.sector_us, record.block_us, record.chip_us,
-               record.half_us, state, sizeof state);
+               record.half_us, record.sleep_us, record.wake_us, record.sign_us, state, sizeof state);
     MARK_END(stretch, name);
     return answer;
 }

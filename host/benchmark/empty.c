@@ -4,31 +4,35 @@
 
 uint32_t empty_frame(uint32_t model, uint32_t status_us, uint32_t page_us, uint32_t sector_us,
                      uint32_t block_us, uint32_t chip_us, uint32_t half_us,
+                     uint32_t sleep_us, uint32_t wake_us, uint32_t sign_us,
                      uint8_t *state, size_t state_len, uint8_t *array, size_t array_len,
                      const uint8_t *frame, size_t frame_len, uint32_t tail, uint32_t wp,
                      uint8_t *out, size_t out_len, uint32_t *from, uint32_t *count, uint32_t *fold)
 {
     (void)model, (void)status_us, (void)page_us, (void)sector_us, (void)block_us, (void)chip_us, (void)half_us;
-    (void)state, (void)state_len, (void)array, (void)array_len, (void)frame, (void)frame_len;
-    (void)tail, (void)wp, (void)out, (void)out_len, (void)from, (void)count, (void)fold;
+    (void)sleep_us, (void)wake_us, (void)sign_us, (void)state, (void)state_len, (void)array, (void)array_len;
+    (void)frame, (void)frame_len, (void)tail, (void)wp, (void)out, (void)out_len;
+    (void)from, (void)count, (void)fold;
     return 0;
 }
 
 uint32_t empty_wait(uint32_t model, uint32_t status_us, uint32_t page_us, uint32_t sector_us,
                     uint32_t block_us, uint32_t chip_us, uint32_t half_us,
+                    uint32_t sleep_us, uint32_t wake_us, uint32_t sign_us,
                     uint8_t *state, size_t state_len, uint32_t us)
 {
     (void)model, (void)status_us, (void)page_us, (void)sector_us, (void)block_us, (void)chip_us, (void)half_us;
-    (void)state, (void)state_len, (void)us;
+    (void)sleep_us, (void)wake_us, (void)sign_us, (void)state, (void)state_len, (void)us;
     return 0;
 }
 
 uint32_t empty_power_cycle(uint32_t model, uint32_t status_us, uint32_t page_us, uint32_t sector_us,
                            uint32_t block_us, uint32_t chip_us, uint32_t half_us,
+                           uint32_t sleep_us, uint32_t wake_us, uint32_t sign_us,
                            uint8_t *state, size_t state_len)
 {
     (void)model, (void)status_us, (void)page_us, (void)sector_us, (void)block_us, (void)chip_us, (void)half_us;
-    (void)state, (void)state_len;
+    (void)sleep_us, (void)wake_us, (void)sign_us, (void)state, (void)state_len;
     return 0;
 }
 

@@ -27,10 +27,10 @@ struct pod {
     answers *frame, *wait, *power_cycle;
 };
 
-/* 1 to 11; those of model 3, from 12 on; and those of the fold, from 21 on. */
-enum { MISTAKES = 11, MISTAKES_OF_MODEL_3 = 9, MISTAKES_OF_FOLD = 5 };
+/* 1 to 11; those of model 3, from 12 on; those of the fold, from 21 on; and those of sleep, from 26 on. */
+enum { MISTAKES = 11, MISTAKES_OF_MODEL_3 = 9, MISTAKES_OF_FOLD = 5, MISTAKES_OF_SLEEP = 5 };
 extern const struct pod mistakes[MISTAKES], mistakes_of_model_3[MISTAKES_OF_MODEL_3],
-    mistakes_of_fold[MISTAKES_OF_FOLD];
+    mistakes_of_fold[MISTAKES_OF_FOLD], mistakes_of_sleep[MISTAKES_OF_SLEEP];
 
 /* Without a fault. */
 answers right_frame, right_wait, right_power_cycle;

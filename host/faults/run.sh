@@ -1,6 +1,6 @@
 #!/bin/sh
-# Faulty pods (mistakes.c, mistakes_of_model_3.c, mistakes_of_fold.c) under the host tests: each must be caught by every
-# test that is named for it, by its exit status and a message; the same pod without a fault must pass them all.
+# Faulty pods (mistakes.c, mistakes_of_*.c) under the host tests: each must be caught by every test that is named for it,
+# by its exit status and a message; the same pod without a fault must pass them all.
 #   host/faults/run.sh
 # GWO_BUILD is where host/test.sh has left the tests' object files.
 set -eu
@@ -23,7 +23,7 @@ for source in "$here"/*.c; do
 done
 pod="$out/*.o $obj/model.o"
 "$host" cc "$obj"/rules*.o "$obj"/jig*.o "$obj"/rig.o $pod -o "$out/rules"
-for program in compare twelve; do
+for program in compare thirteen; do
     "$host" cc "$obj/$program"*.o "$obj"/rig.o $pod -o "$out/$program"
 done
 "$host" cc "$obj"/stack*.o "$obj"/empty.o "$obj"/rig.o $pod -o "$out/stack"
@@ -39,7 +39,7 @@ passes() {
     rules) "$host" run "$out/rules" first >"$out/log" 2>&1 ;;
     rules:*) "$host" run "$out/rules" first "${2#rules:}" >"$out/log" 2>&1 ;;
     compare) "$host" run "$out/compare" 100000 >"$out/log" 2>&1 ;;
-    twelve) "$host" run "$out/twelve" first >"$out/log" 2>&1 ;;
+    thirteen) "$host" run "$out/thirteen" first >"$out/log" 2>&1 ;;
     stack) "$host" run "$out/stack" $own >"$out/log" 2>&1 ;;
     example)
         "$host" run "$out/example" >"$out/log" 2>&1 || return 1
@@ -78,7 +78,7 @@ fault() {
     fi
 }
 
-for test in rules compare twelve example stack; do
+for test in rules compare thirteen example stack; do
     if passes 0 $test; then
         say passed "no fault: $test passes"
     else
@@ -86,16 +86,16 @@ for test in rules compare twelve example stack; do
         head -n 12 "$out/log"
     fi
 done
-fault 1 "a pod that refuses all" rules compare twelve example
-fault 2 "one that answers the same byte each time" rules compare twelve example
-fault 3 "one that changes no cell" rules compare twelve example
-fault 4 "one that works on the first frame and then only says 0" rules compare twelve example
+fault 1 "a pod that refuses all" rules compare thirteen example
+fault 2 "one that answers the same byte each time" rules compare thirteen example
+fault 3 "one that changes no cell" rules compare thirteen example
+fault 4 "one that works on the first frame and then only says 0" rules compare thirteen example
 fault 5 "a long program runs into the next page" rules:programming compare example
 fault 6 "the first 256 bytes kept instead of the last" rules:programming compare
 fault 7 "data stored in place of AND" rules:programming compare example
-fault 8 "WEL cleared when the operation starts" rules:erasing compare twelve
+fault 8 "WEL cleared when the operation starts" rules:erasing compare thirteen
 fault 9 "WP# low alone blocks 01" "rules:refused by command" compare
-fault 10 "03 answered while busy" "rules:refused by command" compare twelve
+fault 10 "03 answered while busy" "rules:refused by command" compare thirteen
 fault 11 "a byte past the frame is looked at" rules compare
 fault 12 "TB cleared by a status write" "rules:configuration register" compare
 fault 13 "TB cleared by a power cycle" "rules:configuration register" "rules:bench sheet" compare
@@ -105,11 +105,16 @@ fault 16 "52 erases 64 KiB on model 3" rules:erasing "rules:lengths and tails" c
 fault 17 "the protected area one block too small" "rules:protected areas" compare
 fault 18 "the protected area one block too large" "rules:protected areas" compare
 fault 19 "the protected area at the top whatever TB says" "rules:protected areas" "rules:bench sheet" compare
-fault 20 "a cell far from the erased sector cleared on model 3" rules:erasing compare twelve
+fault 20 "a cell far from the erased sector cleared on model 3" rules:erasing compare thirteen
 fault 21 "a fold is never said" rules:folds rules:programming "rules:bench sheet" compare example
-fault 22 "a fold is said of exactly 256 bytes from offset 0" rules:folds rules:programming compare twelve
+fault 22 "a fold is said of exactly 256 bytes from offset 0" rules:folds rules:programming compare thirteen
 fault 23 "a fold is said of a refused program" rules:folds compare
 fault 24 "a fold is said of a read across a page's end" rules:folds "rules:reading commands" compare
 fault 25 "a program through a copy of the page on the stack" stack
+fault 26 "22 is never said" "rules:refused by command" "rules:refused in order" "rules:falling asleep and waking" compare thirteen
+fault 27 "22 comes before 10" "rules:refused before the command" "rules:refused in order" compare
+fault 28 "05 is taken while settling" "rules:refused by command" "rules:falling asleep and waking" compare
+fault 29 "AB settles a chip that was awake" "rules:state commands" "rules:falling asleep and waking" compare thirteen
+fault 30 "the short AB takes the long one's time" "rules:falling asleep and waking" compare thirteen
 echo "$passed passed, $failed failed"
 [ $failed -eq 0 ]

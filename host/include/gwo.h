@@ -3,7 +3,7 @@
  *
  * The archive libpod.a answers frames as the Macronix KH25L512 (model 1), KH25L2006E
  * (model 2) and KH25L12845G (model 3) do. It keeps no memory of its own: the caller
- * lends the chip's state (8 packed bytes) and its array, and each call alters them there.
+ * lends the chip's state (12 packed bytes) and its array, and each call alters them there.
  * Every call is answered by a number (enum gwo_number), for any argument at all.
  *
  * The caller's duties are those of C, and no others:
@@ -16,9 +16,13 @@
  * is the KH25L12845G's own: on model 3 a program or erase that protection refuses (17) clears
  * the write enable latch in the state, and 06 has to come again.
  *
- * The 8 bytes of a state: the status register; 1 in deep power-down, else 0; the configuration
- * register, 0 on models 1 and 2; 0; and the microseconds that the chip is still busy, in four
- * bytes, low byte first. All zero is a chip from the factory at power-on.
+ * The 12 bytes of a state: the status register; 1 in deep power-down, else 0; the configuration
+ * register, 0 on models 1 and 2; 0; the microseconds that the chip is still busy, in four bytes,
+ * low byte first; and the microseconds that it still settles after B9 or AB, in the last four.
+ * All zero is a chip from the factory at power-on.
+ *
+ * A chip is in deep power-down at once after B9, and out of it at once after AB. Then it settles
+ * and answers no frame (22), not even 05; a chip that was awake does not settle after AB.
  */
 #ifndef GWO_H
 #define GWO_H
@@ -31,7 +35,7 @@ extern "C" {
 #endif
 
 /* Lengths, in bytes. */
-#define GWO_STATE_LENGTH 8u     /* a packed state */
+#define GWO_STATE_LENGTH 12u    /* a packed state */
 #define GWO_FRAME_LIMIT 65541u  /* the longest frame */
 #define GWO_PAGE_LENGTH 256u
 #define GWO_SECTOR_LENGTH 4096u
@@ -44,13 +48,14 @@ extern "C" {
 /* What a call is answered. Of several that apply, the first in this order is given. */
 enum gwo_number {
     GWO_DONE = 0,           /* taken; what it does is done */
-    GWO_BAD_RECORD = 1,     /* the model isn't 1, 2 or 3, or a busy time isn't 1 to 1,000,000,000 us;
+    GWO_BAD_RECORD = 1,     /* the model isn't 1, 2 or 3, or a time isn't 1 to 1,000,000,000 us;
                                half_us must be 0 on models 1 and 2, and 1 to 1,000,000,000 on model 3 */
     GWO_BAD_ARRAY = 2,      /* the array's length isn't the model's */
-    GWO_BAD_STATE = 3,      /* the 8 bytes are not the packing of a valid state */
+    GWO_BAD_STATE = 3,      /* the 12 bytes are not the packing of a valid state */
     GWO_BAD_FRAME = 4,      /* over 65,541 bytes, or over 7 tail bits */
     GWO_SHORT_OUTPUT = 5,   /* the output buffer is shorter than the frame */
     GWO_NO_COMMAND = 10,    /* no whole byte in the frame */
+    GWO_SETTLING = 22,      /* still going into deep power-down or coming out of it, whatever the command */
     GWO_BUSY = 11,          /* busy, and the command isn't 05, nor 15 on model 3 */
     GWO_ASLEEP = 12,        /* in deep power-down, and the command isn't AB */
     GWO_UNKNOWN = 13,       /* no command of this chip: 15 is one on model 3 only */
@@ -67,12 +72,13 @@ static inline const char *gwo_text(uint32_t number)
 {
     switch (number) {
     case GWO_DONE: return "done";
-    case GWO_BAD_RECORD: return "record: model or busy time out of range";
+    case GWO_BAD_RECORD: return "record: model or a time out of range";
     case GWO_BAD_ARRAY: return "array length is not the model's";
     case GWO_BAD_STATE: return "state not valid";
     case GWO_BAD_FRAME: return "frame over 65,541 bytes, or tail over 7 bits";
     case GWO_SHORT_OUTPUT: return "output buffer shorter than the frame";
     case GWO_NO_COMMAND: return "no whole byte in the frame";
+    case GWO_SETTLING: return "still going into deep power-down, or coming out of it";
     case GWO_BUSY: return "busy";
     case GWO_ASLEEP: return "in deep power-down";
     case GWO_UNKNOWN: return "unknown command";
@@ -97,6 +103,7 @@ static inline const char *gwo_text(uint32_t number)
  */
 uint32_t gwo_frame(uint32_t model, uint32_t status_us, uint32_t page_us, uint32_t sector_us,
                    uint32_t block_us, uint32_t chip_us, uint32_t half_us,
+                   uint32_t sleep_us, uint32_t wake_us, uint32_t sign_us,
                    uint8_t *state, size_t state_len, uint8_t *array, size_t array_len,
                    const uint8_t *frame, size_t frame_len, uint32_t tail, uint32_t wp,
                    uint8_t *out, size_t out_len, uint32_t *from, uint32_t *count, uint32_t *fold);
@@ -104,17 +111,21 @@ uint32_t gwo_frame(uint32_t model, uint32_t status_us, uint32_t page_us, uint32_
 /* us microseconds pass. Only 1 and 3 can refuse it. */
 uint32_t gwo_wait(uint32_t model, uint32_t status_us, uint32_t page_us, uint32_t sector_us,
                   uint32_t block_us, uint32_t chip_us, uint32_t half_us,
+                  uint32_t sleep_us, uint32_t wake_us, uint32_t sign_us,
                   uint8_t *state, size_t state_len, uint32_t us);
 
 /* Power off and on again: SRWD and BP stay, on model 3 TB too. Only 1 and 3 can refuse it. */
 uint32_t gwo_power_cycle(uint32_t model, uint32_t status_us, uint32_t page_us, uint32_t sector_us,
                          uint32_t block_us, uint32_t chip_us, uint32_t half_us,
+                         uint32_t sleep_us, uint32_t wake_us, uint32_t sign_us,
                          uint8_t *state, size_t state_len);
 
 /*
  * The chip record under one name. Firmware that fills it from a named bench record, or by field
  * names in an initialiser, and calls through the functions below compiles unchanged when the record
- * gains further times. A time that it does not name is 0, as half_us has to be on models 1 and 2.
+ * gains further times. A time that it does not name is 0. half_us has to be 0 on models 1 and 2; for
+ * a sleep_us, wake_us or sign_us of 0 the functions below pass the model's bench value. gwo_frame,
+ * gwo_wait and gwo_power_cycle themselves answer 1 to a 0 there.
  */
 struct gwo_record {
     uint32_t model;     /* 1, 2 or 3 */
@@ -124,17 +135,24 @@ struct gwo_record {
     uint32_t block_us;  /* busy after a block erase */
     uint32_t chip_us;   /* busy after a chip erase */
     uint32_t half_us;   /* busy after a half block erase; 0 on models 1 and 2, which have none */
+    uint32_t sleep_us;  /* settling after B9 */
+    uint32_t wake_us;   /* settling after AB of 1 byte, if the chip was asleep */
+    uint32_t sign_us;   /* settling after AB of 5 bytes or more, if the chip was asleep */
 };
 
 /*
  * The maximum times of the data sheets: KH25L512 (model 1), KH25L2006E (model 2) and KH25L12845G
  * (model 3). For model 2 the customer's page prints house and typical values (15,000, 3,000,
  * 40,000, 400,000, 2,000,000), but its own rule is the maximum where the sheet gives one, and the
- * KH25L2006E's sheet gives all five. Firmware that wants other times fills a record of its own.
+ * KH25L2006E's sheet gives all five. The last three are rounded up to whole microseconds; those of
+ * model 1 are house values. Firmware that wants other times fills a record of its own.
  */
-static const struct gwo_record gwo_bench_model_1 = {1u, 15000u, 5000u, 120000u, 2000000u, 2000000u, 0u};
-static const struct gwo_record gwo_bench_model_2 = {2u, 40000u, 3000u, 200000u, 2000000u, 3800000u, 0u};
-static const struct gwo_record gwo_bench_model_3 = {3u, 40000u, 750u, 400000u, 2000000u, 100000000u, 1000000u};
+static const struct gwo_record gwo_bench_model_1 = {1u, 15000u, 5000u, 120000u, 2000000u, 2000000u, 0u,
+                                                    10u, 10u, 10u};
+static const struct gwo_record gwo_bench_model_2 = {2u, 40000u, 3000u, 200000u, 2000000u, 3800000u, 0u,
+                                                    10u, 9u, 9u};
+static const struct gwo_record gwo_bench_model_3 = {3u, 40000u, 750u, 400000u, 2000000u, 100000000u, 1000000u,
+                                                    10u, 30u, 30u};
 
 /* The array length that a model has; 0 for a number that is no model. */
 static inline size_t gwo_array_length(uint32_t model)
@@ -147,6 +165,22 @@ static inline size_t gwo_array_length(uint32_t model)
     }
 }
 
+/* The record that the functions below pass: a sleep_us, wake_us or sign_us of 0 is the model's bench value. */
+static inline struct gwo_record gwo_record_filled(const struct gwo_record *r)
+{
+    const struct gwo_record *bench = r->model == 3u ? &gwo_bench_model_3
+                                     : r->model == 2u ? &gwo_bench_model_2 : &gwo_bench_model_1;
+    struct gwo_record filled = *r;
+
+    if (filled.sleep_us == 0u)
+        filled.sleep_us = bench->sleep_us;
+    if (filled.wake_us == 0u)
+        filled.wake_us = bench->wake_us;
+    if (filled.sign_us == 0u)
+        filled.sign_us = bench->sign_us;
+    return filled;
+}
+
 /* gwo_frame under a record. */
 static inline uint32_t gwo_record_frame_fold(const struct gwo_record *r, uint8_t *state, size_t state_len,
                                              uint8_t *array, size_t array_len,
@@ -155,7 +189,10 @@ static inline uint32_t gwo_record_frame_fold(const struct gwo_record *r, uint8_t
                                              uint8_t *out, size_t out_len,
                                              uint32_t *from, uint32_t *count, uint32_t *fold)
 {
-    return gwo_frame(r->model, r->status_us, r->page_us, r->sector_us, r->block_us, r->chip_us, r->half_us,
+    const struct gwo_record f = gwo_record_filled(r);
+
+    return gwo_frame(f.model, f.status_us, f.page_us, f.sector_us, f.block_us, f.chip_us, f.half_us,
+                     f.sleep_us, f.wake_us, f.sign_us,
                      state, state_len, array, array_len, frame, frame_len, tail, wp,
                      out, out_len, from, count, fold);
 }
@@ -178,15 +215,19 @@ static inline uint32_t gwo_record_frame(const struct gwo_record *r, uint8_t *sta
 static inline uint32_t gwo_record_wait(const struct gwo_record *r, uint8_t *state, size_t state_len,
                                        uint32_t us)
 {
-    return gwo_wait(r->model, r->status_us, r->page_us, r->sector_us, r->block_us, r->chip_us, r->half_us,
-                    state, state_len, us);
+    const struct gwo_record f = gwo_record_filled(r);
+
+    return gwo_wait(f.model, f.status_us, f.page_us, f.sector_us, f.block_us, f.chip_us, f.half_us,
+                    f.sleep_us, f.wake_us, f.sign_us, state, state_len, us);
 }
 
 /* gwo_power_cycle under a record. */
 static inline uint32_t gwo_record_power_cycle(const struct gwo_record *r, uint8_t *state, size_t state_len)
 {
-    return gwo_power_cycle(r->model, r->status_us, r->page_us, r->sector_us, r->block_us, r->chip_us, r->half_us,
-                           state, state_len);
+    const struct gwo_record f = gwo_record_filled(r);
+
+    return gwo_power_cycle(f.model, f.status_us, f.page_us, f.sector_us, f.block_us, f.chip_us, f.half_us,
+                           f.sleep_us, f.wake_us, f.sign_us, state, state_len);
 }
 
 #ifdef __cplusplus

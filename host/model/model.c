@@ -7,7 +7,7 @@
 #include <stdbool.h>
 #include <string.h>
 
-enum { PAGE = 256, SECTOR = 4096, HALF_BLOCK = 32768, BLOCK = 65536, FRAME_LIMIT = 65541, STATE = 8 };
+enum { PAGE = 256, SECTOR = 4096, HALF_BLOCK = 32768, BLOCK = 65536, FRAME_LIMIT = 65541, STATE = 12 };
 
 enum {
     WRITE_STATUS = 0x01, PROGRAM = 0x02, READ = 0x03, WRITE_DISABLE = 0x04,
@@ -22,12 +22,12 @@ enum { MAKER = 0xC2 };
 enum { TB = 0x08, VOLATILE = 0xD3 };
 
 struct record {
-    uint32_t model, status_us, page_us, sector_us, block_us, chip_us, half_us;
+    uint32_t model, status_us, page_us, sector_us, block_us, chip_us, half_us, sleep_us, wake_us, sign_us;
 };
 
 struct state {
     unsigned srwd, bp, wel, asleep, config;
-    uint32_t busy_us;
+    uint32_t busy_us, settling_us;
 };
 
 /* What differs between the models. */
@@ -60,7 +60,8 @@ static bool record_ok(const struct record *r)
 {
     return r->model >= 1 && r->model <= 3 && time_ok(r->status_us) && time_ok(r->page_us) &&
            time_ok(r->sector_us) && time_ok(r->block_us) && time_ok(r->chip_us) &&
-           (r->model == 3 ? time_ok(r->half_us) : r->half_us == 0);
+           (r->model == 3 ? time_ok(r->half_us) : r->half_us == 0) &&
+           time_ok(r->sleep_us) && time_ok(r->wake_us) && time_ok(r->sign_us);
 }
 
 static uint32_t larger(uint32_t a, uint32_t b)
@@ -69,10 +70,15 @@ static uint32_t larger(uint32_t a, uint32_t b)
 }
 
 /* half_us is 0 where it does not count. */
-static uint32_t longest(const struct record *r)
+static uint32_t longest_busy(const struct record *r)
 {
     return larger(larger(larger(r->status_us, r->page_us), larger(r->sector_us, r->block_us)),
                   larger(r->chip_us, r->half_us));
+}
+
+static uint32_t longest_settling(const struct record *r)
+{
+    return larger(r->sleep_us, larger(r->wake_us, r->sign_us));
 }
 
 /* 01, State: 128 SRWD + 4 BP + 2 WEL + WIP. */
@@ -81,16 +87,28 @@ static uint8_t status_byte(const struct state *s)
     return (uint8_t)(s->srwd << 7 | s->bp << 2 | s->wel << 1 | (s->busy_us > 0));
 }
 
+/* A time takes four bytes, the low one first. */
+static void pack_us(uint32_t us, uint8_t *p)
+{
+    p[0] = (uint8_t)us;
+    p[1] = (uint8_t)(us >> 8);
+    p[2] = (uint8_t)(us >> 16);
+    p[3] = (uint8_t)(us >> 24);
+}
+
+static uint32_t unpack_us(const uint8_t *p)
+{
+    return (uint32_t)p[0] | (uint32_t)p[1] << 8 | (uint32_t)p[2] << 16 | (uint32_t)p[3] << 24;
+}
+
 static void pack(const struct state *s, uint8_t *p)
 {
     p[0] = status_byte(s);
     p[1] = (uint8_t)s->asleep;
     p[2] = (uint8_t)s->config;
     p[3] = 0;
-    p[4] = (uint8_t)s->busy_us;
-    p[5] = (uint8_t)(s->busy_us >> 8);
-    p[6] = (uint8_t)(s->busy_us >> 16);
-    p[7] = (uint8_t)(s->busy_us >> 24);
+    pack_us(s->busy_us, p + 4);
+    pack_us(s->settling_us, p + 8);
 }
 
 /* False unless p holds the packing of a valid state. */
@@ -105,12 +123,13 @@ static bool unpack(struct state *s, const uint8_t *p, size_t len, const struct r
     s->wel = p[0] >> 1 & 1;
     s->asleep = p[1];
     s->config = p[2];
-    s->busy_us = (uint32_t)p[4] | (uint32_t)p[5] << 8 | (uint32_t)p[6] << 16 | (uint32_t)p[7] << 24;
+    s->busy_us = unpack_us(p + 4);
+    s->settling_us = unpack_us(p + 8);
     if ((p[0] & 1) != (s->busy_us > 0))
         return false;
     if (s->busy_us == 0)
-        return true;
-    return s->busy_us <= longest(r) && s->wel && !s->asleep;
+        return s->settling_us <= longest_settling(r);
+    return s->busy_us <= longest_busy(r) && s->wel && !s->asleep && s->settling_us == 0;
 }
 
 /* The 24-bit address, high byte first, modulo the array length (a power of two). */
@@ -201,6 +220,8 @@ static uint32_t frame_refusal(const struct chip *chip, const struct state *s, co
 
     if (len == 0)
         return 10;
+    if (s->settling_us > 0)
+        return 22;
     if (s->busy_us > 0 && !taken_while_busy(chip, frame[0]))
         return 11;
     if (s->asleep && frame[0] != WAKE)
@@ -318,6 +339,21 @@ static void write_status(const struct chip *chip, struct state *s, const uint8_t
         s->config = (data[1] & VOLATILE) | ((s->config | data[1]) & TB);
 }
 
+/* Asleep at once; then it settles (002 L802). */
+static void fall_asleep(const struct record *r, struct state *s)
+{
+    s->asleep = 1;
+    s->settling_us = r->sleep_us;
+}
+
+/* Awake at once; then it settles if it was asleep, by the length of AB (002 L803-806). */
+static void wake_up(const struct record *r, struct state *s, size_t len)
+{
+    if (s->asleep)
+        s->settling_us = len == 1 ? r->wake_us : r->sign_us;
+    s->asleep = 0;
+}
+
 /* The commands that change the state or the array; true when a program folded. */
 static bool carry_out(const struct chip *chip, const struct record *r, struct state *s,
                       uint8_t *array, const uint8_t *frame, size_t len)
@@ -327,8 +363,8 @@ static bool carry_out(const struct chip *chip, const struct record *r, struct st
     switch (frame[0]) {
     case WRITE_ENABLE: s->wel = 1; break;
     case WRITE_DISABLE: s->wel = 0; break;
-    case SLEEP: s->asleep = 1; break;
-    case WAKE: s->asleep = 0; break;
+    case SLEEP: fall_asleep(r, s); break;
+    case WAKE: wake_up(r, s, len); break;
     case WRITE_STATUS:
         write_status(chip, s, frame + 1, len - 1);
         s->busy_us = r->status_us;
@@ -359,11 +395,13 @@ static bool carry_out(const struct chip *chip, const struct record *r, struct st
 
 uint32_t ref_frame(uint32_t model, uint32_t status_us, uint32_t page_us, uint32_t sector_us,
                    uint32_t block_us, uint32_t chip_us, uint32_t half_us,
+                   uint32_t sleep_us, uint32_t wake_us, uint32_t sign_us,
                    uint8_t *state, size_t state_len, uint8_t *array, size_t array_len,
                    const uint8_t *frame, size_t frame_len, uint32_t tail, uint32_t wp,
                    uint8_t *out, size_t out_len, uint32_t *from, uint32_t *count, uint32_t *fold)
 {
-    const struct record r = {model, status_us, page_us, sector_us, block_us, chip_us, half_us};
+    const struct record r = {model, status_us, page_us, sector_us, block_us, chip_us, half_us, sleep_us, wake_us,
+                             sign_us};
     const struct chip *chip;
     struct state s;
     uint32_t number;
@@ -395,12 +433,14 @@ uint32_t ref_frame(uint32_t model, uint32_t status_us, uint32_t page_us, uint32_
     return 0;
 }
 
-/* The busy time falls, never below 0; when it comes to 0, WEL clears. */
+/* Both times fall, never below 0; when the busy time comes to 0, WEL clears. */
 uint32_t ref_wait(uint32_t model, uint32_t status_us, uint32_t page_us, uint32_t sector_us,
                   uint32_t block_us, uint32_t chip_us, uint32_t half_us,
+                  uint32_t sleep_us, uint32_t wake_us, uint32_t sign_us,
                   uint8_t *state, size_t state_len, uint32_t us)
 {
-    const struct record r = {model, status_us, page_us, sector_us, block_us, chip_us, half_us};
+    const struct record r = {model, status_us, page_us, sector_us, block_us, chip_us, half_us, sleep_us, wake_us,
+                             sign_us};
     struct state s;
 
     if (!record_ok(&r))
@@ -413,6 +453,7 @@ uint32_t ref_wait(uint32_t model, uint32_t status_us, uint32_t page_us, uint32_t
         s.busy_us = 0;
         s.wel = 0;
     }
+    s.settling_us -= us < s.settling_us ? us : s.settling_us;
     pack(&s, state);
     return 0;
 }
@@ -420,9 +461,11 @@ uint32_t ref_wait(uint32_t model, uint32_t status_us, uint32_t page_us, uint32_t
 /* SRWD, BP and TB stay, the rest becomes 0. */
 uint32_t ref_power_cycle(uint32_t model, uint32_t status_us, uint32_t page_us, uint32_t sector_us,
                          uint32_t block_us, uint32_t chip_us, uint32_t half_us,
+                         uint32_t sleep_us, uint32_t wake_us, uint32_t sign_us,
                          uint8_t *state, size_t state_len)
 {
-    const struct record r = {model, status_us, page_us, sector_us, block_us, chip_us, half_us};
+    const struct record r = {model, status_us, page_us, sector_us, block_us, chip_us, half_us, sleep_us, wake_us,
+                             sign_us};
     struct state s;
 
     if (!record_ok(&r))
@@ -433,6 +476,7 @@ uint32_t ref_power_cycle(uint32_t model, uint32_t status_us, uint32_t page_us, u
     s.asleep = 0;
     s.config &= TB;
     s.busy_us = 0;
+    s.settling_us = 0;
     pack(&s, state);
     return 0;
 }

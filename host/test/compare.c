@@ -23,10 +23,11 @@ static void show(const struct call *c, const uint8_t *state, const char *what)
     size_t i;
 
     fail("call %lu: %s differs", rig_calls, what);
-    printf("  %s, record %lu %lu %lu %lu %lu %lu %lu, state of %lu:", kinds[c->kind], (unsigned long)r->model,
-           (unsigned long)r->status_us, (unsigned long)r->page_us, (unsigned long)r->sector_us,
-           (unsigned long)r->block_us, (unsigned long)r->chip_us, (unsigned long)r->half_us,
-           (unsigned long)c->state_len);
+    printf("  %s, record %lu %lu %lu %lu %lu %lu %lu %lu %lu %lu, state of %lu:", kinds[c->kind],
+           (unsigned long)r->model, (unsigned long)r->status_us, (unsigned long)r->page_us,
+           (unsigned long)r->sector_us, (unsigned long)r->block_us, (unsigned long)r->chip_us,
+           (unsigned long)r->half_us, (unsigned long)r->sleep_us, (unsigned long)r->wake_us,
+           (unsigned long)r->sign_us, (unsigned long)c->state_len);
     for (i = 0; i < c->state_len && i < 16; i++)
         printf(" %02X", state[i]);
     if (c->kind == WAIT)
@@ -97,36 +98,44 @@ static uint32_t frame_on(frame_call *f, const struct side *s, const struct call 
 
     numbers[0] = numbers[1] = numbers[2] = 0xA5A5A5A5;
     return f(r->model, r->status_us, r->page_us, r->sector_us, r->block_us, r->chip_us, r->half_us,
-             last_of(&s->state, c->state_len), c->state_len, last_of(&s->array, c->array_len), c->array_len,
+             r->sleep_us, r->wake_us, r->sign_us, last_of(&s->state, c->state_len), c->state_len,
+             last_of(&s->array, c->array_len), c->array_len,
              last_of(&s->frame, c->frame_len), c->frame_len, c->tail, c->wp,
              last_of(&s->out, c->out_len), c->out_len, &numbers[0], &numbers[1], &numbers[2]);
 }
 
+static uint32_t wait_on(wait_call *f, const struct side *s, const struct call *c)
+{
+    const struct gwo_record *r = &c->record;
+
+    return f(r->model, r->status_us, r->page_us, r->sector_us, r->block_us, r->chip_us, r->half_us,
+             r->sleep_us, r->wake_us, r->sign_us, last_of(&s->state, c->state_len), c->state_len, c->us);
+}
+
+static uint32_t power_cycle_on(power_cycle_call *f, const struct side *s, const struct call *c)
+{
+    const struct gwo_record *r = &c->record;
+
+    return f(r->model, r->status_us, r->page_us, r->sector_us, r->block_us, r->chip_us, r->half_us,
+             r->sleep_us, r->wake_us, r->sign_us, last_of(&s->state, c->state_len), c->state_len);
+}
+
+/* The calls themselves: the functions on a record (gwo.h) put a bench value where a time is 0. */
 static uint32_t ours_gives(const struct call *c)
 {
-    uint8_t *state = last_of(&ours.state, c->state_len);
-
     switch (c->kind) {
     case FRAME: return frame_on(gwo_frame, &ours, c);
-    case WAIT: return gwo_record_wait(&c->record, state, c->state_len, c->us);
-    default: return gwo_record_power_cycle(&c->record, state, c->state_len);
+    case WAIT: return wait_on(gwo_wait, &ours, c);
+    default: return power_cycle_on(gwo_power_cycle, &ours, c);
     }
 }
 
 static uint32_t model_gives(const struct call *c)
 {
-    const struct gwo_record *r = &c->record;
-    uint8_t *state = last_of(&model.state, c->state_len);
-
     switch (c->kind) {
-    case FRAME:
-        return frame_on(ref_frame, &model, c);
-    case WAIT:
-        return ref_wait(r->model, r->status_us, r->page_us, r->sector_us, r->block_us, r->chip_us, r->half_us, state,
-                        c->state_len, c->us);
-    default:
-        return ref_power_cycle(r->model, r->status_us, r->page_us, r->sector_us, r->block_us, r->chip_us, r->half_us,
-                               state, c->state_len);
+    case FRAME: return frame_on(ref_frame, &model, c);
+    case WAIT: return wait_on(ref_wait, &model, c);
+    default: return power_cycle_on(ref_power_cycle, &model, c);
     }
 }
 

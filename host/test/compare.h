@@ -5,7 +5,7 @@
 #include "gwo.h"
 #include "rig.h"
 
-enum { STATE_ROOM = 280, FRAME_ROOM = 65600, OUT_ROOM = 65664, MARGIN = 32 };
+enum { STATE = GWO_STATE_LENGTH, STATE_ROOM = 280, FRAME_ROOM = 65600, OUT_ROOM = 65664, MARGIN = 32 };
 
 /* Arrays are the last bytes of one room; those of models 1 and 2, and most wrong lengths, of its small end. */
 enum { PAGE = 256, BLOCK = 65536, ARRAY_ROOM = 16777216 + BLOCK, SMALL_ROOM = 327680 };
@@ -50,7 +50,7 @@ void note(const struct call *c, const uint8_t *state, uint32_t number);
 
 /*
  * A failure unless on each model every number was met, every command accepted and programs ended on both sides of
- * their page's end; and unless all that only model 3 has was met.
+ * their page's end; and unless all that only model 3 has was met, and all that sleep takes.
  */
 void check_variety(void);
 

@@ -2,6 +2,7 @@
 #include "compare.h"
 
 #include <stdio.h>
+#include <string.h>
 
 /* How often each number was answered and each command accepted, by model. */
 static unsigned long answered[MODELS + 1][32], accepted[MODELS + 1][256];
@@ -29,6 +30,39 @@ static void note_rare(const struct call *c, const uint8_t *state, uint32_t numbe
     met[BOTTOM_REFUSED] += number == 17 && tb;
 }
 
+/* The frames after which a chip settles: how often each was taken, answered 22, and followed by a 22. */
+enum start { SLEEP, SHORT_WAKE, LONG_WAKE, STARTS };
+static unsigned long started[STARTS], refused[STARTS], followed[STARTS];
+
+static enum start start_of(const struct call *c)
+{
+    uint8_t command = c->kind == FRAME && c->frame_len > 0 ? *last_of(&model.frame, c->frame_len) : 0;
+
+    if (command == 0xB9)
+        return SLEEP;
+    if (command != 0xAB || (c->frame_len > 1 && c->frame_len < 5))
+        return STARTS;
+    return c->frame_len == 1 ? SHORT_WAKE : LONG_WAKE;
+}
+
+/* By the state before the call and the one that the last start left; AB of a chip that was awake starts nothing. */
+static void note_sleep(const struct call *c, const uint8_t *state, uint32_t number)
+{
+    static enum start last = STARTS;
+    static uint8_t left[STATE];
+    enum start start = start_of(c);
+
+    if (number == 22 && last != STARTS && memcmp(state, left, STATE) == 0)
+        followed[last]++;
+    if (number == 22 && start != STARTS)
+        refused[start]++;
+    last = number == 0 && start != STARTS && (start == SLEEP || state[1] == 1) ? start : STARTS;
+    if (last == STARTS)
+        return;
+    started[last]++;
+    memcpy(left, last_of(&model.state, STATE), STATE);
+}
+
 static enum ending ending_of(const uint8_t *frame, size_t n)
 {
     size_t end = frame[3] + n - 4;
@@ -50,6 +84,7 @@ void note(const struct call *c, const uint8_t *state, uint32_t number)
     uint32_t chip = c->record.model <= MODELS ? c->record.model : 0;
 
     answered[chip][number % 32]++;
+    note_sleep(c, state, number);
     if (c->kind != FRAME || (number != 0 && number != 17))
         return;
     if (number == 0)
@@ -60,7 +95,7 @@ void note(const struct call *c, const uint8_t *state, uint32_t number)
 
 static void numbers_met(uint32_t chip)
 {
-    static const uint8_t numbers[] = {0, 1, 2, 3, 4, 5, 10, 11, 12, 13, 14, 15, 16, 17};
+    static const uint8_t numbers[] = {0, 1, 2, 3, 4, 5, 10, 22, 11, 12, 13, 14, 15, 16, 17};
     size_t i;
 
     printf("  model %lu, answers:", (unsigned long)chip);
@@ -102,6 +137,20 @@ static void endings_met(uint32_t chip)
     printf("\n");
 }
 
+static void sleep_met(void)
+{
+    static const char *const names[STARTS] = {"B9", "AB of 1 byte", "AB of 5 bytes or more"};
+    int i;
+
+    printf("  taken and then settling, answered 22, followed by a 22:");
+    for (i = 0; i < STARTS; i++) {
+        printf(" %s:%lu,%lu,%lu", names[i], started[i], refused[i], followed[i]);
+        if (started[i] == 0 || refused[i] == 0 || followed[i] == 0)
+            fail("%s was never taken, never answered 22, or never followed by a 22", names[i]);
+    }
+    printf("\n");
+}
+
 void check_variety(void)
 {
     static const char *const names[RARE] = {"01 with two data bytes", "01 that would clear TB", "15 while busy",
@@ -120,4 +169,5 @@ void check_variety(void)
             fail("%s was never met", names[i]);
     }
     printf("\n");
+    sleep_met();
 }

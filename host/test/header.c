@@ -20,7 +20,7 @@ static void check(int ok, const char *what)
 /* Each number has a text of its own; any other has the one for no number. */
 static void texts(void)
 {
-    static const uint32_t numbers[] = {0, 1, 2, 3, 4, 5, 10, 11, 12, 13, 14, 15, 16, 17, 20, 6};
+    static const uint32_t numbers[] = {0, 1, 2, 3, 4, 5, 10, 22, 11, 12, 13, 14, 15, 16, 17, 20, 6};
     const size_t n = sizeof numbers / sizeof numbers[0];
     size_t i, k;
 
@@ -30,6 +30,7 @@ static void texts(void)
             check(strcmp(gwo_text(numbers[i]), gwo_text(numbers[k])) != 0, "two numbers with one text");
     }
     check(strcmp(gwo_text(6), gwo_text(0xFFFFFFFFu)) == 0, "two texts for no number");
+    check(GWO_SETTLING == 22, "the number of a chip that settles");
 }
 
 static void lengths(void)
@@ -40,7 +41,15 @@ static void lengths(void)
     check(GWO_HALF_BLOCK_LENGTH == 32768 && GWO_BLOCK_LENGTH == 65536, "a half block");
 }
 
-/* The sixth time is model 3's; its six are the maxima of 003 (L2135-2141). */
+static int settles_for(const struct gwo_record *r, uint32_t sleep, uint32_t wake, uint32_t sign)
+{
+    return r->sleep_us == sleep && r->wake_us == wake && r->sign_us == sign;
+}
+
+/*
+ * The sixth time is model 3's; its six are the maxima of 003 (L2135-2141). The last three are house values on model 1,
+ * and otherwise the maxima of 002 (L802-806) and 003 (L2132-2134) in whole microseconds.
+ */
 static void benches(void)
 {
     const struct gwo_record *r = &gwo_bench_model_3;
@@ -49,15 +58,18 @@ static void benches(void)
     check(gwo_bench_model_2.model == 2 && gwo_bench_model_2.half_us == 0, "the bench record of model 2");
     check(r->model == 3 && r->status_us == 40000 && r->page_us == 750 && r->sector_us == 400000, "that of model 3");
     check(r->block_us == 2000000 && r->chip_us == 100000000 && r->half_us == 1000000, "the times of model 3");
+    check(settles_for(&gwo_bench_model_1, 10, 10, 10), "the settling times of model 1");
+    check(settles_for(&gwo_bench_model_2, 10, 9, 9), "the settling times of model 2");
+    check(settles_for(&gwo_bench_model_3, 10, 30, 30), "the settling times of model 3");
 }
 
 /* 06, 01 00, a wait and a power cycle under each bench record: the calls are taken, the state is packed as said. */
 static void calls(const struct gwo_record *r, uint8_t busy_low, uint8_t busy_high)
 {
     static const uint8_t write_enable[] = {0x06}, write_status[] = {0x01, 0x00};
-    const uint8_t zero[GWO_STATE_LENGTH] = {0, 0, 0, 0, 0, 0, 0, 0};
-    const uint8_t busy[GWO_STATE_LENGTH] = {3, 0, 0, 0, busy_low, busy_high, 0, 0};
-    uint8_t state[GWO_STATE_LENGTH] = {0, 0, 0, 0, 0, 0, 0, 0}, out[2];
+    const uint8_t zero[12] = {0, 0, 0, 0, 0, 0, 0, 0, 0, 0, 0, 0};
+    const uint8_t busy[12] = {3, 0, 0, 0, busy_low, busy_high, 0, 0, 0, 0, 0, 0};
+    uint8_t state[GWO_STATE_LENGTH] = {0, 0, 0, 0, 0, 0, 0, 0, 0, 0, 0, 0}, out[2];
     uint32_t from, count;
 
     check(gwo_record_frame(r, state, sizeof state, array, gwo_array_length(r->model), write_enable, 1, 0, 1, out, 1,
@@ -73,21 +85,91 @@ static void calls(const struct gwo_record *r, uint8_t busy_low, uint8_t busy_hig
     check(gwo_record_power_cycle(r, state, sizeof state) == GWO_DONE, "power cycle");
 }
 
+/* A frame of up to 5 bytes. */
+static uint32_t frame_on(const struct gwo_record *r, uint8_t *state, const uint8_t *frame, size_t n)
+{
+    uint8_t out[5];
+    uint32_t from, count;
+
+    return gwo_record_frame(r, state, GWO_STATE_LENGTH, array, gwo_array_length(r->model), frame, n, 0, 1, out, n,
+                            &from, &count);
+}
+
+/* B9 and both ABs, with times up to 255: asleep or awake at once, and 22 until the time is over. */
+static void sleeps(const struct gwo_record *r, uint8_t sleep, uint8_t wake, uint8_t sign)
+{
+    static const uint8_t power_down[] = {0xB9}, release[] = {0xAB, 0, 0, 0, 0}, status[] = {0x05};
+    const uint8_t asleep[12] = {0, 1, 0, 0, 0, 0, 0, 0, 0, 0, 0, 0};
+    const uint8_t dozing[12] = {0, 1, 0, 0, 0, 0, 0, 0, sleep, 0, 0, 0};
+    const uint8_t waking[12] = {0, 0, 0, 0, 0, 0, 0, 0, wake, 0, 0, 0};
+    const uint8_t signing[12] = {0, 0, 0, 0, 0, 0, 0, 0, sign, 0, 0, 0};
+    uint8_t state[GWO_STATE_LENGTH] = {0, 0, 0, 0, 0, 0, 0, 0, 0, 0, 0, 0};
+
+    check(frame_on(r, state, power_down, 1) == GWO_DONE && memcmp(state, dozing, 12) == 0, "B9");
+    check(gwo_record_wait(r, state, sizeof state, sleep - 1u) == GWO_DONE, "a wait");
+    check(frame_on(r, state, status, 1) == GWO_SETTLING, "05 one microsecond early");
+    check(gwo_record_wait(r, state, sizeof state, 1) == GWO_DONE, "the last microsecond");
+    check(memcmp(state, asleep, 12) == 0, "the state in deep power-down");
+    check(frame_on(r, state, status, 1) == GWO_ASLEEP, "05 in deep power-down");
+    check(frame_on(r, state, release, 1) == GWO_DONE && memcmp(state, waking, 12) == 0, "AB of 1 byte");
+    check(frame_on(r, state, release, 5) == GWO_SETTLING, "AB while settling");
+    memcpy(state, asleep, 12);
+    check(frame_on(r, state, release, 5) == GWO_DONE && memcmp(state, signing, 12) == 0, "AB of 5 bytes");
+    check(gwo_record_power_cycle(r, state, sizeof state) == GWO_DONE && state[8] == 0, "a power cycle while settling");
+}
+
+/* The three calls themselves with these three times. */
+static uint32_t calls_give(const struct gwo_record *r, uint32_t sleep, uint32_t wake, uint32_t sign)
+{
+    uint8_t state[GWO_STATE_LENGTH] = {0, 0, 0, 0, 0, 0, 0, 0, 0, 0, 0, 0}, out[1];
+    const uint8_t write_enable[] = {0x06};
+    uint32_t from, count, fold, number;
+
+    number = gwo_wait(r->model, r->status_us, r->page_us, r->sector_us, r->block_us, r->chip_us, r->half_us,
+                      sleep, wake, sign, state, sizeof state, 1);
+    check(gwo_power_cycle(r->model, r->status_us, r->page_us, r->sector_us, r->block_us, r->chip_us, r->half_us,
+                          sleep, wake, sign, state, sizeof state) == number, "a power cycle is answered as a wait");
+    check(gwo_frame(r->model, r->status_us, r->page_us, r->sector_us, r->block_us, r->chip_us, r->half_us,
+                    sleep, wake, sign, state, sizeof state, array, gwo_array_length(r->model), write_enable, 1, 0, 1,
+                    out, 1, &from, &count, &fold) == number, "a frame is answered as a wait");
+    return number;
+}
+
+/* A settling time of 0 is the bench value for the functions on a record, each by itself, and 1 for the calls. */
+static void unnamed_times(const struct gwo_record *bench)
+{
+    struct gwo_record r = *bench;
+    uint8_t state[GWO_STATE_LENGTH] = {0, 0, 0, 0, 0, 0, 0, 0, 0, 0, 0, 0};
+
+    check(calls_give(bench, 1, 2, 3) == GWO_DONE, "the calls with times");
+    check(calls_give(bench, 0, 2, 3) == GWO_BAD_RECORD, "the calls with a sleep_us of 0");
+    check(calls_give(bench, 1, 0, 3) == GWO_BAD_RECORD, "the calls with a wake_us of 0");
+    check(calls_give(bench, 1, 2, 0) == GWO_BAD_RECORD, "the calls with a sign_us of 0");
+    r.sleep_us = r.wake_us = r.sign_us = 0;
+    sleeps(&r, (uint8_t)bench->sleep_us, (uint8_t)bench->wake_us, (uint8_t)bench->sign_us);
+    r.wake_us = 77;
+    sleeps(&r, (uint8_t)bench->sleep_us, 77, (uint8_t)bench->sign_us);
+    r.sleep_us = 55, r.wake_us = 0, r.sign_us = 99;
+    sleeps(&r, 55, (uint8_t)bench->wake_us, 99);
+    r.sign_us = 1000000001;
+    check(gwo_record_wait(&r, state, sizeof state, 1) == GWO_BAD_RECORD, "a named time that is too long");
+}
+
 /* Two bytes from the page's last place fold; a refused program does not, nor does one that ends there. */
 static void fold(const struct gwo_record *r)
 {
     static const uint8_t two[] = {0x02, 0x00, 0x00, 0xFF, 0xA5, 0x5A};
-    const size_t n = gwo_array_length(r->model);
-    uint8_t state[GWO_STATE_LENGTH] = {2, 0, 0, 0, 0, 0, 0, 0}, out[6];
+    const size_t n = gwo_array_length(r->model), s = GWO_STATE_LENGTH;
+    uint8_t state[GWO_STATE_LENGTH] = {2, 0, 0, 0, 0, 0, 0, 0, 0, 0, 0, 0}, out[6];
     uint32_t from, count, said = 2;
 
-    check(gwo_record_frame_fold(r, state, 8, array, n, two, 6, 0, 1, out, 6, &from, &count, &said) == GWO_DONE, "02");
+    check(gwo_record_frame_fold(r, state, s, array, n, two, 6, 0, 1, out, 6, &from, &count, &said) == GWO_DONE, "02");
     check(said == 1, "a program past its page's end");
-    check(gwo_record_frame_fold(r, state, 8, array, n, two, 6, 0, 1, out, 6, &from, &count, &said) == GWO_BUSY, "busy");
+    check(gwo_record_frame_fold(r, state, s, array, n, two, 6, 0, 1, out, 6, &from, &count, &said) == GWO_BUSY, "busy");
     check(said == 0, "a refused program");
     state[0] = 2;
     memset(state + 4, 0, 4);
-    check(gwo_record_frame_fold(r, state, 8, array, n, two, 5, 0, 1, out, 5, &from, &count, &said) == GWO_DONE, "02");
+    check(gwo_record_frame_fold(r, state, s, array, n, two, 5, 0, 1, out, 5, &from, &count, &said) == GWO_DONE, "02");
     check(said == 0, "a program to its page's end");
 }
 
@@ -95,15 +177,15 @@ static void fold(const struct gwo_record *r)
 static void nulls(const struct gwo_record *r)
 {
     static const uint8_t status[] = {0x05, 0x00};
-    const size_t n = gwo_array_length(r->model);
-    uint8_t state[GWO_STATE_LENGTH] = {0, 0, 0, 0, 0, 0, 0, 0}, out[2];
+    const size_t n = gwo_array_length(r->model), s = GWO_STATE_LENGTH;
+    uint8_t state[GWO_STATE_LENGTH] = {0, 0, 0, 0, 0, 0, 0, 0, 0, 0, 0, 0}, out[2];
     uint32_t from, count;
 
     check(gwo_record_frame(r, NULL, 0, array, n, status, 2, 0, 1, out, 2, &from, &count) == GWO_BAD_STATE, "no state");
-    check(gwo_record_frame(r, state, 8, NULL, 0, status, 2, 0, 1, out, 2, &from, &count) == GWO_BAD_ARRAY, "no array");
-    check(gwo_record_frame(r, state, 8, array, n, NULL, 0, 0, 1, out, 2, &from, &count) == GWO_NO_COMMAND, "no frame");
-    check(gwo_record_frame(r, state, 8, array, n, status, 2, 0, 1, NULL, 0, &from, &count) == GWO_SHORT_OUTPUT, "no output");
-    check(gwo_record_frame(r, state, 8, array, n, NULL, 0, 0, 1, NULL, 0, &from, &count) == GWO_NO_COMMAND, "neither");
+    check(gwo_record_frame(r, state, s, NULL, 0, status, 2, 0, 1, out, 2, &from, &count) == GWO_BAD_ARRAY, "no array");
+    check(gwo_record_frame(r, state, s, array, n, NULL, 0, 0, 1, out, 2, &from, &count) == GWO_NO_COMMAND, "no frame");
+    check(gwo_record_frame(r, state, s, array, n, status, 2, 0, 1, NULL, 0, &from, &count) == GWO_SHORT_OUTPUT, "no output");
+    check(gwo_record_frame(r, state, s, array, n, NULL, 0, 0, 1, NULL, 0, &from, &count) == GWO_NO_COMMAND, "neither");
     check(gwo_record_wait(r, NULL, 0, 1) == GWO_BAD_STATE, "a wait without a state");
     check(gwo_record_power_cycle(r, NULL, 0) == GWO_BAD_STATE, "a power cycle without a state");
 }
@@ -118,6 +200,12 @@ int main(int argc, char **argv)
     calls(&gwo_bench_model_1, 15000 & 255, 15000 >> 8);
     calls(&gwo_bench_model_2, 40000 & 255, 40000 >> 8);
     calls(&gwo_bench_model_3, 40000 & 255, 40000 >> 8);
+    sleeps(&gwo_bench_model_1, 10, 10, 10);
+    sleeps(&gwo_bench_model_2, 10, 9, 9);
+    sleeps(&gwo_bench_model_3, 10, 30, 30);
+    unnamed_times(&gwo_bench_model_1);
+    unnamed_times(&gwo_bench_model_2);
+    unnamed_times(&gwo_bench_model_3);
     fold(&gwo_bench_model_1);
     fold(&gwo_bench_model_2);
     fold(&gwo_bench_model_3);

@@ -8,8 +8,8 @@
 
 enum { MARGIN = 64, MARK = 0x5C, UNSET = 0x5A5A5A5A };
 
-const struct condition power_on = {0, 0, 0, 0, 0, 0};
-const struct condition enabled = {0, 0, 1, 0, 0, 0};
+const struct condition power_on = {0, 0, 0, 0, 0, 0, 0};
+const struct condition enabled = {0, 0, 1, 0, 0, 0, 0};
 
 struct given given;
 
@@ -108,22 +108,15 @@ void jig_next(void)
     nothing_wanted();
 }
 
-uint32_t longest_us(void)
-{
-    return longest(&given.record);
-}
-
-/* The status byte, the flag, the configuration register, a zero, the busy time little-endian. */
+/* The status byte, the flag, the configuration register, a zero, the busy time and the settling time. */
 static void pack(struct condition c, uint8_t *p)
 {
-    int i;
-
     memset(p, 0, STATE_ROOM);
     p[0] = (uint8_t)(128 * c.srwd + 4 * c.bp + 2 * c.wel + (c.busy_us > 0 ? 1 : 0));
     p[1] = (uint8_t)c.asleep;
     p[2] = (uint8_t)c.config;
-    for (i = 0; i < 4; i++)
-        p[4 + i] = (uint8_t)(c.busy_us >> 8 * i);
+    put_us(p + BUSY_AT, c.busy_us);
+    put_us(p + SETTLING_AT, c.settling_us);
 }
 
 void jig_state(struct condition c)
@@ -271,7 +264,8 @@ void frame_gives(uint32_t number, const char *label)
 
     rig_calls++;
     got = gwo_frame(r->model, r->status_us, r->page_us, r->sector_us, r->block_us, r->chip_us, r->half_us,
-                    state, given.state_len, cells_lent(c, given.array_len), given.array_len,
+                    r->sleep_us, r->wake_us, r->sign_us, state, given.state_len,
+                    cells_lent(c, given.array_len), given.array_len,
                     frame, given.frame_len, given.tail, given.wp, out, given.out_len,
                     &numbers[0], &numbers[1], &numbers[2]);
     same_number(got, number, "the answer", label);
@@ -286,20 +280,27 @@ void frame_gives(uint32_t number, const char *label)
 
 void wait_gives(uint32_t us, uint32_t number, const char *label)
 {
+    const struct gwo_record *r = &given.record;
     uint8_t *state = place(&lent_state, given.state, given.state_len);
+    uint32_t got;
 
     rig_calls++;
-    same_number(gwo_record_wait(&given.record, state, given.state_len, us), number, "the answer to a wait", label);
+    got = gwo_wait(r->model, r->status_us, r->page_us, r->sector_us, r->block_us, r->chip_us, r->half_us,
+                   r->sleep_us, r->wake_us, r->sign_us, state, given.state_len, us);
+    same_number(got, number, "the answer to a wait", label);
     same_placed(state, wanted_state, given.state_len, "state", label);
 }
 
 void power_cycle_gives(uint32_t number, const char *label)
 {
+    const struct gwo_record *r = &given.record;
     uint8_t *state = place(&lent_state, given.state, given.state_len);
+    uint32_t got;
 
     rig_calls++;
-    same_number(gwo_record_power_cycle(&given.record, state, given.state_len), number, "the answer to a power cycle",
-                label);
+    got = gwo_power_cycle(r->model, r->status_us, r->page_us, r->sector_us, r->block_us, r->chip_us, r->half_us,
+                          r->sleep_us, r->wake_us, r->sign_us, state, given.state_len);
+    same_number(got, number, "the answer to a power cycle", label);
     same_placed(state, wanted_state, given.state_len, "state", label);
 }
 

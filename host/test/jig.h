@@ -37,6 +37,7 @@ struct condition {
     unsigned srwd, bp, wel, asleep;
     uint32_t busy_us;
     unsigned config;
+    uint32_t settling_us;
 };
 
 /* Bit 3 of the configuration register: the protected blocks are the lowest. */
@@ -66,9 +67,6 @@ void jig_model(uint32_t model);
 
 /* The next call of the same chip: state and cells as the last one left them, an empty frame. */
 void jig_next(void);
-
-/* The longest of the given record's times. */
-uint32_t longest_us(void);
 
 void jig_state(struct condition c);
 
@@ -101,7 +99,8 @@ void want_cells_driven(uint32_t from, uint32_t address);
 
 /*
  * Make the call, and compare the answer and every lent byte; but of 16 MiB only the cells around the address
- * (rig.h) and those that are wanted otherwise. jig_whole compares all of them.
+ * (rig.h) and those that are wanted otherwise. jig_whole compares all of them. It is the call itself, for the
+ * functions on a record (gwo.h) put a bench value where a time is 0.
  */
 void frame_gives(uint32_t number, const char *label);
 void wait_gives(uint32_t us, uint32_t number, const char *label);

@@ -39,15 +39,48 @@ struct lent lend(size_t room)
     return l;
 }
 
-uint32_t longest(const struct gwo_record *r)
+static uint32_t largest(const uint32_t *us, int n)
 {
-    const uint32_t us[6] = {r->status_us, r->page_us, r->sector_us, r->block_us, r->chip_us, r->half_us};
     uint32_t most = 0;
     int i;
 
-    for (i = 0; i < 6; i++)
+    for (i = 0; i < n; i++)
         most = us[i] > most ? us[i] : most;
     return most;
+}
+
+uint32_t longest_busy(const struct gwo_record *r)
+{
+    const uint32_t us[6] = {r->status_us, r->page_us, r->sector_us, r->block_us, r->chip_us, r->half_us};
+
+    return largest(us, 6);
+}
+
+uint32_t longest_settling(const struct gwo_record *r)
+{
+    const uint32_t us[3] = {r->sleep_us, r->wake_us, r->sign_us};
+
+    return largest(us, 3);
+}
+
+uint32_t longest(const struct gwo_record *r)
+{
+    const uint32_t us[2] = {longest_busy(r), longest_settling(r)};
+
+    return largest(us, 2);
+}
+
+void put_us(uint8_t *p, uint32_t us)
+{
+    int i;
+
+    for (i = 0; i < 4; i++)
+        p[i] = (uint8_t)(us >> 8 * i);
+}
+
+uint32_t get_us(const uint8_t *p)
+{
+    return (uint32_t)p[0] | (uint32_t)p[1] << 8 | (uint32_t)p[2] << 16 | (uint32_t)p[3] << 24;
 }
 
 struct stretch around(size_t address, size_t length)

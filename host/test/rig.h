@@ -31,8 +31,15 @@ struct stretch {
 
 struct stretch around(size_t address, size_t length);
 
-/* The longest of a record's times; the sixth is 0 where it does not count. */
+/* The longest of a record's busy times, the sixth being 0 where it does not count; of its settling times; of all. */
+uint32_t longest_busy(const struct gwo_record *r);
+uint32_t longest_settling(const struct gwo_record *r);
 uint32_t longest(const struct gwo_record *r);
+
+/* A time in a packed state, busy from byte 4 and settling from byte 8 on: four bytes, the low one first. */
+enum { BUSY_AT = 4, SETTLING_AT = 8 };
+void put_us(uint8_t *p, uint32_t us);
+uint32_t get_us(const uint8_t *p);
 
 /* The bytes of the three numbers that are lent with a frame: the first driven position, the count, the fold. */
 enum { NUMBERS = 12 };

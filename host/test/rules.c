@@ -20,6 +20,7 @@ static const struct {
     {"refused in order", refused_in_order},
     {"lengths and tails", lengths_and_tails},
     {"state commands", state_commands},
+    {"falling asleep and waking", falling_asleep_and_waking},
     {"configuration register", configuration},
     {"reading commands", reading_commands},
     {"erasing", erasing},

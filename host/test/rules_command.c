@@ -1,4 +1,4 @@
-/* 01, Numbers returned: 11 to 13 and 15 to 17; and what model 3 changes of them. */
+/* 01, Numbers returned: 22, 11 to 13 and 15 to 17; and what model 3 changes of them. */
 #include "jig.h"
 #include "rules.h"
 
@@ -19,10 +19,31 @@ static const char *byte_of(const char *what, uint32_t model, unsigned command, s
                  (unsigned long)tail);
 }
 
+/* Settling: every command, 05, 15 and AB among them, known or not, whatever its length and tail, awake and asleep. */
+static void number_22(uint32_t model)
+{
+    const struct condition waking = {0, 0, 1, 0, 0, 0, 1}, dozing = {1, 3, 0, 1, 0, 0, longest_settling(&given.record)};
+    unsigned command, k;
+    size_t length;
+
+    for (command = 0; command < 256; command++) {
+        for (length = 1; length <= 6; length++) {
+            for (k = 0; k < 4; k++) {
+                jig_model(model);
+                jig_state(k % 2 == 0 ? waking : dozing);
+                jig_filled((uint8_t)command, length, 0);
+                given.tail = k / 2 * (uint32_t)(command + length) % 8;
+                given.wp = command % 2;
+                frame_gives(22, byte_of("settling", model, command, length, given.tail));
+            }
+        }
+    }
+}
+
 /* Busy: every command but 05, and on model 3 15, known or not, whatever its length and tail. */
 static void number_11(uint32_t model)
 {
-    const struct condition busy = {0, 0, 1, 0, 1, 0}, locked = {1, 3, 1, 0, longest_us(), 0};
+    const struct condition busy = {0, 0, 1, 0, 1, 0, 0}, locked = {1, 3, 1, 0, longest_busy(&given.record), 0, 0};
     unsigned command;
     size_t length;
 
@@ -42,7 +63,7 @@ static void number_11(uint32_t model)
 
 static void status_while_busy(uint32_t model)
 {
-    static const struct condition c = {1, 2, 1, 0, 77, 0};
+    static const struct condition c = {1, 2, 1, 0, 77, 0, 0};
 
     jig_model(model);
     jig_state(c);
@@ -55,7 +76,7 @@ static void status_while_busy(uint32_t model)
 /* Asleep: every command but AB, 15 among them; an unknown one too, and it wakes nothing. */
 static void number_12(uint32_t model)
 {
-    static const struct condition asleep = {0, 0, 0, 1, 0, 0}, enabled_asleep = {1, 1, 1, 1, 0, 0};
+    static const struct condition asleep = {0, 0, 0, 1, 0, 0, 0}, enabled_asleep = {1, 1, 1, 1, 0, 0, 0};
     unsigned command;
     size_t length;
 
@@ -97,7 +118,7 @@ static void number_15(uint32_t model)
 
     for (i = 0; i < n; i++) {
         for (k = 0; k < 4 * (part_of(model)->highest_bp + 1); k++) {
-            const struct condition c = {k % 2, k / 4, 0, 0, 0, 0};
+            const struct condition c = {k % 2, k / 4, 0, 0, 0, 0, 0};
 
             jig_model(model);
             jig_state(c);
@@ -119,7 +140,7 @@ static void number_16(uint32_t model, const char *frame, struct condition after)
     for (srwd = 0; srwd < 2; srwd++) {
         for (bp = 0; bp <= part_of(model)->highest_bp; bp++) {
             for (i = 0; i < sizeof levels / sizeof levels[0]; i++) {
-                const struct condition before = {srwd, bp, 1, 0, 0, 0};
+                const struct condition before = {srwd, bp, 1, 0, 0, 0, 0};
                 int locked = srwd == 1 && levels[i] == 0;
 
                 jig_model(model);
@@ -143,7 +164,7 @@ static void number_17(uint32_t model, unsigned config, const char *const frames[
 
     for (i = 0; i < 8; i++) {
         for (k = 0; k < 4 * part_of(model)->highest_bp; k++) {
-            const struct condition c = {k % 2, 1 + k / 4, 1, 0, 0, config};
+            const struct condition c = {k % 2, 1 + k / 4, 1, 0, 0, config, 0};
 
             jig_model(model);
             jig_state(c);
@@ -164,11 +185,12 @@ static const char *const at_the_bottom[8] = {"0200000000", "0200FFFF0102", "2000
 
 void refused_by_command(void)
 {
-    static const struct condition bp_1 = {0, 1, 1, 0, 0, 0}, bp_1_config_53 = {0, 1, 1, 0, 0, 0x53};
+    static const struct condition bp_1 = {0, 1, 1, 0, 0, 0, 0}, bp_1_config_53 = {0, 1, 1, 0, 0, 0x53, 0};
     uint32_t model;
 
     for (model = 1; model <= MODELS; model++) {
         jig_model(model);
+        number_22(model);
         number_11(model);
         status_while_busy(model);
         number_12(model);

@@ -49,7 +49,7 @@ static void reads(void)
     unsigned k;
 
     for (k = 0; k < 64; k++) {
-        struct condition c = {k % 2, k % 16, k / 2 % 2, 0, 0, register_of(k)};
+        struct condition c = {k % 2, k % 16, k / 2 % 2, 0, 0, register_of(k), 0};
 
         read_register(c);
         c.wel = 1;
@@ -66,7 +66,7 @@ static void fast_reads(void)
     unsigned k;
 
     for (k = 0; k < 64; k++) {
-        const struct condition c = {0, 0, 0, 0, 0, register_of(k)};
+        const struct condition c = {0, 0, 0, 0, 0, register_of(k), 0};
 
         jig_model(3);
         jig_state(c);
@@ -76,10 +76,11 @@ static void fast_reads(void)
     }
 }
 
-/* 15 on a chip in each condition: asleep it is 12 everywhere; only model 3 knows it. */
+/* 15 on a chip in each condition: asleep it is 12 everywhere, settling 22; only model 3 knows it. */
 static void reads_refused(uint32_t model)
 {
-    static const struct condition asleep = {0, 1, 1, 1, 0, 0}, busy = {0, 1, 1, 0, 5, 0};
+    static const struct condition asleep = {0, 1, 1, 1, 0, 0, 0}, busy = {0, 1, 1, 0, 5, 0, 0},
+                                  settling = {0, 1, 1, 0, 0, 0, 5};
     size_t length;
 
     for (length = 1; length <= 6; length++) {
@@ -87,6 +88,8 @@ static void reads_refused(uint32_t model)
         jig_state(asleep);
         jig_filled(0x15, length, 0);
         frame_gives(12, named("model %lu: 15 asleep", (unsigned long)model));
+        jig_state(settling);
+        frame_gives(22, named("model %lu: 15 while settling", (unsigned long)model));
         if (model == 3)
             continue;
         jig_state(busy);
@@ -99,7 +102,7 @@ static void reads_refused(uint32_t model)
 /* 01 with so many data bytes, accepted by model 3. */
 static void write_gives(struct condition before, size_t n, unsigned status, unsigned config)
 {
-    struct condition after = {status >> 7, status >> 2 & 15, 1, 0, bench(3).status_us, before.config};
+    struct condition after = {status >> 7, status >> 2 & 15, 1, 0, bench(3).status_us, before.config, 0};
 
     if (n == 2)
         after.config = written(before.config, config);
@@ -119,7 +122,7 @@ static void writes(void)
     unsigned k, byte;
 
     for (k = 0; k < 64; k++) {
-        const struct condition before = {k / 32, k % 16, 1, 0, 0, register_of(k)};
+        const struct condition before = {k / 32, k % 16, 1, 0, 0, register_of(k), 0};
 
         for (byte = k % 2; byte < 256; byte += 2) {
             write_gives(before, 1, byte, 0);
@@ -136,7 +139,7 @@ static void write_lengths(uint32_t model)
     static const struct { const char *frame; uint32_t tail; } wrong[] = {
         {"01", 0}, {"01", 7}, {"0100", 1}, {"01FFFFFF", 0}, {"0100000000", 0}, {"010000", 1}, {"01FF08", 7},
         {"01FF08", 0}};
-    const struct condition before = {0, 2, 1, 0, 0, model == 3 ? 0x41 : 0};
+    const struct condition before = {0, 2, 1, 0, 0, model == 3 ? 0x41 : 0, 0};
     size_t i, n = sizeof wrong / sizeof wrong[0] - (model == 3 ? 1 : 0);
 
     for (i = 0; i < n; i++) {
@@ -156,7 +159,7 @@ static void power_cycles(void)
 
     for (k = 0; k < 64; k++) {
         for (busy = 0; busy < 2; busy++) {
-            const struct condition c = {k % 2, k % 16, 1, 0, busy * (1 + k), register_of(k)};
+            const struct condition c = {k % 2, k % 16, 1, 0, busy * (1 + k), register_of(k), 0};
             struct condition after = power_on;
 
             after.srwd = c.srwd;

@@ -83,7 +83,7 @@ static void every_unit_of_model_3(void)
 /* Only with BP 0, wherever TB puts the protected blocks. */
 static void whole_chip(uint32_t model, unsigned bp, unsigned config, const char *frame)
 {
-    const struct condition c = {0, bp, 1, 0, 0, config}, busy = {0, bp, 1, 0, bench(model).chip_us, config};
+    const struct condition c = {0, bp, 1, 0, 0, config, 0}, busy = {0, bp, 1, 0, bench(model).chip_us, config, 0};
 
     jig_model(model);
     jig_state(c);

@@ -54,14 +54,16 @@ static void every_high_byte(uint32_t model)
 /* What is wrong with a program at the last address, by the number that refuses it; BP 3 protects the last block. */
 static void spoil(uint32_t model, uint32_t number)
 {
-    static const struct condition busy = {0, 0, 1, 0, 1, 0}, asleep = {0, 0, 1, 1, 0, 0}, bp_3 = {0, 3, 1, 0, 0, 0};
+    static const struct condition settling = {0, 0, 1, 0, 0, 0, 1}, busy = {0, 0, 1, 0, 1, 0, 0},
+                                  asleep = {0, 0, 1, 1, 0, 0, 0}, bp_3 = {0, 3, 1, 0, 0, 0, 0};
 
     switch (number) {
     case 1: given.record.page_us = 0; break;
     case 2: given.array_len -= 1; break;
-    case 3: given.state[3] = 1; jig_packed(given.state, 8); break;
+    case 3: given.state[3] = 1; jig_packed(given.state, GWO_STATE_LENGTH); break;
     case 4: given.tail = 8; break;
     case 5: given.out_len = given.frame_len - 1; break;
+    case 22: jig_state(settling); break;
     case 11: jig_state(busy); break;
     case 12: jig_state(asleep); break;
     case 14: given.tail = 1; break;
@@ -73,7 +75,7 @@ static void spoil(uint32_t model, uint32_t number)
 /* Programs that would fold. */
 static void refused_programs(uint32_t model, size_t n)
 {
-    static const uint32_t numbers[] = {1, 2, 3, 4, 5, 11, 12, 14, 15, 17};
+    static const uint32_t numbers[] = {1, 2, 3, 4, 5, 22, 11, 12, 14, 15, 17};
     size_t i;
 
     for (i = 0; i < sizeof numbers / sizeof numbers[0]; i++) {

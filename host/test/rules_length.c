@@ -99,6 +99,7 @@ static void want_row(const struct row *r, uint32_t model)
     after.wel = r->wel;
     after.asleep = r->asleep;
     after.busy_us = us_of(&given.record, r->command);
+    after.settling_us = r->asleep ? given.record.sleep_us : 0;
     want_state(after);
     want_changed(model, r->command);
     if (given.frame_len > r->first)

@@ -4,18 +4,18 @@
 
 /* What makes a number apply, one bit each; a call is refused by the first that applies. */
 enum {
-    RECORD = 1, ARRAY = 2, STATE = 4, FRAME = 8, OUTPUT = 16, EMPTY = 32, BUSY = 64, ASLEEP = 128,
-    UNKNOWN = 256, LENGTH = 512, NOT_ENABLED = 1024, LOCKED = 2048, EVERY = 4095
+    RECORD = 1, ARRAY = 2, STATE = 4, FRAME = 8, OUTPUT = 16, EMPTY = 32, SETTLING = 64, BUSY = 128, ASLEEP = 256,
+    UNKNOWN = 512, LENGTH = 1024, NOT_ENABLED = 2048, LOCKED = 4096, EVERY = 8191
 };
 
 static const struct { unsigned fault; uint32_t number; } ladder[] = {
-    {RECORD, 1}, {ARRAY, 2}, {STATE, 3}, {FRAME, 4}, {OUTPUT, 5}, {EMPTY, 10}, {BUSY, 11}, {ASLEEP, 12},
-    {UNKNOWN, 13}, {LENGTH, 14}, {NOT_ENABLED, 15}, {LOCKED, 0}};
+    {RECORD, 1}, {ARRAY, 2}, {STATE, 3}, {FRAME, 4}, {OUTPUT, 5}, {EMPTY, 10}, {SETTLING, 22}, {BUSY, 11},
+    {ASLEEP, 12}, {UNKNOWN, 13}, {LENGTH, 14}, {NOT_ENABLED, 15}, {LOCKED, 0}};
 
-/* Faults that no call has together: a busy chip is enabled and awake, or else the state is no valid one. */
+/* Faults that no call has together: a busy chip is enabled, awake and settled, or else the state is no valid one. */
 static int together(unsigned faults)
 {
-    return !((faults & BUSY) && (faults & (ASLEEP | NOT_ENABLED)));
+    return !((faults & BUSY) && (faults & (SETTLING | ASLEEP | NOT_ENABLED)));
 }
 
 /* The number: of the first fault; 16 or 17, by the command, when LOCKED is the only one. */
@@ -61,7 +61,8 @@ static void spoil_frame(unsigned faults, unsigned variant)
 static struct condition faulty(uint32_t model, unsigned faults)
 {
     const struct condition c = {faults & LOCKED ? 1 : 0, faults & LOCKED ? part_of(model)->highest_bp : 0,
-                                faults & NOT_ENABLED ? 0 : 1, faults & ASLEEP ? 1 : 0, faults & BUSY ? 1 : 0, 0};
+                                faults & NOT_ENABLED ? 0 : 1, faults & ASLEEP ? 1 : 0, faults & BUSY ? 1 : 0, 0,
+                                faults & SETTLING ? 1 : 0};
 
     return c;
 }
@@ -71,7 +72,7 @@ static void spoil_lent(uint32_t model, unsigned faults, unsigned variant)
     jig_state(faulty(model, faults));
     if (faults & STATE)
         given.state[variant % 2 ? 0 : 3] |= 0x40;
-    jig_packed(given.state, 8);
+    jig_packed(given.state, GWO_STATE_LENGTH);
     if (faults & RECORD)
         *(variant % 2 ? &given.record.chip_us : &given.record.half_us) = variant % 2 ? 0 : 1000000001;
     if (faults & ARRAY)
@@ -101,7 +102,7 @@ static void refused(uint32_t model, size_t command, unsigned faults, unsigned va
     spoil_frame(faults, variant);
     if (number == 17)
         want_state(after_17(model, faulty(model, faults)));
-    frame_gives(number, named("model %lu: %s with faults %03X", (unsigned long)model, lockable[command].frame, faults));
+    frame_gives(number, named("model %lu: %s with faults %04X", (unsigned long)model, lockable[command].frame, faults));
 }
 
 /* Every set of faults that a call can have, on each of the seven commands, the models by turns. */

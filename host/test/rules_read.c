@@ -66,10 +66,11 @@ static void identification(uint32_t model)
     }
 }
 
-/* AB: the signature repeats to the frame's end (000 L369, 002 L498, 003 L696). */
+/* AB: the signature repeats to the frame's end (000 L369, 002 L498, 003 L696); a chip that was asleep drives it too. */
 static void signature(uint32_t model)
 {
-    static const struct condition asleep = {1, 2, 0, 1, 0, 0}, awake = {1, 2, 0, 0, 0, 0};
+    static const struct condition asleep = {1, 2, 0, 1, 0, 0, 0}, awake = {1, 2, 0, 0, 0, 0, 0};
+    struct condition after = awake;
     size_t length;
 
     for (length = 5; length <= 300; length++) {
@@ -77,7 +78,8 @@ static void signature(uint32_t model)
         jig_state(length % 2 ? asleep : awake);
         jig_filled(0xAB, length, (uint8_t)(length * 3));
         given.tail = (uint32_t)length % 8;
-        want_state(awake);
+        after.settling_us = length % 2 ? bench(model).sign_us : 0;
+        want_state(after);
         want_repeated(4, part_of(model)->signature);
         frame_gives(0, named("AB of %lu bytes", (unsigned long)length));
     }

@@ -24,15 +24,16 @@ static void record_gives(uint32_t number, const char *label)
     frame_gives(number, label);
 }
 
-int times_of(uint32_t model)
+int time_counts(uint32_t model, int which)
 {
-    return model == 3 ? 6 : 5;
+    return model == 3 || which != HALF;
 }
 
 uint32_t *time_field(int which)
 {
     struct gwo_record *r = &given.record;
-    uint32_t *const fields[6] = {&r->status_us, &r->page_us, &r->sector_us, &r->block_us, &r->chip_us, &r->half_us};
+    uint32_t *const fields[TIMES] = {&r->status_us, &r->page_us, &r->sector_us, &r->block_us, &r->chip_us,
+                                     &r->half_us, &r->sleep_us, &r->wake_us, &r->sign_us};
 
     return fields[which];
 }
@@ -50,9 +51,9 @@ static void no_model(uint32_t model)
 }
 
 /* A time that counts is 1 to 1,000,000,000; the sixth is 0 on models 1 and 2. */
-static uint32_t time_number(int counts, uint32_t us)
+static uint32_t time_number(uint32_t model, int which, uint32_t us)
 {
-    return (counts ? us >= 1 && us <= 1000000000 : us == 0) ? 0 : 1;
+    return (time_counts(model, which) ? us >= 1 && us <= 1000000000 : us == 0) ? 0 : 1;
 }
 
 static void times(uint32_t model)
@@ -61,11 +62,11 @@ static void times(uint32_t model)
     size_t i;
     int which;
 
-    for (which = 0; which < 6; which++) {
+    for (which = 0; which < TIMES; which++) {
         for (i = 0; i < sizeof us / sizeof us[0]; i++) {
             jig_model(model);
             *time_field(which) = us[i];
-            record_gives(time_number(which < times_of(model), us[i]),
+            record_gives(time_number(model, which, us[i]),
                          named("model %lu, time %d is %lu us", (unsigned long)model, which + 1, (unsigned long)us[i]));
         }
     }
@@ -179,7 +180,8 @@ static void longer_output(void)
 static void number_10(void)
 {
     static const struct condition conditions[] = {
-        {0, 0, 0, 0, 0, 0}, {1, 3, 1, 0, 0, 0}, {0, 0, 0, 1, 0, 0}, {0, 0, 1, 1, 0, 0}, {0, 0, 1, 0, 1, 0}};
+        {0, 0, 0, 0, 0, 0, 0}, {1, 3, 1, 0, 0, 0, 0}, {0, 0, 0, 1, 0, 0, 0}, {0, 0, 1, 1, 0, 0, 0},
+        {0, 0, 1, 0, 1, 0, 0}, {0, 0, 0, 1, 0, 0, 1}, {0, 0, 1, 0, 0, 0, 9}};
     uint32_t model, tail;
     size_t i;
 

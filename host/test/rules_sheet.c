@@ -14,6 +14,16 @@ static struct condition state(unsigned srwd, unsigned bp, unsigned wel, unsigned
     return c;
 }
 
+/* Of a chip that is otherwise as at power-on. */
+static struct condition settling(unsigned asleep, uint32_t us)
+{
+    struct condition c = power_on;
+
+    c.asleep = asleep;
+    c.settling_us = us;
+    return c;
+}
+
 static void given_frame(uint32_t model, struct condition c, const char *frame)
 {
     jig_model(model);
@@ -25,6 +35,14 @@ static void next_frame(const char *frame)
 {
     jig_next();
     jig_frame(frame);
+}
+
+/* A frame on the chip as it is, and the one byte that it drives. */
+static void next_drives(const char *frame, const char *byte, const char *label)
+{
+    next_frame(frame);
+    want_hex(1, byte);
+    frame_gives(0, label);
 }
 
 static void power_on_status(void)
@@ -107,9 +125,30 @@ static void sleeping(void)
     given_frame(1, state(0, 0, 0, 1, 0), "0500");
     frame_gives(12, "deep power-down, 05 00");
     given_frame(1, state(0, 0, 0, 1, 0), "AB00000000");
-    want_state(power_on);
+    want_state(settling(0, 10));
     want_hex(4, "05");
     frame_gives(0, "deep power-down, AB and four bytes drives 05");
+}
+
+/* The same from power-on, with the waits. */
+static void sleeping_with_waits(void)
+{
+    given_frame(1, power_on, "B9");
+    want_state(settling(1, 10));
+    frame_gives(0, "power-on, B9");
+    jig_next();
+    want_state(settling(1, 0));
+    wait_gives(10, 0, "10 us after B9");
+    next_frame("0500");
+    frame_gives(12, "05 00 after the wait");
+    next_frame("AB00000000");
+    want_state(settling(0, 10));
+    want_hex(4, "05");
+    frame_gives(0, "AB and four bytes after the wait drives 05");
+    jig_next();
+    want_state(power_on);
+    wait_gives(10, 0, "10 us after AB and four bytes");
+    next_drives("0500", "00", "05 00 after the second wait");
 }
 
 static void last_cell_then_first(void)
@@ -199,14 +238,6 @@ static void model_3_top_and_bottom(void)
     frame_gives(17, "model 3, TB 1, BP 1: 20 at 0, WEL 0");
 }
 
-/* A frame on the chip as it is, and the one byte that it drives. */
-static void next_drives(const char *frame, const char *byte, const char *label)
-{
-    next_frame(frame);
-    want_hex(1, byte);
-    frame_gives(0, label);
-}
-
 static void model_3_status_and_register(void)
 {
     struct condition c = state(1, 15, 1, 0, 40000);
@@ -241,6 +272,7 @@ void bench_sheet(void)
     status_lock();
     status_8F_then_8C();
     sleeping();
+    sleeping_with_waits();
     last_cell_then_first();
     sector_erase_time();
     last_line();

@@ -41,7 +41,7 @@ static void awake_goes(uint32_t model, const char *frame, struct condition befor
     frame_gives(before.asleep ? 12 : 0, from_state(frame, before));
 }
 
-/* 06 sets WEL, 04 clears it, B9 enters deep power-down: nothing else changes. */
+/* 06 sets WEL, 04 clears it, B9 enters deep power-down and settles: nothing else changes. */
 static void latch_and_sleep(uint32_t model, struct condition before)
 {
     struct condition set = before, cleared = before, asleep = before;
@@ -49,12 +49,16 @@ static void latch_and_sleep(uint32_t model, struct condition before)
     set.wel = 1;
     cleared.wel = 0;
     asleep.asleep = 1;
+    asleep.settling_us = bench(model).sleep_us;
     awake_goes(model, "06", before, set);
     awake_goes(model, "04", before, cleared);
     awake_goes(model, "B9", before, asleep);
 }
 
-/* AB wakes and leaves WEL; the long one drives the signature too; other forms leave the chip asleep. */
+/*
+ * AB wakes and leaves WEL, and a chip that was asleep settles; the long one drives the signature too, in that very
+ * frame; other forms neither wake nor settle.
+ */
 static void waking(uint32_t model, struct condition before)
 {
     static const struct { const char *frame; uint32_t tail, number; } forms[] = {
@@ -70,6 +74,8 @@ static void waking(uint32_t model, struct condition before)
         jig_state(before);
         jig_frame(forms[i].frame);
         given.tail = forms[i].tail;
+        if (before.asleep)
+            awake.settling_us = given.frame_len == 1 ? given.record.wake_us : given.record.sign_us;
         if (forms[i].number == 0)
             want_state(awake);
         if (given.frame_len >= 5)
@@ -108,7 +114,7 @@ static void status_reads(uint32_t model)
         status_read(model, c);
         c.busy_us = c.wel ? 1 + k : 0;
         status_read(model, c);
-        c.busy_us = c.wel ? longest_us() : 0;
+        c.busy_us = c.wel ? longest_busy(&given.record) : 0;
         status_read(model, c);
     }
 }
@@ -116,9 +122,9 @@ static void status_reads(uint32_t model)
 /* 01 takes SRWD and BP from bits 7, 3 and 2, on model 3 from 7 and 5 to 2, ignores the rest, and leaves WEL 1. */
 static void status_write(uint32_t model, unsigned value)
 {
-    const struct condition before = {value % 2, value / 2 % 4, 1, 0, 0, 0};
+    const struct condition before = {value % 2, value / 2 % 4, 1, 0, 0, 0, 0};
     const struct condition after = {value >> 7, (value & (model == 3 ? 0x3C : 0x0C)) / 4, 1, 0, bench(model).status_us,
-                                    0};
+                                    0, 0};
 
     jig_model(model);
     jig_state(before);

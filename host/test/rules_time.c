@@ -1,4 +1,4 @@
-/* 01: a wait lowers the busy time, never below 0; a power cycle keeps SRWD and BP, on model 3 TB too. */
+/* 01: a wait lowers the time left, never below 0; a power cycle keeps SRWD and BP, on model 3 TB too. */
 #include "jig.h"
 #include "rules.h"
 
@@ -40,18 +40,45 @@ static void waits_of_busy(uint32_t model, struct condition c)
     wait_of_busy(model, c, 0xFFFFFFFF);
 }
 
+/* A settling one: less by the wait; WEL and deep power-down stay. */
+static void wait_of_settling(uint32_t model, struct condition c, uint32_t us)
+{
+    struct condition after = c;
+
+    jig_model(model);
+    given.record.wake_us = 1000000000;
+    jig_state(c);
+    after.settling_us = us < c.settling_us ? c.settling_us - us : 0;
+    want_state(after);
+    wait_gives(us, 0, named("wait %lu with %lu to settle", (unsigned long)us, (unsigned long)c.settling_us));
+}
+
+static void waits_of_settling(uint32_t model, struct condition c)
+{
+    wait_of_settling(model, c, 0);
+    wait_of_settling(model, c, 1);
+    wait_of_settling(model, c, c.settling_us / 2);
+    wait_of_settling(model, c, c.settling_us - 1);
+    wait_of_settling(model, c, c.settling_us);
+    wait_of_settling(model, c, c.settling_us + 1);
+    wait_of_settling(model, c, 1000000000);
+    wait_of_settling(model, c, 0xFFFFFFFF);
+}
+
 static void power_cycle_of(uint32_t model, struct condition c)
 {
     struct condition after = power_on;
 
     jig_model(model);
+    given.record.sign_us = 1000000000;
     jig_state(c);
     after.srwd = c.srwd;
     after.bp = c.bp;
     after.config = c.config & TB;
     want_state(after);
-    power_cycle_gives(0, named("power cycle from SRWD %u BP %u WEL %u asleep %u busy %lu register %02X", c.srwd, c.bp,
-                               c.wel, c.asleep, (unsigned long)c.busy_us, c.config));
+    power_cycle_gives(0, named("power cycle from SRWD %u BP %u WEL %u asleep %u busy %lu register %02X settling %lu",
+                               c.srwd, c.bp, c.wel, c.asleep, (unsigned long)c.busy_us, c.config,
+                               (unsigned long)c.settling_us));
 }
 
 /* A register for model 3, by turns. */
@@ -67,7 +94,7 @@ static void of_idle(uint32_t model)
     unsigned k;
 
     for (k = 0; k < 8 * (part_of(model)->highest_bp + 1); k++) {
-        const struct condition c = {k / 4 % 2, k / 8, k / 2 % 2, k % 2, 0, any_register(model, k)};
+        const struct condition c = {k / 4 % 2, k / 8, k / 2 % 2, k % 2, 0, any_register(model, k), 0};
 
         waits_of_idle(model, c);
         power_cycle_of(model, c);
@@ -83,9 +110,26 @@ static void of_busy(uint32_t model)
     for (k = 0; k < 8; k++) {
         for (i = 0; i < sizeof left / sizeof left[0]; i++) {
             unsigned bp = model == 3 ? (k + (unsigned)i) % 16 : k % 4;
-            const struct condition c = {k / 4, bp, 1, 0, left[i], any_register(model, k)};
+            const struct condition c = {k / 4, bp, 1, 0, left[i], any_register(model, k), 0};
 
             waits_of_busy(model, c);
+            power_cycle_of(model, c);
+        }
+    }
+}
+
+static void of_settling(uint32_t model)
+{
+    static const uint32_t left[] = {1, 2, 10, 255, 256, 65535, 65536, 16777216, 999999999, 1000000000};
+    unsigned k;
+    size_t i;
+
+    for (k = 0; k < 8; k++) {
+        for (i = 0; i < sizeof left / sizeof left[0]; i++) {
+            unsigned bp = model == 3 ? (k + (unsigned)i) % 16 : k % 4;
+            const struct condition c = {k / 4, bp, k / 2 % 2, k % 2, 0, any_register(model, k), left[i]};
+
+            waits_of_settling(model, c);
             power_cycle_of(model, c);
         }
     }
@@ -115,7 +159,7 @@ static void longest_time(uint32_t model)
 static void each_time(uint32_t model)
 {
     const struct gwo_record r = {model, 0x11223344, 0x2A3B4C5D, 0x35798642, 0x18273645, 0x3A4F5E6D,
-                                 model == 3 ? 0x2C4E6A81 : 0};
+                                 model == 3 ? 0x2C4E6A81 : 0, 10, 10, 10};
     static const char *const frames[] = {"0100", "0200000000", "20000000", "52000000", "D8000000", "60", "C7"};
     size_t i;
 
@@ -147,6 +191,7 @@ void time_and_power(void)
     for (model = 1; model <= MODELS; model++) {
         of_idle(model);
         of_busy(model);
+        of_settling(model);
         longest_time(model);
         each_time(model);
     }

@@ -85,7 +85,7 @@ static void any_frame_scene(void)
     put_frame(below(&dice, 2), chance(&dice, 60) ? 0 : below(&dice, 8), bytes, n);
 }
 
-/* Waits for a time, or one beside it; or tries something while the chip is busy. */
+/* Waits for a time, or one beside it; or tries something while the chip is busy or settles. */
 static void put_wait_near(unsigned long us)
 {
     if (chance(&dice, 25)) {
@@ -143,14 +143,16 @@ static void status_scene(void)
 static void sleep_scene(void)
 {
     put_text("F\t1\t0\tB9");
+    put_wait_near(10);
     put_text(chance(&dice, 50) ? "F\t1\t0\t9F000000" : "F\t0\t7\tFF");
     put_text(chance(&dice, 50) ? "F\t1\t0\tAB" : "F\t1\t5\tAB0000000000");
+    put_wait_near(10);
     put_text("F\t1\t0\t9000000100000000");
 }
 
 static void time_scene(void)
 {
-    static const unsigned long waits[] = {0, 1, 4999, 5000, 120000, 2000000, 4294967294, 4294967295};
+    static const unsigned long waits[] = {0, 1, 9, 10, 4999, 5000, 120000, 2000000, 4294967294, 4294967295};
 
     if (chance(&dice, 20))
         put_text("P");

@@ -14,7 +14,7 @@
 static const char *const names[KINDS] = {"gwo_frame", "gwo_wait", "gwo_power_cycle"};
 
 /* What the archive was measured to take, in bytes; it may take SPARE more. */
-static const size_t measured[KINDS] = {256, 50, 48};
+static const size_t measured[KINDS] = {288, 160, 160};
 enum { SPARE = 16 };
 
 static size_t limits[KINDS], most[KINDS];
@@ -41,6 +41,7 @@ static void spoil(struct call *c, uint32_t number)
     case 3: c->state[3] = 1; break;
     case 4: c->tail = 8; break;
     case 5: c->out_len -= 1; break;
+    case 22: c->state[8] = 2; break; /* settling for two microseconds */
     case 11: c->state[0] = 3, c->state[4] = 2; break; /* busy for two microseconds */
     case 12: c->state[1] = 1; break;
     case 14: c->tail = 1; break;
@@ -87,8 +88,9 @@ static const struct {
     {{0x20, 0, 0x12, 0x34}, 4, 0, 1}, {{0x52, 0, 0x12, 0x34}, 4, 0, 1}, {{0xD8, 0, 0x12, 0x34}, 4, 0, 1},
     {{0x60}, 1, 0, 1}, {{0xC7}, 1, 0, 1},
     {{0x02}, 261, 1, 1}, {{0x02}, 261, 2, 1}, {{0x02}, 261, 3, 1}, {{0x02}, 261, 4, 1}, {{0x02}, 261, 5, 1},
-    {{0x02}, 0, 10, 1}, {{0x02}, 261, 11, 1}, {{0x02}, 261, 12, 1}, {{0xFF}, 261, 13, 1}, {{0x02}, 261, 14, 1},
-    {{0x02}, 261, 15, 1}, {{0x01}, 2, 16, 1}, {{0x02, 0xFF, 0xFF, 0xFF}, 261, 17, 1},
+    {{0x02}, 0, 10, 1}, {{0x02}, 261, 22, 1}, {{0x05}, 2, 22, 1}, {{0xAB}, 5, 22, 1}, {{0x02}, 261, 11, 1},
+    {{0x02}, 261, 12, 1}, {{0xFF}, 261, 13, 1}, {{0x02}, 261, 14, 1}, {{0x02}, 261, 15, 1}, {{0x01}, 2, 16, 1},
+    {{0x02, 0xFF, 0xFF, 0xFF}, 261, 17, 1},
     {{0x20, 0xFF, 0xFF, 0xFF}, 4, 17, 1}, {{0xC7}, 1, 17, 1},
 };
 
@@ -108,18 +110,33 @@ static void frames(uint32_t model)
     }
 }
 
-/* Waits or power cycles of an idle and of a busy chip: taken, and refused by 1 and 3. */
-static void times(uint32_t model, enum kind kind)
+/* AB of a chip that is asleep. */
+static void wakings(uint32_t model)
 {
-    static const uint32_t numbers[] = {0, 1, 3};
-    int i, busy;
+    static const size_t lengths[] = {1, 5, 65541};
+    int i;
 
     for (i = 0; i < 3; i++) {
-        for (busy = 0; busy < 2; busy++) {
+        struct call c = call_on(model, FRAME);
+
+        frame[0] = 0xAB;
+        c.frame_len = c.out_len = lengths[i];
+        spoil(&c, 12);
+        measure(&c, 0);
+    }
+}
+
+/* Waits or power cycles of an idle, of a busy and of a settling chip: taken, and refused by 1 and 3. */
+static void times(uint32_t model, enum kind kind)
+{
+    static const uint32_t numbers[] = {0, 1, 3}, chips[] = {0, 11, 22};
+    int i, k;
+
+    for (i = 0; i < 3; i++) {
+        for (k = 0; k < 3; k++) {
             struct call c = call_on(model, kind);
 
-            if (busy)
-                spoil(&c, 11);
+            spoil(&c, chips[k]);
             spoil(&c, numbers[i]);
             for (c.us = 0; c.us <= 2; c.us++)
                 measure(&c, numbers[i]);
@@ -141,6 +158,7 @@ int main(int argc, char **argv)
         limits[k] = argc > 1 ? strtoul(argv[1 + k], NULL, 10) : measured[k] + SPARE;
     for (model = 1; model <= 3; model++) {
         frames(model);
+        wakings(model);
         times(model, WAIT);
         times(model, POWER_CYCLE);
     }

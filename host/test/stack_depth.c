@@ -32,8 +32,9 @@ static void make_frame(void)
     uint32_t from, count, fold;
 
     answered = called_frame(r->model, r->status_us, r->page_us, r->sector_us, r->block_us, r->chip_us, r->half_us,
-                            state, sizeof state, now->array, now->array_len, now->frame, now->frame_len,
-                            now->tail, now->wp, now->out, now->out_len, &from, &count, &fold);
+                            r->sleep_us, r->wake_us, r->sign_us, state, sizeof state, now->array, now->array_len,
+                            now->frame, now->frame_len, now->tail, now->wp, now->out, now->out_len,
+                            &from, &count, &fold);
 }
 
 static void make_wait(void)
@@ -41,7 +42,7 @@ static void make_wait(void)
     const struct gwo_record *r = &now->record;
 
     answered = called_wait(r->model, r->status_us, r->page_us, r->sector_us, r->block_us, r->chip_us, r->half_us,
-                           state, sizeof state, now->us);
+                           r->sleep_us, r->wake_us, r->sign_us, state, sizeof state, now->us);
 }
 
 static void make_power_cycle(void)
@@ -49,7 +50,7 @@ static void make_power_cycle(void)
     const struct gwo_record *r = &now->record;
 
     answered = called_power_cycle(r->model, r->status_us, r->page_us, r->sector_us, r->block_us, r->chip_us,
-                                  r->half_us, state, sizeof state);
+                                  r->half_us, r->sleep_us, r->wake_us, r->sign_us, state, sizeof state);
 }
 
 /* From the top of the painted stack to the deepest byte that the call has written. */

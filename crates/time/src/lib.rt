@@ -42,38 +42,43 @@ fn cycle(st: State) -> State
     }
 }
 
-// The next state, where the record and the state given are valid.
-fn if_valid(rec: Record, st: State, next: State) -> After
-    ensures { λ r. ⌜ r ≡ ifValid rec st next ⌝ }
+// 1 or 3, where the record or the state is not valid; otherwise 0.
+fn refusal(rec: Record, st: State) -> Answer
+    ensures { λ r. ⌜ r ≡ ifValid rec st st .answer ⌝ }
 {
     if !states::record_ok(rec) {
-        return After {
-            answer: Answer::BadRecord,
-            state: st,
-        };
+        return Answer::BadRecord;
     }
     if !states::state_ok(rec, st) {
-        return After {
-            answer: Answer::BadState,
-            state: st,
-        };
+        return Answer::BadState;
     }
-    After {
-        answer: Answer::Done,
-        state: next,
-    }
+    Answer::Done
 }
 
 // Any wait, of any record and state.
 pub fn wait(rec: Record, st: State, us: u32) -> After
     ensures { λ r. ⌜ r ≡ waitOf rec st us ⌝ }
 {
-    if_valid(rec, st, rested(st, us))
+    let answer = refusal(rec, st);
+    if answers::is_done(answer) {
+        return After {
+            answer,
+            state: rested(st, us),
+        };
+    }
+    After { answer, state: st }
 }
 
 // Any power cycle.
 pub fn power_cycle(rec: Record, st: State) -> After
     ensures { λ r. ⌜ r ≡ powerOf rec st ⌝ }
 {
-    if_valid(rec, st, cycle(st))
+    let answer = refusal(rec, st);
+    if answers::is_done(answer) {
+        return After {
+            answer,
+            state: cycle(st),
+        };
+    }
+    After { answer, state: st }
 }

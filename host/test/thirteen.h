@@ -1,6 +1,6 @@
-/* The two halves of twelve.c. */
-#ifndef TWELVE_H
-#define TWELVE_H
+/* The two halves of thirteen.c. */
+#ifndef THIRTEEN_H
+#define THIRTEEN_H
 
 #include "gwo.h"
 #include "rig.h"
@@ -8,7 +8,7 @@
 /* One run of the calls. */
 struct run {
     struct gwo_record record;
-    uint8_t before[8];
+    uint8_t before[GWO_STATE_LENGTH];
     uint32_t address; /* of the array, or an image of it above */
     const uint8_t *bytes;
     size_t n;
@@ -18,12 +18,12 @@ struct run {
 /* How many there were. */
 extern unsigned long runs;
 
-void put_state(uint8_t *p, unsigned status, unsigned asleep, unsigned config, uint32_t busy);
+void put_state(uint8_t *p, unsigned status, unsigned asleep, unsigned config, uint32_t busy, uint32_t settling);
 
 /* The array of a model: random cells. */
 void lend_array(uint32_t model);
 
-/* The twelve calls as they are, and with each of the four waits one microsecond shorter. */
+/* The thirteen calls as they are, and with each of the five waits one microsecond shorter. */
 void run_all_ways(struct run r);
 
 /* Every cell of a model's array is as it was before the runs. */

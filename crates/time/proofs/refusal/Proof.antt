@@ -1,12 +1,12 @@
--- `time::if_valid` meets its contract. Assumes nothing.
+-- `time::refusal` meets its contract. Assumes nothing.
 use mathlib.Core.Path.{_≡_, sym, _∙_}
 use mathlib.Core.Bool.{true, false}
 use borrow.Author.Tests.{not-true, not-false}
 use Rattle.states.specs.States.{recordOk, stateOk}
 use Rattle.time.specs.Time.{ifValid}
 use borrow.Author.Needs.{needs}
-use Rattle.time.proofs.if_valid.Statement.{statement}
-use Rattle.time.proofs.if_valid.Tie as tie
+use Rattle.time.proofs.refusal.Statement.{statement}
+use Rattle.time.proofs.refusal.Tie as tie
 
 returns : tie.Need-returns
 unfolding ifValid
@@ -28,6 +28,6 @@ returns-3 c =
     let f : stateOk (c .before .before .before .before .args .rec) (c .before .before .before .before .args .st) ≡ true = sym (c .before .state-ok .ensures) ∙ not-false _ (c .if2 .left) in
     rw (e, f)
 
-pub if-valid-spec : {M : Type 1} → statement M
-if-valid-spec =
+pub refusal-spec : {M : Type 1} → statement M
+refusal-spec =
     tie.close (tie.spec (λ c κs. search needs) returns (λ c κs. search needs) returns-2 returns-3)
