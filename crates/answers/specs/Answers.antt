@@ -1,4 +1,4 @@
--- The answers and their numbers: 01, "Numbers returned, in order of checking". Assumes nothing.
+-- The answers and their numbers: 01, "Numbers returned, in order of checking", and Req 04. Assumes nothing.
 use mathlib.Core.Bool.{Bool}
 use Prim.Native.Nat.{ℕ}
 use lib.Dec.{eqb}

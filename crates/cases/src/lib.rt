@@ -3,7 +3,7 @@
 // A line is a step, or a step, `|` and a note. F, W and P are the steps of a script. The others are a letter, a tab and bytes in hex,
 // with numbers and addresses of three bytes, high byte first:
 //   M  model, n: a fresh chip of that model at power-on, its array n blocks of 65,536 cells, all FF; without a note
-//   S  status byte, deep power-down flag, busy time, time still to settle: the state, BP in bits 2 to 6
+//   S  status byte, deep power-down flag, busy time, time still to settle (0 where it is left out): the state, BP in bits 2 to 6
 //   C  address, eight bytes: eight cells from the address on
 //   L  address: from now on rows show the eight cells from there on
 //   X  count, room, tail, byte, eight bytes: a frame of count bytes, the eight and then the byte over and over, with room bytes of output

@@ -1,4 +1,4 @@
--- The table in stages, for the code: rows 1 to 5, and what the frame says: rows 10 and 22 to 14, and 15 to 17. proofs/Stages.antt shows that they are
+-- The table in stages, for the code: rows 1 to 5, and what the frame says: rows 10, 22 and 11 to 14, and 15 to 17. proofs/Stages.antt shows that they are
 -- the one table.
 -- Assumes nothing.
 use lib.ListN.{take, drop}

@@ -91,7 +91,7 @@ fn allowed(rec: Record, st: State, head: Head, t: Traits) -> Answer
     Answer::Done
 }
 
-// 10 to 17: the first refusal that applies to a frame that 1 to 5 let pass, and Done where none does.
+// 10, 22 and 11 to 17: the first refusal that applies to a frame that 1 to 5 let pass, and Done where none does.
 pub fn said(rec: Record, st: State, head: Head) -> Answer
     ensures { λ r. ⌜ r ≡ saidOf rec st head ⌝ }
 {

@@ -1,4 +1,4 @@
--- The packed state: 01, "Record, state, frame", last paragraph. Assumes nothing.
+-- The packed state: 01, "Record, state, frame", last paragraph, and Req 04. Assumes nothing.
 use mathlib.Core.Bool.{Bool, true, false, _&&_, cond}
 use mathlib.Core.Path.{_≡_}
 use mathlib.Core.List.{List, [], _∷_, _++_}

@@ -1,4 +1,4 @@
--- The bench sheet's cases marked ●: 01, "Bench sheet", and those of model 3 (003 L285-323, L803, L505, L840-864). One table, and one statement
+-- The bench sheet's cases marked ●: 01, "Bench sheet", those of model 3 (003 L285-323, L803, L505, L840-864) and the times of sleep (Req 04). One table, and one statement
 -- over it. Assumes nothing.
 use mathlib.Core.Path.{_≡_}
 use mathlib.Core.Bool.{Bool, true, false, cond}
@@ -89,7 +89,7 @@ waking left = record { srwd = false; bp = 0; config = 0; wel = false; asleep = f
 abbrev pub blank : List ℕ
 blank = replicate 300 0xAA
 
--- a case with no wait that looks at no cell and leaves the register, which has no more than TB, as it is
+-- a case with no wait that looks at no cell and leaves the time to settle and the register, which has no more than TB, as it is
 abbrev pub simple : ℕ → State → Sent → ℕ → ℕ → List ℕ → ℕ → Case
 simple model state sent answer from drives status =
     record {
@@ -196,7 +196,7 @@ sleepCases =
     ∷ settles 2 (waking 0) (frame (0xAB ∷ []) blank) 0 [] 0
     ∷ []
 
--- what is model 3's own
+-- what is model 3's own, and that 15 is not model 1's
 abbrev pub largeCases : List Case
 largeCases =
     -- model 3, TB 0, BP 1, WEL 1: 20 at FEFFFF is 0, at FF0000 is 17, and WEL is 0

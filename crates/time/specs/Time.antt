@@ -8,7 +8,7 @@ use Rattle.states.specs.declared.State.{State}
 use Rattle.answers.specs.declared.Answer.the-variants.{Done, BadRecord, BadState}
 use Rattle.time.specs.declared.After.{After}
 
--- the busy time and what is left to settle fall, never below 0; when it goes from above 0 to 0, WEL clears
+-- the busy time and what is left to settle fall, never below 0; when the busy time goes from above 0 to 0, WEL clears
 unfoldable pub later : State → ℕ → State
 later s us =
     record { srwd = s .srwd; bp = s .bp; config = s .config; wel = s .wel && (eqb (s .busy) 0 || ltb us (s .busy)); asleep = s .asleep; busy = s .busy - us; settle = s .settle - us }
