@@ -130,6 +130,15 @@ pageOk n s page = eqb (length page) 256 && allAre 0xFF (drop (usedOf n s) page)
 abbrev pub blankPage : List ℕ
 blankPage = replicate 256 0xFF
 
+-- what lies between two calls: the chip's state, its page data and its array
+pub record Chip : Type 0 where
+  pub state : State
+  pub page : List ℕ
+  pub cells : List ℕ
+
+abbrev pub chipOf : State → List ℕ → List ℕ → Chip
+chipOf s page cells = record { state = s; page = page; cells = cells }
+
 -- 128·SRWD + 4·BP + 2·WEL + WIP, and WIP is 1 exactly when busy time is left (000 L250-253, 004 M289, 003 L813-816)
 abbrev pub flag : Bool → ℕ → ℕ
 flag true value = value

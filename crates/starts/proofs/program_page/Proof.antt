@@ -1,44 +1,50 @@
--- `changes::program_page` meets its contract. Assumes nothing.
-use mathlib.Core.Path.{ap, _∙_}
+-- `starts::program_page` meets its contract. Assumes nothing.
+use mathlib.Core.Path.{_≡_, ap, _∙_}
 use mathlib.Core.List.{List}
 use Prim.Native.Nat.{ℕ}
-use lib.ListN.{length}
-use Rattle.units.specs.Kinds.{pageOffset}
-use Rattle.fold.specs.Fold.{folds}
-use Rattle.states.specs.declared.State.{State}
-use Rattle.flash.specs.Arrays.{programmed}
-use Rattle.effects.specs.Effects.{folding, working, programPage}
-use Rattle.effects.proofs.Replies.{tail-drop}
-use Rattle.changes.proofs.Fits.{page-fits}
+use lib.ListN.{length, getD, drop}
+use denote.Ref.{now}
 use borrow.Author.Needs.{needs}
-use Rattle.changes.proofs.program_page.Statement.{statement}
-use Rattle.changes.proofs.program_page.Tie as tie
-
-program-requires : tie.Need-program-requires
-program-requires c κs = page-fits (c .before .before .before .before .args .rec) (c .before .before .before .before .args .array .now) (c .before .before .before .before .args .at) (c .before .before .before .before .pre .0) (c .before .before .before .before .pre .1)
+use Rattle.units.specs.Kinds.{pageOffset}
+use Rattle.fold.specs.Fold.{folds, pageAfter}
+use Rattle.states.specs.declared.State.{State}
+use Rattle.effects.specs.Effects.{folding, starting, programPage}
+use Rattle.effects.proofs.Replies.{tail-drop}
+use Rattle.starts.proofs.program_page.Statement.{statement}
+use Rattle.starts.proofs.program_page.Tie as tie
 
 returns : tie.Need-returns
 unfolding programPage
 returns c =
-    let p = c .before .before .before .before in
-    let given = p .before .before .before .before .before .args in
-    let rest = tail-drop 4 (given .bytes .now) in
+    let b = c .before .before in
+    let t = b .before in
+    let k = t .before .before .before in
+    let o = k .before .before in
+    let given = o .before .before .before .before .args in
+    let bytes = now (given .bytes) in
+    let rest = tail-drop 4 bytes in
     record {
       reply =
           c .taken .ensures
-          ∙ ap (λ (s : State). folding s (p .program .result)) (c .before .work .ensures)
-          ∙ ap (folding (working (given .st) (given .rec .page))) (p .program .ensures .1 ∙ ap (λ (b : List ℕ). folds (pageOffset (given .at)) (length b)) rest);
-      cells = p .program .ensures .0 ∙ ap (programmed (given .array .now) (given .at)) rest;
+          ∙ ap (λ (s : State). folding s (k .program-page .result))
+          (c .before .start .ensures
+          ∙ ap (λ (x : ℕ). starting (given .st) x (given .at .0) (t .operation-time .result)) (b .byte-at .ensures)
+          ∙ ap (λ (x : ℕ). starting (given .st) (getD bytes 0 0) (given .at .0) x) (t .operation-time .ensures))
+          ∙ ap (folding _) (k .program-page .ensures .1 ∙ ap (λ (z : List ℕ). folds (o .page-offset .result) (length z)) rest ∙ ap (λ (p : ℕ). folds p (length (drop 4 bytes))) (o .page-offset .ensures));
+      page-is = k .program-page .ensures .0 ∙ ap (λ (z : List ℕ). pageAfter (o .page-offset .result) z (now (given .page))) rest ∙ ap (λ (p : ℕ). pageAfter p (drop 4 bytes) (now (given .page))) (o .page-offset .ensures);
     }
 
 pub program-page-spec : {M : Type 1} → statement M
 program-page-spec =
     tie.close
     (tie.spec
+    (λ c κs. search needs)
     (λ c. search needs)
     (λ c. search needs)
     (λ c. search needs)
-    program-requires
+    (λ c κs. search needs)
+    (λ c κs. search needs)
+    (λ c κs. search needs)
     (λ c κs. search needs)
     (λ c κs. search needs)
     (λ c. search needs)
