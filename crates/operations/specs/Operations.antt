@@ -135,6 +135,18 @@ cutBits n ErasesHalf s page pattern = s
 cutBits n ErasesBlock s page pattern = s
 cutBits n ErasesChip s page pattern = s
 
+-- the chip that it leaves, before it is powered again
+unfoldable pub tornChip : ℕ → Chip → List ℕ → Chip
+tornChip n x pattern =
+    let s : State = x .state in
+    chipOf (cutBits n (runs n s) s (x .page) pattern) blankPage (cutCells (runs n s) (place s) (x .page) pattern (x .cells))
+
+-- what a function's result and its lent buffers at exit have to be
+pub record Left (x : Chip) (s : State) (page cells : List ℕ) : Type 0 where
+  pub state-is : s ≡ x .state
+  pub page-is : page ≡ x .page
+  pub cells-are : cells ≡ x .cells
+
 -- what the functions ask of a chip whose operation finishes or is cut: its address fits, and there are 256 page data bytes
 pub record Ready (n : ℕ) (s : State) (page cells : List ℕ) : Type 0 where
   pub whole : length cells ≡ modelOf n .length

@@ -4,8 +4,8 @@ ghost use mathlib.Core.Bool.{true};
 ghost use Prim.Native.Nat.{_≤_};
 ghost use lib.ListN.{length};
 ghost use Rattle.models.specs.Models.{modelOf};
-ghost use Rattle.states.specs.States.{placeOk};
-ghost use Rattle.operations.specs.Operations.{finishedCells, configWritten, configAfter, keeping, written, finishedBits, runs, place, patternLength, cutCells, tornBits, cutBits, bitsOf};
+ghost use Rattle.states.specs.States.{placeOk, chipOf};
+ghost use Rattle.operations.specs.Operations.{Ready, Left, forgotten, finished, tornChip, finishedCells, configWritten, configAfter, keeping, written, finishedBits, runs, patternLength, cutCells, tornBits, cutBits, bitsOf};
 use commands::Operation;
 use states::State;
 use units::Address;
@@ -13,7 +13,7 @@ use units::Address;
 // ---- it has finished
 
 // The cells after it.
-pub fn finish_cells(model: u32, op: Operation, at: Address, page: &[u8], array: &mut [u8])
+fn finish_cells(model: u32, op: Operation, at: Address, page: &[u8], array: &mut [u8])
     requires { ⌜ (length (now array) ≡ modelOf model .length) × (placeOk model op (at .0) ≡ true) × (length (now page) ≡ 256) ⌝ }
     ensures { λ _. ⌜ now (array .exit) ≡ finishedCells op at (now (page .entry)) (now (array .entry)) ⌝ }
 {
@@ -74,7 +74,7 @@ fn write(model: u32, st: State, page: &[u8]) -> State
 }
 
 // The kept bits after it.
-pub fn finish_bits(model: u32, op: Operation, st: State, page: &[u8]) -> State
+fn finish_bits(model: u32, op: Operation, st: State, page: &[u8]) -> State
     ensures { λ r. ⌜ r ≡ finishedBits model op st (now (page .entry)) ⌝ }
 {
     match op {
@@ -86,6 +86,30 @@ pub fn finish_bits(model: u32, op: Operation, st: State, page: &[u8]) -> State
         Operation::ErasesBlock => st,
         Operation::ErasesChip => st,
     }
+}
+
+// The operation is forgotten, and WEL clears.
+fn forget(st: State) -> State
+    ensures { λ r. ⌜ r ≡ forgotten st ⌝ }
+{
+    let mut next = st;
+    next.wel = false;
+    next.busy = 0;
+    next.command = 0xFF;
+    next.address = 0xFFFFFF;
+    next
+}
+
+// The operation's time has run out: its cells and kept bits change, and it is forgotten.
+pub fn finish(model: u32, st: State, page: &mut [u8], array: &mut [u8]) -> State
+    requires { ⌜ Ready model st (now page) (now array) ⌝ }
+    ensures { λ r. ⌜ Left (finished model (chipOf st (now (page .entry)) (now (array .entry)))) r (now (page .exit)) (now (array .exit)) ⌝ }
+{
+    let op = commands::started_by(model, st.command);
+    finish_cells(model, op, Address(st.address), page, array);
+    let kept = finish_bits(model, op, st, page);
+    parts::fill(page, 0xFF);
+    forget(kept)
 }
 
 // ---- the power was cut
@@ -106,14 +130,7 @@ pub fn pattern_length(op: Operation, count: u32, n: usize) -> usize
 }
 
 // The cells that it leaves.
-pub fn cut_cells(
-    model: u32,
-    op: Operation,
-    at: Address,
-    page: &[u8],
-    pattern: &[u8],
-    array: &mut [u8],
-)
+fn cut_cells(model: u32, op: Operation, at: Address, page: &[u8], pattern: &[u8], array: &mut [u8])
     requires { ⌜ (length (now array) ≡ modelOf model .length) × (placeOk model op (at .0) ≡ true) × (length (now page) ≡ 256) × (length (now pattern) ≡ patternLength op (at .0) (length (now array))) ⌝ }
     ensures { λ _. ⌜ now (array .exit) ≡ cutCells op at (now (page .entry)) (now (pattern .entry)) (now (array .entry)) ⌝ }
 {
@@ -158,7 +175,7 @@ fn tear_bits(model: u32, st: State, page: &[u8], pattern: &[u8]) -> State
 }
 
 // The kept bits that it leaves.
-pub fn cut_bits(model: u32, op: Operation, st: State, page: &[u8], pattern: &[u8]) -> State
+fn cut_bits(model: u32, op: Operation, st: State, page: &[u8], pattern: &[u8]) -> State
     requires { ⌜ st .bp ≤ modelOf model .«highest_bp» ⌝ }
     ensures { λ r. ⌜ r ≡ cutBits model op st (now (page .entry)) (now (pattern .entry)) ⌝ }
 {
@@ -171,4 +188,16 @@ pub fn cut_bits(model: u32, op: Operation, st: State, page: &[u8], pattern: &[u8
         Operation::ErasesBlock => st,
         Operation::ErasesChip => st,
     }
+}
+
+// The power is cut: the unit or the kept bits have what the pattern leaves, and no page data are left.
+pub fn tear(model: u32, st: State, page: &mut [u8], array: &mut [u8], pattern: &[u8]) -> State
+    requires { ⌜ (Ready model st (now page) (now array)) × (st .bp ≤ modelOf model .«highest_bp») × (length (now pattern) ≡ patternLength (runs model st) (st .address) (length (now array))) ⌝ }
+    ensures { λ r. ⌜ Left (tornChip model (chipOf st (now (page .entry)) (now (array .entry))) (now (pattern .entry))) r (now (page .exit)) (now (array .exit)) ⌝ }
+{
+    let op = commands::started_by(model, st.command);
+    cut_cells(model, op, Address(st.address), page, pattern, array);
+    let kept = cut_bits(model, op, st, page, pattern);
+    parts::fill(page, 0xFF);
+    kept
 }
