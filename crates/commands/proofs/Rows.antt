@@ -5,10 +5,11 @@ use Prim.Native.Nat.{ℕ, _≤_, _<_}
 use native.Mathlib.Omega.{arith}
 use lib.Dec.{eqb, leb, lit≤}
 use borrow.Author.Tests.{leb-true, leb-false, le-leb, lt-leb, not-true}
+use Rattle.commands.specs.declared.Operation.the-variants.{Idle}
 use Rattle.commands.specs.declared.Traits.{Traits}
 use Rattle.commands.specs.declared.Command.{Command}
 use Rattle.commands.specs.declared.Command.the-variants.{WriteEnable, WriteDisable, ReadStatus, ReadConfig, WriteStatus, Read, FastRead, EraseSector, EraseHalf, EraseBlock, EraseChip, Program, ReadId, Wake, ReadMaker, Sleep, Unknown}
-use Rattle.commands.specs.Commands.{traitsOf, lengthOk, fewest}
+use Rattle.commands.specs.Commands.{traitsOf, lengthOk, fewest, decodeOf, startedBy}
 
 -- ---- which lengths are allowed
 module _ (k : Traits) (n : ℕ) where
@@ -89,3 +90,12 @@ latch-waits r c e =
     let k : Traits = traitsOf r c in
     let t : not (k .latch && k .«while_busy») ≡ true = and-eq-true-iff (k .latch || (not (k .lock) && (not (k .unit) && not (k .whole)))) _ .0 (and-eq-true-iff (lengthOk k (fewest k) 0) _ .0 (row-test r c) .1) .1 in
     rw e at (not-true (k .latch && k .«while_busy») t)
+
+-- FF starts no operation
+pub none-started : (n : ℕ) → startedBy n 0xFF ≡ Idle
+unfolding decodeOf
+none-started n = go (eqb n 3) refl
+  where
+    go : (b : Bool) → eqb n 3 ≡ b → startedBy n 0xFF ≡ Idle
+    go true e = rw e
+    go false e = rw e
