@@ -1,6 +1,6 @@
 -- What holds of every command's row, by one computed test, and which lengths are allowed. Assumes nothing.
-use mathlib.Core.Path.{_≡_, refl}
-use mathlib.Core.Bool.{Bool, true, false, not, _&&_, _||_, and-eq-true-iff, or-true, false≢true}
+use mathlib.Core.Path.{_≡_, refl, sym, _∙_}
+use mathlib.Core.Bool.{Bool, true, false, not, _&&_, _||_, and-eq-true-iff, or-true, or-false, false≢true}
 use Prim.Native.Nat.{ℕ, _≤_, _<_}
 use native.Mathlib.Omega.{arith}
 use lib.Dec.{eqb, leb, lit≤}
@@ -9,7 +9,7 @@ use Rattle.commands.specs.declared.Operation.the-variants.{Idle}
 use Rattle.commands.specs.declared.Traits.{Traits}
 use Rattle.commands.specs.declared.Command.{Command}
 use Rattle.commands.specs.declared.Command.the-variants.{WriteEnable, WriteDisable, ReadStatus, ReadConfig, WriteStatus, Read, FastRead, EraseSector, EraseHalf, EraseBlock, EraseChip, Program, ReadId, Wake, ReadMaker, Sleep, Unknown}
-use Rattle.commands.specs.Commands.{traitsOf, lengthOk, fewest, decodeOf, startedBy}
+use Rattle.commands.specs.Commands.{traitsOf, lengthOk, fewest, decodeOf, startedBy, mostWritten}
 
 -- ---- which lengths are allowed
 module _ (k : Traits) (n : ℕ) where
@@ -99,3 +99,15 @@ none-started n = go (eqb n 3) refl
     go : (b : Bool) → eqb n 3 ≡ b → startedBy n 0xFF ≡ Idle
     go true e = rw e
     go false e = rw e
+
+-- a status write has one data byte, and with the register one or two
+pub write-length : (r : Bool) (n tail : ℕ) → n ≤ 65541 → lengthOk (traitsOf r WriteStatus) n tail ≡ true → (2 ≤ n) × (n ≤ mostWritten r)
+unfolding traitsOf lengthOk
+write-length r n tail s e = go (leb 65542 n) refl
+  where
+    go : (b : Bool) → leb 65542 n ≡ b → (2 ≤ n) × (n ≤ mostWritten r)
+    go true t = absurd (omega (arith, leb-true 65542 n t))
+    go false t =
+        let k = sym (or-false ((leb 2 n && leb n (mostWritten r)) && eqb tail 0)) ∙ (rw t at e) in
+        let q = and-eq-true-iff (leb 2 n) (leb n (mostWritten r)) .0 (and-eq-true-iff (leb 2 n && leb n (mostWritten r)) (eqb tail 0) .0 k .0) in
+        (leb-true 2 n (q .0), leb-true n (mostWritten r) (q .1))

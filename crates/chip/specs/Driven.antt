@@ -1,38 +1,11 @@
--- What a command can change, how much it drives and whether it folds: the cells of its unit, a number of bytes, a note. Assumes nothing.
+-- How much a command drives and whether it folds: a number of bytes, a note. Assumes nothing.
 use mathlib.Core.Bool.{Bool, false}
 use Prim.Native.Nat.{ℕ, _-_}
 use Rattle.fold.specs.Fold.{folds}
 use Rattle.units.specs.declared.Address.{Address}
-use Rattle.units.specs.Kinds.{sectorOf, halfBlockOf, blockOf, pageStart, pageOffset, sectorStart, halfBlockStart, blockStart}
+use Rattle.units.specs.Kinds.{pageOffset}
 use Rattle.commands.specs.declared.Command.{Command}
 use Rattle.commands.specs.declared.Command.the-variants.{WriteEnable, WriteDisable, ReadStatus, ReadConfig, WriteStatus, Read, FastRead, EraseSector, EraseHalf, EraseBlock, EraseChip, Program, ReadId, Wake, ReadMaker, Sleep, Unknown}
-
--- the cells that a command can change: where they start, and how many there are
-pub record Extent : Type 0 where
-  pub start : ℕ
-  pub size : ℕ
-
-abbrev pub extent : ℕ → ℕ → Extent
-extent start size = record { start = start; size = size }
-
-unfoldable pub unitOf : Command → Address → ℕ → Extent
-unitOf WriteEnable at n = extent 0 0
-unitOf WriteDisable at n = extent 0 0
-unitOf ReadStatus at n = extent 0 0
-unitOf ReadConfig at n = extent 0 0
-unitOf WriteStatus at n = extent 0 0
-unitOf Read at n = extent 0 0
-unitOf FastRead at n = extent 0 0
-unitOf EraseSector at n = extent (sectorStart (sectorOf at)) 4096
-unitOf EraseHalf at n = extent (halfBlockStart (halfBlockOf at)) 32768
-unitOf EraseBlock at n = extent (blockStart (blockOf at)) 65536
-unitOf EraseChip at n = extent 0 n
-unitOf Program at n = extent (pageStart at) 256
-unitOf ReadId at n = extent 0 0
-unitOf Wake at n = extent 0 0
-unitOf ReadMaker at n = extent 0 0
-unitOf Sleep at n = extent 0 0
-unitOf Unknown at n = extent 0 0
 
 -- how many bytes an accepted frame of n bytes drives
 unfoldable pub drivenBytes : Command → ℕ → ℕ
