@@ -89,6 +89,13 @@ passed rec s h e =
       free = f .1 .1 .0;
     }
 
+-- the first five rows have shown that the page data fit
+pub given-page : (rec : Record) (s : State) (h : Head) → isDone (givenOf rec s h) ≡ true → h .page ≡ true
+unfolding givenOf
+given-page rec s h e =
+    let c = clear (take 5 (ladder rec s h (asks rec h))) refl e in
+    both (stateOk rec s) (h .page) (not-false _ (c .1 .1 .0)) .1
+
 -- ---- what a frame that is answered 17 has shown
 -- no row of a table answers 17
 abbrev spares : List Rung → Bool
