@@ -21,14 +21,15 @@ use Rattle.answers.specs.Answers.{isDone, saysProtected}
 use Rattle.commands.specs.Commands.{decodeOf, traitsOf, mostWritten, operationOf, startedBy}
 use Rattle.commands.specs.declared.Operation.{Operation}
 use Rattle.commands.specs.declared.Operation.the-variants.{WritesStatus, Programs, ErasesSector, ErasesHalf, ErasesBlock, ErasesChip}
-use Rattle.states.specs.States.{statusOf, longestSettle, operationTime, placeOk, usedBytes, noAddress, blankPage, Chip}
+use Rattle.states.specs.States.{recordOk, statusOf, longestSettle, operationTime, placeOk, usedBytes, noAddress, blankPage, Chip}
 use Rattle.states.specs.declared.Record.{Record}
 use Rattle.states.specs.declared.State.{State}
 use Rattle.answers.specs.declared.Answer.{Answer}
 use Rattle.answers.specs.declared.Answer.the-variants.{Done}
 use Rattle.commands.specs.declared.Command.{Command}
 use Rattle.commands.specs.declared.Command.the-variants.{WriteEnable, WriteDisable, ReadStatus, ReadConfig, WriteStatus, Read, FastRead, EraseSector, EraseHalf, EraseBlock, EraseChip, Program, ReadId, Wake, ReadMaker, Sleep, Unknown}
-use Rattle.states.proofs.States.{sleep-le, wake-le, sign-le}
+use Rattle.commands.proofs.Rows.{half-only-3}
+use Rattle.states.proofs.States.{sleep-le, wake-le, sign-le, times, half-some}
 use Rattle.effects.specs.Effects.{Effect, stateOnly, turned, drives, folding, latched, dozing, starting, refusalLeaves, writeEnable, writeDisable, writeStatus, erase, sleep, idBytes, makerBytes, readStatus, readConfig, readFrom, programPage, readId, wakingTime, wake, readMaker}
 use Rattle.chip.specs.Frames.{acceptedOf}
 use Rattle.chip.specs.Driven.{drivenBytes, foldOf}
@@ -57,6 +58,7 @@ pub record Begun (rec : Record) (x : Chip) (op : Operation) (t : State) (page : 
   pub is : t ≡ starting (x .state) command place (operationTime rec op)
   pub starts-it : startedBy (rec .model) command ≡ op
   pub placed : placeOk (rec .model) op place ≡ true
+  pub takes-time : recordOk rec ≡ true → 0 < operationTime rec op
   pub idle-before : x .state .busy ≡ 0
   pub latch : x .state .wel ≡ true
   pub awake : x .state .asleep ≡ false
@@ -112,17 +114,18 @@ module _ (rec : Record) (x : Chip) (at : Address) (bytes : List ℕ) (c : Comman
   not-asleep : traitsOf (modelOf (rec .model) .register) c .«while_asleep» ≡ false → x .state .asleep ≡ false
   not-asleep w = only-if (x .state .asleep) false (rw w at (q .awake)) refl
 
-  begin : (op : Operation) (place : ℕ) (page : List ℕ) → operationOf c ≡ op → placeOk (rec .model) op place ≡ true
+  begin : (op : Operation) (place : ℕ) (page : List ℕ) → operationOf c ≡ op → placeOk (rec .model) op place ≡ true → (recordOk rec ≡ true → 0 < operationTime rec op)
       → traitsOf (modelOf (rec .model) .register) c .«while_busy» ≡ false → traitsOf (modelOf (rec .model) .register) c .«while_asleep» ≡ false
       → (x .page ≡ blankPage → (length page ≡ 256) × (allAre 0xFF (drop (usedBytes op place) page) ≡ true))
       → Begun rec x op (starting (x .state) (getD bytes 0 0) place (operationTime rec op)) page
-  begin op place page e p b a h =
+  begin op place page e p t b a h =
       record {
         command = getD bytes 0 0;
         place = place;
         is = refl;
         starts-it = ap operationOf (q .means) ∙ e;
         placed = p;
+        takes-time = t;
         idle-before = not-busy b;
         latch = latched-is;
         awake = not-asleep a;
@@ -179,11 +182,12 @@ module _ (rec : Record) (x : Chip) (at : Address) (bytes out : List ℕ) where
   erases : (op : Operation) (c : Command) → operationOf c ≡ op → traitsOf (modelOf (rec .model) .register) c .latch ≡ true
       → traitsOf (modelOf (rec .model) .register) c .«while_busy» ≡ false → traitsOf (modelOf (rec .model) .register) c .«while_asleep» ≡ false
       → placeOk (rec .model) op (at .0) ≡ ltb (at .0) (modelOf (rec .model) .length) → usedBytes op (at .0) ≡ 0
+      → (Asked rec s c at bytes → recordOk rec ≡ true → 0 < operationTime rec op)
       → Kind rec x c at bytes out 0 false (turned (x .page) out (erase rec s op (at .0) bytes))
   unfolding erase
-  erases op c e l b a p u =
+  erases op c e l b a p u t =
       begins op (starting s (getD bytes 0 0) (at .0) (operationTime rec op)) (x .page) false
-      (λ q. begin rec x at bytes c l q op (at .0) (x .page) e (p ∙ lt-ltb (at .0) (modelOf (rec .model) .length) (q .inside)) b a (λ z. rw u (blank-stays z)))
+      (λ q. begin rec x at bytes c l q op (at .0) (x .page) e (p ∙ lt-ltb (at .0) (modelOf (rec .model) .length) (q .inside)) (t q) b a (λ z. rw u (blank-stays z)))
 
   pub kind : (c : Command) → Kind rec x c at bytes out (drivenBytes c (length bytes)) (foldOf c at (length bytes)) (acceptedOf rec x c at bytes out)
   unfolding acceptedOf writeEnable writeDisable writeStatus erase sleep traitsOf drivenBytes foldOf readStatus readConfig readFrom programPage readId wake readMaker
@@ -193,19 +197,19 @@ module _ (rec : Record) (x : Chip) (at : Address) (bytes out : List ℕ) where
   kind ReadConfig = drove s 1 (replicate (length bytes - 1) (s .config)) (λ q. stays)
   kind WriteStatus =
       begins WritesStatus (starting s (getD bytes 0 0) (length bytes - 1) (operationTime rec WritesStatus)) (lay (x .page) 0 (drop 1 bytes)) false
-      (λ q. begin rec x at bytes WriteStatus refl q WritesStatus (length bytes - 1) (lay (x .page) 0 (drop 1 bytes)) refl (number-of-bytes (modelOf (rec .model) .register) (length bytes) (q .written refl .0) (q .written refl .1)) refl refl (λ z. first-used (modelOf (rec .model) .register) bytes (x .page) z (q .written refl .1)))
+      (λ q. begin rec x at bytes WriteStatus refl q WritesStatus (length bytes - 1) (lay (x .page) 0 (drop 1 bytes)) refl (number-of-bytes (modelOf (rec .model) .register) (length bytes) (q .written refl .0) (q .written refl .1)) (λ r. times rec r .status) refl refl (λ z. first-used (modelOf (rec .model) .register) bytes (x .page) z (q .written refl .1)))
   kind Read = drove s 4 (ring (x .cells) (at .0) (length bytes - 4)) (λ q. stays)
   kind FastRead = drove s 5 (ring (x .cells) (at .0) (length bytes - 5)) (λ q. stays)
-  kind EraseSector = erases ErasesSector EraseSector refl refl refl refl refl refl
-  kind EraseHalf = erases ErasesHalf EraseHalf refl refl refl refl refl refl
-  kind EraseBlock = erases ErasesBlock EraseBlock refl refl refl refl refl refl
+  kind EraseSector = erases ErasesSector EraseSector refl refl refl refl refl refl (λ q r. times rec r .sector)
+  kind EraseHalf = erases ErasesHalf EraseHalf refl refl refl refl refl refl (λ q r. half-some rec r (half-only-3 (rec .model) (getD bytes 0 0) (q .means)))
+  kind EraseBlock = erases ErasesBlock EraseBlock refl refl refl refl refl refl (λ q r. times rec r .block)
   kind EraseChip =
       begins ErasesChip (starting s (getD bytes 0 0) noAddress (operationTime rec ErasesChip)) (x .page) false
-      (λ q. begin rec x at bytes EraseChip refl q ErasesChip noAddress (x .page) refl refl refl refl (λ z. blank-stays z))
+      (λ q. begin rec x at bytes EraseChip refl q ErasesChip noAddress (x .page) refl refl (λ r. times rec r .chip) refl refl (λ z. blank-stays z))
   kind Program =
       rw (← (length-drop 4 bytes))
       (begins Programs (starting s (getD bytes 0 0) (at .0) (operationTime rec Programs)) (pageAfter (pageOffset at) (drop 4 bytes) (x .page)) (folds (pageOffset at) (length (drop 4 bytes)))
-      (λ q. begin rec x at bytes Program refl q Programs (at .0) (pageAfter (pageOffset at) (drop 4 bytes) (x .page)) refl (lt-ltb (at .0) (modelOf (rec .model) .length) (q .inside)) refl refl (λ z. all-used (pageOffset at) (drop 4 bytes) (x .page) z)))
+      (λ q. begin rec x at bytes Program refl q Programs (at .0) (pageAfter (pageOffset at) (drop 4 bytes) (x .page)) refl (lt-ltb (at .0) (modelOf (rec .model) .length) (q .inside)) (λ r. times rec r .page) refl refl (λ z. all-used (pageOffset at) (drop 4 bytes) (x .page) z)))
   kind ReadId = drove s 1 (ring (idBytes (modelOf (rec .model))) 0 (length bytes - 1)) (λ q. stays)
   kind Wake =
       drove (dozing s false (wakingTime rec s (length bytes))) 4 (replicate (length bytes - 4) (modelOf (rec .model) .signature))

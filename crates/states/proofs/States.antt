@@ -13,7 +13,7 @@ use Rattle.commands.specs.Commands.{startedBy}
 use Rattle.commands.specs.declared.Operation.{Operation}
 use Rattle.commands.specs.declared.Operation.the-variants.{Idle, WritesStatus, Programs, ErasesSector, ErasesHalf, ErasesBlock, ErasesChip}
 use borrow.Author.Tests.{eqb-true, eqb-false, leb-true, leb-false, not-true, eq-eqb, ne-eqb, le-leb}
-use Rattle.models.specs.Models.{isModel, modelOf}
+use Rattle.models.specs.Models.{isModel, partOf, modelOf}
 use Rattle.units.proofs.Bools.{both, either}
 use Rattle.states.specs.States.{commonTimes, busyTimes, settleTimes, timesOf, inRange, all, halfOk, recordOk, largest, longestBusy, longestSettle, longestOf, configOk, noCommand, noAddress, operationTime, placeOk, idleOk, busyOk, stateOk, usedOf, pageOk, blankPage}
 use Rattle.states.specs.declared.Record.{Record}
@@ -267,6 +267,13 @@ has-half r e h = go (modelOf (r .model) .«half_erase») refl (good r e .last)
     go : (b : Bool) → modelOf (r .model) .«half_erase» ≡ b → cond b (inRange (r .half)) (eqb (r .half) 0) ≡ true → modelOf (r .model) .«half_erase» ≡ true
     go true p t = p
     go false p t = let z = eqb-true (r .half) 0 t in absurd (omega arith)
+
+-- and on model 3 it is one of them
+pub half-some : (r : Record) → recordOk r ≡ true → r .model ≡ 3 → 0 < r .half
+unfolding halfOk partOf
+half-some r e m =
+    let t : modelOf (r .model) .«half_erase» ≡ true = rw m in
+    ranged (r .half) (rw t at (good r e .last)) .some
 
 half-short : (r : Record) → recordOk r ≡ true → r .half ≤ 1000000000
 unfolding halfOk

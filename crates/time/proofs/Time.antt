@@ -18,7 +18,7 @@ use Rattle.states.specs.declared.Record.{Record}
 use Rattle.states.specs.declared.State.{State}
 use Rattle.states.proofs.States.{sound, page-length, Resting}
 use Rattle.operations.specs.Operations.{runs, patternLength, finished, tornChip, Ready, Left}
-use Rattle.time.specs.Time.{later, waited, cycled, cutOff, chipRefusal, cutRefusal, waitOf, cutOf, Ends}
+use Rattle.time.specs.Time.{later, waited, cycled, cutOff, chipRefusal, powerRefusal, cutRefusal, waitOf, cutOf, Ends}
 
 -- record, array, state and page data fit
 pub record Fit (rec : Record) (x : Chip) : Type 0 where
@@ -110,3 +110,15 @@ module _ (rec : Record) (x : Chip) (pattern : List ℕ) where
         → Ends (cutOf rec x pattern) (record { answer = a; state = t }) page cells
     unfolding cutOf cutOff
     done-cut d g h = let f = same-cut d in record { answer-is = e; state-is = rw f (h ∙ ap cycled (g .state-is)); page-is = rw f (g .page-is); cells-are = rw f (g .cells-are) }
+
+-- ---- power cycles
+-- one that is taken has found an idle chip
+pub idle-cycle : (rec : Record) (s : State) (page : List ℕ) → isDone (powerRefusal rec s page) ≡ true → s .busy ≡ 0
+unfolding powerRefusal
+idle-cycle rec s page d = go (recordOk rec) (stateOk rec s && pageOk (rec .model) s page) (eqb (s .busy) 0) refl refl refl
+  where
+    go : (a b c : Bool) → recordOk rec ≡ a → (stateOk rec s && pageOk (rec .model) s page) ≡ b → eqb (s .busy) 0 ≡ c → s .busy ≡ 0
+    go true true true p q r = eqb-true (s .busy) 0 r
+    go true true false p q r = absurd (false≢true (rw (p, q, r) at d))
+    go true false c p q r = absurd (false≢true (rw (p, q) at d))
+    go false b c p q r = absurd (false≢true (rw p at d))
