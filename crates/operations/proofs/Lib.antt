@@ -1,4 +1,5 @@
--- `Fits`: the units of an address of the array lie in it. `Only`: an operation changes at most its unit. `Kept`: the kept bits after a status write.
+-- `Fits`: the units of an address of the array lie in it. `Only`: an operation changes at most its unit. `Page`: a page program from the bytes sent to the cells. `Kept`: the kept bits after a status write.
 pub mod Fits
 pub mod Only
 pub mod Kept
+pub mod Page
