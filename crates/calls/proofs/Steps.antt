@@ -285,6 +285,11 @@ module _ (rec : Record) (x : Chip) (b : Bench rec x) where
   waits-out us t = waits-to us _ (rw t)
 
 -- ---- calls one after the other
+-- whatever is answered, a bench stays one
+pub run-bench : (rec : Record) (seen cs : List Call) (x : Chip) → Bench rec x → Bench rec (run ours rec seen cs x)
+run-bench rec seen [] x b = b
+run-bench rec seen (c ∷ cs) x b = run-bench rec (c ∷ seen) cs (after ours rec seen c x) (bench-next rec x b c _ (sym (after-any rec seen c x)))
+
 -- a list of calls, each answered 0, and where it leads
 pub data Goes (rec : Record) : List Call → Chip → Chip → Type 0 where
   ends : {x : Chip} → Goes rec [] x x

@@ -14,7 +14,6 @@ use Rattle.effects.specs.declared.Reply.{Reply}
 use Rattle.effects.specs.Effects.{Effect, Gives, stateOnly}
 use Rattle.chip.specs.Frames.{Sent}
 use Rattle.states.specs.States.{Chip}
-use Rattle.chip.specs.Units.{drivenBytes}
 use Rattle.calls.specs.Calls.{Call, sends, waits, cycles, cuts, Pod}
 use Rattle.recovery.specs.Recovery.{WinsBack}
 
