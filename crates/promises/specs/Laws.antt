@@ -62,7 +62,11 @@ RefusedCycle = (rec : Record) (s : State) → isDone (powerOf rec s .answer) ≡
 abbrev pub TbStays : Type 0
 TbStays = (rec : Record) (c : Call) (x : Chip) → tbOf (x .state) ≡ true → tbOf (after ours rec [] c x .state) ≡ true
 
--- a chip that settles answers a frame 22, 10 or 1 to 5, and nothing else
+-- a chip that settles
+abbrev pub Settles : Chip → Type 0
+Settles x = x .state .settle ≡ 0 → ⊥
+
+-- answers a frame 22, 10 or 1 to 5, and nothing else
 abbrev pub among : ℕ → List ℕ → Bool
 among n [] = false
 among n (m ∷ more) = eqb n m || among n more
@@ -72,13 +76,13 @@ settlingNumbers = 22 ∷ 10 ∷ 1 ∷ 2 ∷ 3 ∷ 4 ∷ 5 ∷ []
 
 abbrev pub SettlingAnswers : Type 0
 SettlingAnswers =
-    (rec : Record) (x : Chip) (f : Sent) → (x .state .settle ≡ 0 → ⊥)
+    (rec : Record) (x : Chip) (f : Sent) → Settles x
     → among (numberOf (frameOf rec x f .reply .answer)) settlingNumbers ≡ true
 
 -- and no frame changes anything of it, nor drives a byte: that is left to waits and power cycles
 abbrev pub SettlingStays : Type 0
 SettlingStays =
-    (rec : Record) (x : Chip) (f : Sent) → (x .state .settle ≡ 0 → ⊥)
+    (rec : Record) (x : Chip) (f : Sent) → Settles x
     → frameOf rec x f ≡ stateOnly (frameOf rec x f .reply .answer) (x .state) (x .cells) (f .out)
 
 -- a frame changes at most the unit that it addresses
