@@ -8,5 +8,5 @@ host=$root/tools/host.sh
 build=${GWO_BUILD:-$root/target/host}
 archive=${1:-$root/target/staticlib/libpod.a}
 mkdir -p "$build"
-"$host" cc -std=c99 -O2 -I"$root/host/include" "$here/firmware.c" "$archive" -o "$build/example"
-exec "$host" run "$build/example"
+"$host" cc -std=c99 -O2 -I"$root/host/include" "$here/firmware.c" "$here/flash.c" "$archive" -o "$build/firmware"
+exec "$host" run "$build/firmware"
