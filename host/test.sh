@@ -66,7 +66,9 @@ link() {
         "$host" cc "$obj/$program"*.o "$obj/rig.o" "$archive" "$obj/model.o" -o "$bin/$program"
     done
     "$host" cc "$obj"/stack*.o "$obj/empty.o" "$obj/rig.o" "$archive" "$obj/model.o" -o "$bin/stack"
-    "$host" cc "$obj/firmware.o" "$obj/flash.o" "$archive" "$obj/model.o" -o "$bin/firmware"
+    for program in firmware unplugged; do
+        "$host" cc "$obj/$program.o" "$obj/flash.o" "$archive" "$obj/model.o" -o "$bin/$program"
+    done
     "$host" cc "$obj"/scripts*.o "$obj/rig.o" "$obj/model.o" -o "$bin/scripts"
     "$host" cc -std=c99 $flags "$here"/explain/*.c -o "$bin/explain"
 }
@@ -88,9 +90,9 @@ by_names() {
 }
 
 example() {
-    "$host" run "$bin/firmware" >"$GWO_BUILD/example.got" &&
+    "$host" run "$bin/firmware" >"$GWO_BUILD/example.got" && "$host" run "$bin/unplugged" >>"$GWO_BUILD/example.got" &&
         diff "$here/example/output.txt" "$GWO_BUILD/example.got" &&
-        echo "example: last spring's fold is said and overwrites the table's first record, the mended table is whole"
+        echo "example: last spring's fold, the table mended, and a table lost in mid-erase and won back"
 }
 
 # The C of README.md, as it stands there, prints what is said there.

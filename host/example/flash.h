@@ -1,4 +1,4 @@
-/* The flash driver of the example. */
+/* The flash driver of the two examples. */
 #ifndef FLASH_H
 #define FLASH_H
 

@@ -27,7 +27,9 @@ for program in compare thirteen; do
     "$host" cc "$obj/$program"*.o "$obj"/rig.o $pod -o "$out/$program"
 done
 "$host" cc "$obj"/stack*.o "$obj"/empty.o "$obj"/rig.o $pod -o "$out/stack"
-"$host" cc "$obj"/firmware.o "$obj"/flash.o $pod -o "$out/firmware"
+for program in firmware unplugged; do
+    "$host" cc "$obj/$program.o" "$obj"/flash.o $pod -o "$out/$program"
+done
 
 # The bytes of stack that the four calls take without a fault: the limits for the faulty ones.
 own=$(GWO_FAULT=0 "$host" run "$out/stack" 65536 65536 65536 65536 | awk '/^  gwo_/ { print $2 }')
@@ -42,7 +44,7 @@ passes() {
     thirteen) "$host" run "$out/thirteen" first >"$out/log" 2>&1 ;;
     stack) "$host" run "$out/stack" $own >"$out/log" 2>&1 ;;
     example)
-        "$host" run "$out/firmware" >"$out/log" 2>&1 || return 1
+        "$host" run "$out/firmware" >"$out/log" 2>&1 && "$host" run "$out/unplugged" >>"$out/log" 2>&1 || return 1
         diff "$root/host/example/output.txt" "$out/log" >"$out/example.diff" && return 0
         echo "FAIL: the example's output differs" >>"$out/log"
         return 1 ;;
