@@ -99,7 +99,7 @@ uint8_t *unit_cells(const struct call *c, const struct operation *o)
 /* The mistakes in the order of their numbers. */
 static const struct { const struct pod *pods; int n; } books[] = {
     {mistakes, MISTAKES}, {mistakes_of_model_3, MISTAKES_OF_MODEL_3}, {mistakes_of_fold, MISTAKES_OF_FOLD},
-    {mistakes_of_sleep, MISTAKES_OF_SLEEP}};
+    {mistakes_of_sleep, MISTAKES_OF_SLEEP}, {mistakes_of_cut, MISTAKES_OF_CUT}};
 
 static const struct pod *choose_pod(void)
 {

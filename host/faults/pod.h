@@ -29,10 +29,10 @@ struct pod {
     answers *frame, *wait, *power_cycle, *cut;
 };
 
-/* 1 to 11; those of model 3, from 12 on; of the fold, from 21 on; and of sleep, from 26 on. */
-enum { MISTAKES = 11, MISTAKES_OF_MODEL_3 = 9, MISTAKES_OF_FOLD = 5, MISTAKES_OF_SLEEP = 5 };
+/* 1 to 11; those of model 3, from 12 on; of the fold, from 21 on; of sleep, from 26 on; and of a cut, from 31 on. */
+enum { MISTAKES = 11, MISTAKES_OF_MODEL_3 = 9, MISTAKES_OF_FOLD = 5, MISTAKES_OF_SLEEP = 5, MISTAKES_OF_CUT = 5 };
 extern const struct pod mistakes[MISTAKES], mistakes_of_model_3[MISTAKES_OF_MODEL_3],
-    mistakes_of_fold[MISTAKES_OF_FOLD], mistakes_of_sleep[MISTAKES_OF_SLEEP];
+    mistakes_of_fold[MISTAKES_OF_FOLD], mistakes_of_sleep[MISTAKES_OF_SLEEP], mistakes_of_cut[MISTAKES_OF_CUT];
 
 /* Without a fault. */
 answers right_frame, right_wait, right_power_cycle, right_cut;

@@ -118,5 +118,10 @@ fault 27 "22 comes before 10" "rules:refused before the command" "rules:refused 
 fault 28 "05 is taken while settling" "rules:refused by command" "rules:falling asleep and waking" compare
 fault 29 "AB settles a chip that was awake" "rules:state commands" "rules:falling asleep and waking" compare thirteen
 fault 30 "the short AB takes the long one's time" "rules:falling asleep and waking" compare thirteen
+fault 31 "a cut changes a cell beside its unit" rules:cuts compare thirteen example
+fault 32 "cells change when the frame is taken" rules:operations rules:erasing rules:programming compare thirteen
+fault 33 "a cut takes the pattern for bits that were not to change" rules:cuts compare
+fault 34 "a power cycle is taken while busy" "rules:time and power" "rules:refused in order" rules:operations compare
+fault 35 "an operation that has ended is not forgotten" rules:operations rules:cuts "rules:bench sheet" compare thirteen example
 echo "$passed passed, $failed failed"
 [ $failed -eq 0 ]
