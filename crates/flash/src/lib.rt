@@ -69,18 +69,18 @@ pub fn tear_page(array: &mut [u8], a: Address, bytes: &[u8], pattern: &[u8])
     requires { ⌜ (pageStart a + 256 ≤ length (now array)) × (length (now bytes) ≡ 256) × (length (now pattern) ≡ 256) ⌝ }
     ensures { λ _. ⌜ now (array .exit) ≡ pageTorn (now (array .entry)) a (now (bytes .entry)) (now (pattern .entry)) ⌝ }
 {
-    let page = a.page_start();
-    let start = page.0 as usize;
+    let torn = a.page_start();
+    let start = torn.0 as usize;
     let end = start + 256;
     cells::tear_into(&mut array[start..end], bytes, pattern);
 }
 
 // The cells from an address on become the bytes left in them.
-pub fn leave(array: &mut [u8], first: Address, bytes: &[u8])
-    requires { ⌜ first .0 + length (now bytes) ≤ length (now array) ⌝ }
-    ensures { λ _. ⌜ now (array .exit) ≡ lay (now (array .entry)) (first .0) (now (bytes .entry)) ⌝ }
+pub fn leave(array: &mut [u8], from: Address, bytes: &[u8])
+    requires { ⌜ from .0 + length (now bytes) ≤ length (now array) ⌝ }
+    ensures { λ _. ⌜ now (array .exit) ≡ lay (now (array .entry)) (from .0) (now (bytes .entry)) ⌝ }
 {
-    let start = first.0 as usize;
+    let start = from.0 as usize;
     let end = start + bytes.len();
     parts::copy(&mut array[start..end], bytes);
 }

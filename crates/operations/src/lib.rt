@@ -169,9 +169,9 @@ fn tear_bits(model: u32, st: State, page: &[u8], pattern: &[u8]) -> State
 {
     let row = models::model_of(model);
     let new = write(model, st, page);
-    let byte = cells::torn(bits_of(st), bits_of(new), parts::byte_at(pattern, 0));
+    let left = cells::torn(bits_of(st), bits_of(new), parts::byte_at(pattern, 0));
     let config = cells::torn(st.config, new.config, parts::byte_at(pattern, 1));
-    keep(st, 128 <= byte, byte / 4 % (row.highest_bp + 1), config)
+    keep(st, 128 <= left, left / 4 % (row.highest_bp + 1), config)
 }
 
 // The kept bits that it leaves.

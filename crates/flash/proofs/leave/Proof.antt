@@ -12,7 +12,7 @@ use Rattle.flash.proofs.leave.Tie as tie
 returns : tie.Need-returns
 returns c =
     let given = c .before .before .before .before .before .before .before .args in
-    let start = given .first .0 in
+    let start = given .from .0 in
     part-back start (start + length (now (given .bytes))) start (now (given .array)) _ (now (given .bytes)) refl (omega arith) (c .before .before .copy .ensures) (omega arith)
 
 pub leave-spec : {M : Type 1} → statement M
