@@ -7,7 +7,7 @@ use native.Mathlib.Nat.{mod-eq-of-lt}
 use native.Mathlib.Omega.{arith}
 use lib.Arith.{bin-ind}
 use lib.Dec.{eqb}
-use borrow.Author.Tests.{eqb-true}
+use borrow.Author.Tests.{eqb-true, eqb-false}
 use lib.Bits.{bitAnd, bitOr, bitXor, or-shr, xor-shr, or-mod, xor-mod, and-zero-l, and-zero-r, or-lt, xor-lt, and-lt, and-step, and-mask, and-comm, and-self, and-le-l, and-shr, and-mod}
 use Rattle.cells.specs.Cell.{FF, bit, torn}
 
@@ -84,6 +84,14 @@ torn-bit b o n p =
 same : (t : Bool) (x : ℕ) → cond t x x ≡ x
 same true x = refl
 same false x = refl
+
+-- so no bit of a cut program's cell rises
+pub torn-falls : (b o byte p : ℕ) → bit b (torn o (bitAnd o byte) p) ≤ bit b o
+torn-falls b o byte p = rw (torn-bit b o (bitAnd o byte) p) (go (eqb (bit b o) (bit b (bitAnd o byte))) refl)
+  where
+    go : (t : Bool) → eqb (bit b o) (bit b (bitAnd o byte)) ≡ t → cond t (bit b o) (bit b p) ≤ bit b o
+    go true e = omega arith
+    go false e = omega (arith, eqb-false (bit b o) (bit b (bitAnd o byte)) e, and-falls b o byte)
 
 halves : (o n p : ℕ) → torn o n p ≡ torn (o / 2) (n / 2) (p / 2) * 2 + torn (o % 2) (n % 2) (p % 2)
 halves o n p = omega (arith, torn-shr o n p 1, torn-mod o n p 1)

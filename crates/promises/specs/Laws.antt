@@ -102,7 +102,7 @@ OnlyItsUnit = (rec : Record) (x : Chip) (us k : ℕ) → Outside (unit rec x) k 
 abbrev pub CutsOnlyItsUnit : Type 0
 CutsOnlyItsUnit = (rec : Record) (x : Chip) (pattern : List ℕ) (k : ℕ) → Outside (unit rec x) k → getD (cutOf rec x pattern .chip .cells) k 0 ≡ getD (x .cells) k 0
 
--- cells only fall under a program, whether it finishes or is cut: no bit b of any cell k rises
+-- cells only fall under a program: no bit b of any cell k rises when it has finished (of a cut one `torn-falls` says it, in `cells`)
 abbrev pub ProgramFalls : Type 0
 ProgramFalls =
     (rec : Record) (x : Chip) (us b k : ℕ) → runs (rec .model) (x .state) ≡ Programs → bit b (getD (waitOf rec x us .chip .cells) k 0) ≤ bit b (getD (x .cells) k 0)
