@@ -1,6 +1,6 @@
 -- Turns one after the other, and the input's end. Assumes nothing.
 use mathlib.Core.Path.{_≡_, refl, sym, ap, subst, _∙_}
-use mathlib.Core.Bool.{Bool, true, false, cond, _&&_}
+use mathlib.Core.Bool.{Bool, true, false, cond}
 use mathlib.Core.List.{List, [], _∷_, _++_, append-assoc, append-nil}
 use mathlib.Core.Logic.{_⊎_, inl, inr, ⊎-elim}
 use Prim.Native.Nat.{ℕ, zero, suc, _+_, _-_, _≤_, _<_}
@@ -15,7 +15,6 @@ use Rattle.text.proofs.PutLaws.{put-none, put-as, put-then}
 use Rattle.lines.specs.Lines.{linesFrom, lastLine}
 use Rattle.lines.specs.Cutting.{Holds, heldRoom}
 use Rattle.stepper.specs.declared.Logged.{Logged}
-use Rattle.play.specs.Play.{Turn}
 use Rattle.stepper.specs.Rows.{lineTurn, rowText, Logs, chipAfter, logFrom, chipFrom}
 use Rattle.stepper.proofs.Rows.{row-short}
 use Rattle.log.specs.Row.{longestRow}
