@@ -15,19 +15,19 @@ use Rattle.answers.specs.Answers.{isDone}
 use Rattle.answers.specs.declared.Answer.{Answer}
 use Rattle.commands.specs.Commands.{startedBy}
 use Rattle.commands.specs.declared.Operation.{Operation}
-use Rattle.states.specs.States.{longestSettle, recordOk, operationTime, placeOk, usedBytes, usedOf, pageOk, blankPage, powerOn, Chip, chipOf}
+use Rattle.states.specs.States.{longestSettle, recordOk, operationTime, placeOk, usedBytes, usedPage, pageOk, blankPage, powerOn, Chip, chipOf}
 use Rattle.states.specs.declared.Record.{Record}
 use Rattle.states.specs.declared.State.{State}
 use Rattle.states.proofs.States.{Sound, Resting, Running, config-0-ok, only-tb-ok, blank-page, blank-ok}
 use Rattle.effects.specs.Effects.{Effect, latched, dozing, starting}
 use Rattle.ladder.proofs.Passed.{passed}
-use Rattle.operations.specs.Operations.{runs, place, finishedBits, forgotten, finished, cutBits, tornChip}
+use Rattle.operations.specs.Operations.{runs, runsAt, finishedBits, forgotten, finished, cutBits, tornChip}
 use Rattle.operations.proofs.Kept.{finished-level, finished-register, finished-settle, cut-level, cut-register}
 use Rattle.operations.proofs.Only.{finished-only, cut-only}
 use Rattle.chip.specs.Frames.{Sent, frameOf}
 use Rattle.chip.proofs.Sorts.{Move, stays, latches, dozes, Begun, Turn, moved, begun, moves}
 use Rattle.chip.proofs.Cases.{head, frame-cases, sort, shown-asked, refused-moves}
-use Rattle.time.specs.Time.{later, waited, cycled, cutOff, chipRefusal, powerRefusal, cutRefusal, waitOf, powerOf, cutOf}
+use Rattle.time.specs.Time.{later, waited, cycled, cutOff, chipRefusal, powerRefusal, cutRefusal, waitOf, powerOf, powerCutOf}
 use Rattle.time.proofs.Time.{chip-fits, ready, cuttable, idle-cycle}
 use Rattle.calls.specs.Calls.{Call, sends, waits, cycles, cuts, ours, after}
 
@@ -118,7 +118,7 @@ module _ (rec : Record) (x : Chip) (p : Fine rec (x .state) (x .page)) where
 
   -- an operation starts: the latch is set, and the chip is awake
   begun-fine : recordOk rec ≡ true → (op : Operation) {t : State} {page : List ℕ} → Begun rec x op t page → Fine rec t page
-  unfolding starting pageOk usedOf
+  unfolding starting pageOk usedPage
   begun-fine r op {t} {page} b =
       let some = b .takes-time r in
       let k = b .page-fits (blank-page (rec .model) (x .state) (x .page) (p .page-data) (b .idle-before)) in
@@ -145,7 +145,7 @@ module _ (rec : Record) (x : Chip) (p : Fine rec (x .state) (x .page)) where
 
 -- page data fit on while the time does not run out
 later-page : (n : ℕ) (s : State) (page : List ℕ) (us : ℕ) → (eqb (s .busy) 0 || ltb us (s .busy)) ≡ true → pageOk n s page ≡ true → pageOk n (later s us) page ≡ true
-unfolding pageOk usedOf later
+unfolding pageOk usedPage later
 later-page n s page us t e = go (eqb (s .busy) 0) refl t e
   where
     go : (b : Bool) → eqb (s .busy) 0 ≡ b → (b || ltb us (s .busy)) ≡ true → pageOk n s page ≡ true → pageOk n (later s us) page ≡ true
@@ -176,8 +176,8 @@ module _ (rec : Record) (x : Chip) where
           resting d = idle-cycle rec (x .state) (x .page) d
       go false d = p
 
-  cut-call-fine : (pattern : List ℕ) → Fine rec (x .state) (x .page) → Fine rec (cutOf rec x pattern .chip .state) (cutOf rec x pattern .chip .page)
-  unfolding cutOf
+  cut-call-fine : (pattern : List ℕ) → Fine rec (x .state) (x .page) → Fine rec (powerCutOf rec x pattern .chip .state) (powerCutOf rec x pattern .chip .page)
+  unfolding powerCutOf
   cut-call-fine pattern p =
       by (λ (y : Chip). Fine rec (y .state) (y .page)) (isDone (cutRefusal rec x pattern)) x (cutOff (rec .model) x pattern) (λ d. p) (λ d. cut-fine rec x pattern (p .sound))
 
@@ -187,13 +187,13 @@ module _ (rec : Record) (x : Chip) where
   wait-length us =
       by (λ (y : Chip). length (y .cells) ≡ length (x .cells)) (isDone (chipRefusal rec x)) x (waited (rec .model) x us) (λ d. refl)
       (λ d. by (λ (y : Chip). length (y .cells) ≡ length (x .cells)) (eqb (x .state .busy) 0 || ltb us (x .state .busy)) (finished (rec .model) x) (chipOf (later (x .state) us) (x .page) (x .cells))
-      (λ t. let r = ready rec x (chip-fits rec x d) in finished-only (rec .model) (place (x .state)) (x .page) (x .cells) (r .whole) (runs (rec .model) (x .state)) (r .placed) .long) (λ t. refl))
+      (λ t. let r = ready rec x (chip-fits rec x d) in finished-only (rec .model) (runsAt (x .state)) (x .page) (x .cells) (r .whole) (runs (rec .model) (x .state)) (r .placed) .long) (λ t. refl))
 
-  cut-length : (pattern : List ℕ) → length (cutOf rec x pattern .chip .cells) ≡ length (x .cells)
-  unfolding cutOf cutOff tornChip
+  cut-length : (pattern : List ℕ) → length (powerCutOf rec x pattern .chip .cells) ≡ length (x .cells)
+  unfolding powerCutOf cutOff tornChip
   cut-length pattern =
       by (λ (y : Chip). length (y .cells) ≡ length (x .cells)) (isDone (cutRefusal rec x pattern)) x (cutOff (rec .model) x pattern) (λ d. refl)
-      (λ d. let c = cuttable rec x pattern d in let r = ready rec x (c .fit) in cut-only (rec .model) (place (x .state)) (x .page) (x .cells) (r .whole) pattern (runs (rec .model) (x .state)) (r .placed) (c .long) .long)
+      (λ d. let c = cuttable rec x pattern d in let r = ready rec x (c .fit) in cut-only (rec .model) (runsAt (x .state)) (x .page) (x .cells) (r .whole) pattern (runs (rec .model) (x .state)) (r .placed) (c .long) .long)
 
 -- any call
 module _ (rec : Record) (seen : List Call) where

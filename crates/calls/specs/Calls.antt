@@ -12,7 +12,7 @@ use Rattle.answers.specs.declared.Answer.{Answer}
 use Rattle.time.specs.declared.After.{After}
 use Rattle.effects.specs.Effects.{Effect}
 use Rattle.chip.specs.Frames.{Sent, sentOf, frameOf}
-use Rattle.time.specs.Time.{Aftermath, waitOf, powerOf, cutOf}
+use Rattle.time.specs.Time.{Aftermath, waitOf, powerOf, powerCutOf}
 
 -- a frame; a wait of so many microseconds; a power cycle; a cut of the power with its pattern
 pub data Call : Type 0 where
@@ -30,7 +30,7 @@ pub record Pod : Type 0 where
 
 -- our model, which remembers nothing
 abbrev pub ours : Pod
-ours = record { frame = λ seen. frameOf; wait = λ seen. waitOf; power = λ seen. powerOf; cut = λ seen. cutOf }
+ours = record { frame = λ seen. frameOf; wait = λ seen. waitOf; power = λ seen. powerOf; cut = λ seen. powerCutOf }
 
 -- the chip that a frame leaves: it cannot change a cell
 abbrev pub left : Chip → Effect → Chip

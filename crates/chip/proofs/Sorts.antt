@@ -30,7 +30,7 @@ use Rattle.commands.specs.declared.Command.{Command}
 use Rattle.commands.specs.declared.Command.the-variants.{WriteEnable, WriteDisable, ReadStatus, ReadConfig, WriteStatus, Read, FastRead, EraseSector, EraseHalf, EraseBlock, EraseChip, Program, ReadId, Wake, ReadMaker, Sleep, Unknown}
 use Rattle.commands.proofs.Rows.{half-only-3}
 use Rattle.states.proofs.States.{sleep-le, wake-le, sign-le, times, half-some}
-use Rattle.effects.specs.Effects.{Effect, stateOnly, turned, drives, folding, latched, dozing, starting, refusalLeaves, writeEnable, writeDisable, writeStatus, erase, sleep, idBytes, makerBytes, readStatus, readConfig, readFrom, programPage, readId, wakingTime, wake, readMaker}
+use Rattle.effects.specs.Effects.{Effect, stateOnly, turned, drives, folding, latched, dozing, starting, refusalLeaves, writeEnable, writeDisable, writeStatus, eraseStarts, sleep, idBytes, makerBytes, readStatus, readConfig, readFrom, programPage, readId, wakingTime, wake, readMaker}
 use Rattle.chip.specs.Frames.{acceptedOf}
 use Rattle.chip.specs.Driven.{drivenBytes, foldOf}
 
@@ -183,14 +183,14 @@ module _ (rec : Record) (x : Chip) (at : Address) (bytes out : List ℕ) where
       → traitsOf (modelOf (rec .model) .register) c .«while_busy» ≡ false → traitsOf (modelOf (rec .model) .register) c .«while_asleep» ≡ false
       → placeOk (rec .model) op (at .0) ≡ ltb (at .0) (modelOf (rec .model) .length) → usedBytes op (at .0) ≡ 0
       → (Asked rec s c at bytes → recordOk rec ≡ true → 0 < operationTime rec op)
-      → Kind rec x c at bytes out 0 false (turned (x .page) out (erase rec s op (at .0) bytes))
-  unfolding erase
+      → Kind rec x c at bytes out 0 false (turned (x .page) out (eraseStarts rec s op (at .0) bytes))
+  unfolding eraseStarts
   erases op c e l b a p u t =
       begins op (starting s (getD bytes 0 0) (at .0) (operationTime rec op)) (x .page) false
       (λ q. begin rec x at bytes c l q op (at .0) (x .page) e (p ∙ lt-ltb (at .0) (modelOf (rec .model) .length) (q .inside)) (t q) b a (λ z. rw u (blank-stays z)))
 
   pub kind : (c : Command) → Kind rec x c at bytes out (drivenBytes c (length bytes)) (foldOf c at (length bytes)) (acceptedOf rec x c at bytes out)
-  unfolding acceptedOf writeEnable writeDisable writeStatus erase sleep traitsOf drivenBytes foldOf readStatus readConfig readFrom programPage readId wake readMaker
+  unfolding acceptedOf writeEnable writeDisable writeStatus eraseStarts sleep traitsOf drivenBytes foldOf readStatus readConfig readFrom programPage readId wake readMaker
   kind WriteEnable = turns (latched s true) (λ q. latches true (idle (s .busy) (q .listens)))
   kind WriteDisable = turns (latched s false) (λ q. latches false (idle (s .busy) (q .listens)))
   kind ReadStatus = drove s 1 (replicate (length bytes - 1) (statusOf s)) (λ q. stays)

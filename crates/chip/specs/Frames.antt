@@ -19,7 +19,7 @@ use Rattle.answers.specs.declared.Answer.the-variants.{Done}
 use Rattle.ladder.specs.Ladder.{refusalOf}
 use Rattle.ladder.specs.Stages.{givenOf}
 use Rattle.ladder.specs.declared.Head.{Head}
-use Rattle.effects.specs.Effects.{Effect, shown, started, turned, stateOnly, writeEnable, writeDisable, writeStatus, erase, sleep, refusalLeaves, readStatus, readConfig, readFrom, programPage, readId, wake, readMaker, Room}
+use Rattle.effects.specs.Effects.{Effect, shown, started, turned, stateOnly, writeEnable, writeDisable, writeStatus, eraseStarts, sleep, refusalLeaves, readStatus, readConfig, readFrom, programPage, readId, wake, readMaker, Room}
 
 -- what a frame sends: its whole bytes, the tail bits after them and the WP# level; and the output lent to it
 pub record Sent : Type 0 where
@@ -57,10 +57,10 @@ acceptedOf rec x ReadConfig at bytes out = shown (x .page) (readConfig (x .state
 acceptedOf rec x WriteStatus at bytes out = started out (writeStatus rec (x .state) (x .page) bytes)
 acceptedOf rec x Read at bytes out = shown (x .page) (readFrom 4 (x .state) (x .cells) at bytes out)
 acceptedOf rec x FastRead at bytes out = shown (x .page) (readFrom 5 (x .state) (x .cells) at bytes out)
-acceptedOf rec x EraseSector at bytes out = turned (x .page) out (erase rec (x .state) ErasesSector (at .0) bytes)
-acceptedOf rec x EraseHalf at bytes out = turned (x .page) out (erase rec (x .state) ErasesHalf (at .0) bytes)
-acceptedOf rec x EraseBlock at bytes out = turned (x .page) out (erase rec (x .state) ErasesBlock (at .0) bytes)
-acceptedOf rec x EraseChip at bytes out = turned (x .page) out (erase rec (x .state) ErasesChip noAddress bytes)
+acceptedOf rec x EraseSector at bytes out = turned (x .page) out (eraseStarts rec (x .state) ErasesSector (at .0) bytes)
+acceptedOf rec x EraseHalf at bytes out = turned (x .page) out (eraseStarts rec (x .state) ErasesHalf (at .0) bytes)
+acceptedOf rec x EraseBlock at bytes out = turned (x .page) out (eraseStarts rec (x .state) ErasesBlock (at .0) bytes)
+acceptedOf rec x EraseChip at bytes out = turned (x .page) out (eraseStarts rec (x .state) ErasesChip noAddress bytes)
 acceptedOf rec x Program at bytes out = started out (programPage rec (x .state) (x .page) at bytes)
 acceptedOf rec x ReadId at bytes out = shown (x .page) (readId rec (x .state) bytes out)
 acceptedOf rec x Wake at bytes out = shown (x .page) (wake rec (x .state) bytes out)

@@ -128,8 +128,8 @@ readFrom first s cells at bytes out =
     record { reply = drives s first (length bytes); out = lay out first (ring cells (at .0) (length bytes - first)) }
 
 -- 20, 52, D8, 60 and C7: the erase starts; the cells change when its time has run out (000 L315, L327, L335, 003 L1233)
-unfoldable pub erase : Record → State → Operation → ℕ → List ℕ → Reply
-erase rec s op place bytes = quiet Done (starting s (getD bytes 0 0) place (operationTime rec op))
+unfoldable pub eraseStarts : Record → State → Operation → ℕ → List ℕ → Reply
+eraseStarts rec s op place bytes = quiet Done (starting s (getD bytes 0 0) place (operationTime rec op))
 
 -- 02: the bytes from position 4 on fold into the page data; the cells change when the time has run out (000 L343)
 unfoldable pub programPage : Record → State → List ℕ → Address → List ℕ → Started

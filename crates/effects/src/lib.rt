@@ -1,7 +1,7 @@
 // What each command does, apart from the frame that carries it (specs/Effects.antt); here replies, and the commands that turn the state.
 ghost use mathlib.Core.Path.{_≡_};
 ghost use Prim.Native.Nat.{_-_};
-ghost use Rattle.effects.specs.Effects.{quiet as Effects·quiet, drives, folding, latched, dozing, starting, refusalLeaves, writeEnable, writeDisable, erase as Effects·erase, sleep as Effects·sleep};
+ghost use Rattle.effects.specs.Effects.{quiet as Effects·quiet, drives, folding, latched, dozing, starting, refusalLeaves, writeEnable, writeDisable, eraseStarts as Effects·erase, sleep as Effects·sleep};
 use answers::Answer;
 use commands::Operation;
 use states::Record;

@@ -80,8 +80,8 @@ finishedBits n ErasesChip s page = s
 abbrev pub runs : ℕ → State → Operation
 runs n s = startedBy n (s .command)
 
-abbrev pub place : State → Address
-place s = record { 0 = s .address }
+abbrev pub runsAt : State → Address
+runsAt s = record { 0 = s .address }
 
 -- the operation is forgotten, and WEL clears (000 L110-117)
 unfoldable pub forgotten : State → State
@@ -92,7 +92,7 @@ forgotten s =
 unfoldable pub finished : ℕ → Chip → Chip
 finished n x =
     let s : State = x .state in
-    chipOf (forgotten (finishedBits n (runs n s) s (x .page))) blankPage (finishedCells (runs n s) (place s) (x .page) (x .cells))
+    chipOf (forgotten (finishedBits n (runs n s) s (x .page))) blankPage (finishedCells (runs n s) (runsAt s) (x .page) (x .cells))
 
 -- ---- the power was cut
 -- how many pattern bytes there have to be: one a cell of the unit, one a data byte of a status write
@@ -139,7 +139,7 @@ cutBits n ErasesChip s page pattern = s
 unfoldable pub tornChip : ℕ → Chip → List ℕ → Chip
 tornChip n x pattern =
     let s : State = x .state in
-    chipOf (cutBits n (runs n s) s (x .page) pattern) blankPage (cutCells (runs n s) (place s) (x .page) pattern (x .cells))
+    chipOf (cutBits n (runs n s) s (x .page) pattern) blankPage (cutCells (runs n s) (runsAt s) (x .page) pattern (x .cells))
 
 -- what a function's result and its lent buffers at exit have to be
 pub record Left (x : Chip) (s : State) (page cells : List ℕ) : Type 0 where
@@ -148,7 +148,7 @@ pub record Left (x : Chip) (s : State) (page cells : List ℕ) : Type 0 where
   pub cells-are : cells ≡ x .cells
 
 -- what the functions ask of a chip whose operation finishes or is cut: its address fits, and there are 256 page data bytes
-pub record Ready (n : ℕ) (s : State) (page cells : List ℕ) : Type 0 where
+pub record Operable (n : ℕ) (s : State) (page cells : List ℕ) : Type 0 where
   pub whole : length cells ≡ modelOf n .length
   pub placed : placeOk n (runs n s) (s .address) ≡ true
   pub page-data : length page ≡ 256

@@ -5,7 +5,7 @@ ghost use Prim.Native.Nat.{_≤_};
 ghost use lib.ListN.{length};
 ghost use Rattle.models.specs.Models.{modelOf};
 ghost use Rattle.states.specs.States.{placeOk, chipOf};
-ghost use Rattle.operations.specs.Operations.{Ready, Left, forgotten, finished, tornChip, finishedCells, configWritten, configAfter, keeping, written, finishedBits, runs, patternLength, cutCells, tornBits, cutBits, bitsOf};
+ghost use Rattle.operations.specs.Operations.{Operable, Left, forgotten, finished, tornChip, finishedCells, configWritten, configAfter, keeping, written, finishedBits, runs, patternLength, cutCells, tornBits, cutBits, bitsOf};
 use commands::Operation;
 use states::State;
 use units::Address;
@@ -102,7 +102,7 @@ fn forget(st: State) -> State
 
 // The operation's time has run out: its cells and kept bits change, and it is forgotten.
 pub fn finish(model: u32, st: State, page: &mut [u8], array: &mut [u8]) -> State
-    requires { ⌜ Ready model st (now page) (now array) ⌝ }
+    requires { ⌜ Operable model st (now page) (now array) ⌝ }
     ensures { λ r. ⌜ Left (finished model (chipOf st (now (page .entry)) (now (array .entry)))) r (now (page .exit)) (now (array .exit)) ⌝ }
 {
     let op = commands::started_by(model, st.command);
@@ -192,7 +192,7 @@ fn cut_bits(model: u32, op: Operation, st: State, page: &[u8], pattern: &[u8]) -
 
 // The power is cut: the unit or the kept bits have what the pattern leaves, and no page data are left.
 pub fn tear(model: u32, st: State, page: &mut [u8], array: &mut [u8], pattern: &[u8]) -> State
-    requires { ⌜ (Ready model st (now page) (now array)) × (st .bp ≤ modelOf model .«highest_bp») × (length (now pattern) ≡ patternLength (runs model st) (st .address) (length (now array))) ⌝ }
+    requires { ⌜ (Operable model st (now page) (now array)) × (st .bp ≤ modelOf model .«highest_bp») × (length (now pattern) ≡ patternLength (runs model st) (st .address) (length (now array))) ⌝ }
     ensures { λ r. ⌜ Left (tornChip model (chipOf st (now (page .entry)) (now (array .entry))) (now (pattern .entry))) r (now (page .exit)) (now (array .exit)) ⌝ }
 {
     let op = commands::started_by(model, st.command);

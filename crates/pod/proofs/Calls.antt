@@ -20,7 +20,7 @@ use Rattle.effects.specs.declared.Reply.{Reply}
 use Rattle.effects.specs.Effects.{Gives}
 use Rattle.chip.specs.Frames.{Sent, headFor, frameOf}
 use Rattle.time.specs.declared.After.{After}
-use Rattle.time.specs.Time.{waited, cutOff, chipRefusal, powerRefusal, cutRefusal, Aftermath, unless, waitOf, powerOf, cutOf, Ends}
+use Rattle.time.specs.Time.{waited, cutOff, chipRefusal, powerRefusal, cutRefusal, Aftermath, unless, waitOf, powerOf, powerCutOf, Ends}
 use Rattle.pod.specs.Packing.{packed, pageIn, isPacking, unpackOf}
 use Rattle.pod.specs.Calls.{chipIn, bytesRefusal, mayMove, keptOf, called, calledFrame, altered, alteredOf, calledWait, calledCut, answered, calledCycle, Leaves, Alters, Answers, Packs}
 use Rattle.pod.proofs.Status.{flag-byte}
@@ -123,17 +123,17 @@ module _ (rec : Record) (xs cells : List ℕ) (n : length xs ≡ 272) {r : Recor
     unfolding calledWait
     alters-wait p q = alters rec xs cells n (waitOf rec (chipIn xs cells) us) (wait-keeps rec (chipIn xs cells) us) ends-wait p q
 
-  module _ (pattern : List ℕ) (g : Ends (cutOf r (chipOf s (midOf 16 256 xs) cells) pattern) a page cells′) where
-    ends-cut : Ends (cutOf rec (chipIn xs cells) pattern) a page cells′
+  module _ (pattern : List ℕ) (g : Ends (powerCutOf r (chipOf s (midOf 16 256 xs) cells) pattern) a page cells′) where
+    ends-cut : Ends (powerCutOf rec (chipIn xs cells) pattern) a page cells′
     ends-cut = rw (re, lent xs n cells se) at g
 
     pub fits-cut : Packs (a .answer) (a .state) (putMid 16 256 xs page)
-    fits-cut = fits-after rec xs cells n (cutOf rec (chipIn xs cells) pattern) (cut-keeps rec (chipIn xs cells) pattern) ends-cut
+    fits-cut = fits-after rec xs cells n (powerCutOf rec (chipIn xs cells) pattern) (cut-keeps rec (chipIn xs cells) pattern) ends-cut
 
     pub alters-cut : {m : ℕ} {xs′ : List ℕ} → m ≡ numberOf (a .answer) → xs′ ≡ keptOf (a .answer) (a .state) (pageIn (putMid 16 256 xs page)) (putMid 16 256 xs page)
         → Alters (calledCut rec xs cells pattern) m xs′ cells′
     unfolding calledCut
-    alters-cut p q = alters rec xs cells n (cutOf rec (chipIn xs cells) pattern) (cut-keeps rec (chipIn xs cells) pattern) ends-cut p q
+    alters-cut p q = alters rec xs cells n (powerCutOf rec (chipIn xs cells) pattern) (cut-keeps rec (chipIn xs cells) pattern) ends-cut p q
 
 -- ---- power cycles
 module _ (rec : Record) (xs : List ℕ) (n : length xs ≡ 272) {r : Record} {s : State} {a : After} (re : r ≡ rec) (se : s ≡ unpackOf xs) (g : a ≡ powerOf r s (midOf 16 256 xs)) where
@@ -198,7 +198,7 @@ module _ (rec : Record) (xs cells : List ℕ) (u : Unfit rec xs) where
   unfit-wait us = unfit-altered (chipRefusal rec (chipIn xs cells)) (waited (rec .model) (chipIn xs cells) us) refl
 
   pub unfit-cut : (pattern : List ℕ) → calledCut rec xs cells pattern ≡ altered (bytesRefusal rec (length cells)) xs cells
-  unfolding calledCut cutOf cutRefusal
+  unfolding calledCut powerCutOf cutRefusal
   unfit-cut pattern = unfit-altered (cutRefusal rec (chipIn xs cells) pattern) (cutOff (rec .model) (chipIn xs cells) pattern) (rw (unfit-chip .1))
 
 pub unfit-cycle : (rec : Record) (xs : List ℕ) → Unfit rec xs → calledCycle rec xs ≡ answered (cond (recordOk rec) 3 1) xs

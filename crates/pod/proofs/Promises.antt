@@ -17,7 +17,7 @@ use Rattle.states.proofs.States.{page-length}
 use Rattle.effects.specs.Effects.{refusalLeaves}
 use Rattle.effects.proofs.Replies.{leaves-latch, clears-latch}
 use Rattle.chip.specs.Frames.{Sent, frameOf}
-use Rattle.time.specs.Time.{waited, cutOff, chipRefusal, powerRefusal, cutRefusal, waitOf, powerOf, cutOf}
+use Rattle.time.specs.Time.{waited, cutOff, chipRefusal, powerRefusal, cutRefusal, waitOf, powerOf, powerCutOf}
 use Rattle.pod.specs.Packing.{packed, pageIn, unpackOf}
 use Rattle.pod.specs.Calls.{chipIn, mayMove, keptOf, called, calledOf, calledFrame, calledWait, calledCut, calledCycle}
 use Rattle.pod.specs.Promises.{UnpacksPacked, PacksUnpacked, NoPacking, FrameRefusesBytes, WaitRefusesBytes, CutRefusesBytes, CycleRefusesBytes, RefusedFrameStays, RefusedFrameClears, RefusedWaitStays, RefusedCutStays, RefusedCycleStays, FrameCarries, WaitCarries, CutCarries, CycleCarries, OneCalled, OneAltered, OneAnswered}
@@ -99,7 +99,7 @@ refused-wait-stays rec xs cells us n =
     refused-altered xs cells (chipRefusal rec x) (waited (rec .model) x us) (chip-spared rec x) (ne-eqb _ 0 n)
 
 pub refused-cut-stays : RefusedCutStays
-unfolding calledCut cutOf
+unfolding calledCut powerCutOf
 refused-cut-stays rec xs cells pattern n =
     let x = chipIn xs cells in
     refused-altered xs cells (cutRefusal rec x pattern) (cutOff (rec .model) x pattern) (cut-spared rec x pattern) (ne-eqb _ 0 n)

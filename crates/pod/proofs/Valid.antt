@@ -28,7 +28,7 @@ use Rattle.operations.proofs.Kept.{written-level, torn-level}
 use Rattle.chip.specs.Frames.{Sent, headFor, headOf, refusedOf, frameOf}
 use Rattle.chip.proofs.Cases.{refusal, accepted, frame-cases, sort, shown-asked, refused-moves}
 use Rattle.chip.proofs.Sorts.{Move, stays, latches, dozes, Begun, Turn, moved, begun, is-done, moves}
-use Rattle.time.specs.Time.{later, waited, cycled, cutOff, chipRefusal, powerRefusal, cutRefusal, waitOf, powerOf, cutOf}
+use Rattle.time.specs.Time.{later, waited, cycled, cutOff, chipRefusal, powerRefusal, cutRefusal, waitOf, powerOf, powerCutOf}
 use Rattle.time.proofs.Time.{Fit, chip-fits, cuttable}
 use Rattle.pod.specs.Calls.{mayMove}
 use Rattle.pod.specs.Packing.{isPacking, noState, unpackOf}
@@ -238,8 +238,8 @@ wait-keeps rec x us =
     (λ d. let f = chip-fits rec x d in rw d (f .valid, waited-fits rec x (fit-small rec x f) us (page-length (rec .model) (x .state) (x .page) (f .page))))
     (λ n. rw n (refl, refl))
 
-pub cut-keeps : (rec : Record) (x : Chip) (pattern : List ℕ) → Keeps rec x (cutOf rec x pattern .answer) (cutOf rec x pattern .chip .state) (cutOf rec x pattern .chip .page)
-unfolding cutOf
+pub cut-keeps : (rec : Record) (x : Chip) (pattern : List ℕ) → Keeps rec x (powerCutOf rec x pattern .answer) (powerCutOf rec x pattern .chip .state) (powerCutOf rec x pattern .chip .page)
+unfolding powerCutOf
 cut-keeps rec x pattern =
     keeps-by rec x (cutRefusal rec x pattern) _ _ (cut-spared rec x pattern)
     (λ d. let f = cuttable rec x pattern d .fit in rw d (f .valid, cut-fits rec x (fit-small rec x f) pattern))

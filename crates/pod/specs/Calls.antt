@@ -14,7 +14,7 @@ use Rattle.answers.specs.declared.Answer.{Answer}
 use Rattle.time.specs.declared.After.{After}
 use Rattle.effects.specs.Effects.{Effect}
 use Rattle.chip.specs.Frames.{Sent, sentOf, frameOf}
-use Rattle.time.specs.Time.{Aftermath, waitOf, powerOf, cutOf}
+use Rattle.time.specs.Time.{Aftermath, waitOf, powerOf, powerCutOf}
 use Rattle.pod.specs.Packing.{packed, pageIn, unpackOf}
 
 -- the record of ten numbers
@@ -78,7 +78,7 @@ unfoldable pub calledWait : Record → List ℕ → List ℕ → ℕ → Altered
 calledWait rec state cells us = alteredOf state (waitOf rec (chipIn state cells) us)
 
 unfoldable pub calledCut : Record → List ℕ → List ℕ → List ℕ → Altered
-calledCut rec state cells pattern = alteredOf state (cutOf rec (chipIn state cells) pattern)
+calledCut rec state cells pattern = alteredOf state (powerCutOf rec (chipIn state cells) pattern)
 
 -- ---- a power cycle: the number and the state bytes; the page data stay
 pub record Answered : Type 0 where

@@ -11,7 +11,7 @@ use Rattle.states.specs.declared.Record.{Record}
 use Rattle.states.specs.declared.State.{State}
 use Rattle.effects.specs.Effects.{latched}
 use Rattle.chip.specs.Frames.{Sent, frameOf}
-use Rattle.time.specs.Time.{waitOf, powerOf, cutOf}
+use Rattle.time.specs.Time.{waitOf, powerOf, powerCutOf}
 use Rattle.pod.specs.Packing.{packed, pageIn, unpackOf}
 use Rattle.pod.specs.Calls.{chipIn, bytesRefusal, Called, Altered, Answered, called, altered, answered, calledFrame, calledWait, calledCut, calledCycle, Leaves, Alters, Answers}
 
@@ -89,7 +89,7 @@ WaitCarries =
 abbrev pub CutCarries : Type 0
 CutCarries =
     (rec : Record) (xs cells pattern : List ℕ)
-    → chipIn (calledCut rec xs cells pattern .state) (calledCut rec xs cells pattern .cells) ≡ cutOf rec (chipIn xs cells) pattern .chip
+    → chipIn (calledCut rec xs cells pattern .state) (calledCut rec xs cells pattern .cells) ≡ powerCutOf rec (chipIn xs cells) pattern .chip
 
 abbrev pub CycleCarries : Type 0
 CycleCarries =

@@ -34,13 +34,13 @@ use Rattle.ladder.specs.Ladder.{refusalOf}
 use Rattle.effects.proofs.Replies.{leaves-all, leaves-latch, clears-latch}
 use Rattle.effects.specs.declared.Reply.{Reply}
 use Rattle.effects.specs.Effects.{Effect, latched, dozing, starting, stateOnly}
-use Rattle.operations.specs.Operations.{runs, place, pageAddress, configAfter, written, finishedBits, finishedCells, forgotten, finished, tornBits, cutBits, tornChip}
+use Rattle.operations.specs.Operations.{runs, runsAt, pageAddress, configAfter, written, finishedBits, finishedCells, forgotten, finished, tornBits, cutBits, tornChip}
 use Rattle.operations.proofs.Fits.{inside, page-fits}
 use Rattle.operations.proofs.Kept.{config-after-tb, finished-settle}
 use Rattle.operations.proofs.Only.{finished-only, cut-only}
 use Rattle.operations.proofs.Patterns.{old-cells, new-cells}
 use Rattle.time.specs.declared.After.{After}
-use Rattle.time.specs.Time.{later, waited, cycled, cutOff, chipRefusal, powerRefusal, cutRefusal, waitOf, powerOf, cutOf}
+use Rattle.time.specs.Time.{later, waited, cycled, cutOff, chipRefusal, powerRefusal, cutRefusal, waitOf, powerOf, powerCutOf}
 use Rattle.time.proofs.Time.{chip-fits, fit-taken, ready, cuttable}
 use Rattle.chip.specs.Frames.{headFor, refusedOf, Sent, frameOf}
 use Rattle.chip.specs.Driven.{drivenBytes, foldOf}
@@ -96,8 +96,8 @@ same-end rec x a p n =
     bits (runs (rec .model) (x .state)) e
   where
     bits : (op : Operation) → x .state .settle - a ≡ x .state .settle
-        → chipOf (forgotten (finishedBits (rec .model) op (later (x .state) a) (x .page))) blankPage (finishedCells op (place (x .state)) (x .page) (x .cells))
-        ≡ chipOf (forgotten (finishedBits (rec .model) op (x .state) (x .page))) blankPage (finishedCells op (place (x .state)) (x .page) (x .cells))
+        → chipOf (forgotten (finishedBits (rec .model) op (later (x .state) a) (x .page))) blankPage (finishedCells op (runsAt (x .state)) (x .page) (x .cells))
+        ≡ chipOf (forgotten (finishedBits (rec .model) op (x .state) (x .page))) blankPage (finishedCells op (runsAt (x .state)) (x .page) (x .cells))
     bits Idle e = rw e
     bits WritesStatus e = rw e
     bits Programs e = rw e
@@ -180,7 +180,7 @@ unfolding waitOf
 refused-wait rec x us d = kept-chip (chipRefusal rec x) x (waited (rec .model) x us) d
 
 pub refused-cut : RefusedCut
-unfolding cutOf
+unfolding powerCutOf
 refused-cut rec x pattern d = kept-chip (cutRefusal rec x pattern) x (cutOff (rec .model) x pattern) d
 
 pub refused-cycle : RefusedCycle
@@ -239,7 +239,7 @@ abbrev Tb : Chip → Type 0
 Tb y = tbOf (y .state) ≡ true
 
 pub tb-stays : TbStays
-unfolding after waitOf waited finished powerOf cutOf cutOff tornChip later tbOf
+unfolding after waitOf waited finished powerOf powerCutOf cutOff tornChip later tbOf
 tb-stays rec (sends f) x h =
     frame-cases rec x f (λ (e : Effect). tbOf (e .reply .state) ≡ true)
     (λ d. turned-tb (moves (sort rec x f) (shown-asked rec x f d)) h) (λ d. moved-tb (refused-moves rec x f) h)
@@ -260,16 +260,16 @@ unfolding waitOf waited finished
 only-its-unit rec x us k o =
     by (λ (y : Chip). getD (y .cells) k 0 ≡ getD (x .cells) k 0) (isDone (chipRefusal rec x)) x (waited (rec .model) x us) (λ d. refl)
     (λ d. by (λ (y : Chip). getD (y .cells) k 0 ≡ getD (x .cells) k 0) (eqb (x .state .busy) 0 || ltb us (x .state .busy)) (finished (rec .model) x) (chipOf (later (x .state) us) (x .page) (x .cells))
-    (λ t. let r = ready rec x (chip-fits rec x d) in finished-only (rec .model) (place (x .state)) (x .page) (x .cells) (r .whole) (runs (rec .model) (x .state)) (r .placed) .rest k o) (λ t. refl))
+    (λ t. let r = ready rec x (chip-fits rec x d) in finished-only (rec .model) (runsAt (x .state)) (x .page) (x .cells) (r .whole) (runs (rec .model) (x .state)) (r .placed) .rest k o) (λ t. refl))
 
 pub cuts-only-its-unit : CutsOnlyItsUnit
-unfolding cutOf cutOff tornChip
+unfolding powerCutOf cutOff tornChip
 cuts-only-its-unit rec x pattern k o =
     by (λ (y : Chip). getD (y .cells) k 0 ≡ getD (x .cells) k 0) (isDone (cutRefusal rec x pattern)) x (cutOff (rec .model) x pattern) (λ d. refl)
     (λ d.
     let c = cuttable rec x pattern d in
     let r = ready rec x (c .fit) in
-    cut-only (rec .model) (place (x .state)) (x .page) (x .cells) (r .whole) pattern (runs (rec .model) (x .state)) (r .placed) (c .long) .rest k o)
+    cut-only (rec .model) (runsAt (x .state)) (x .page) (x .cells) (r .whole) pattern (runs (rec .model) (x .state)) (r .placed) (c .long) .rest k o)
 
 pub not-before : NotBefore
 unfolding waitOf waited
@@ -310,26 +310,26 @@ program-falls rec x us b k e =
     Falls : Chip → Type 0
     Falls y = bit b (getD (y .cells) k 0) ≤ bit b (getD (x .cells) k 0)
 
-    ended : isDone (chipRefusal rec x) ≡ true → bit b (getD (finishedCells (runs (rec .model) (x .state)) (place (x .state)) (x .page) (x .cells)) k 0) ≤ bit b (getD (x .cells) k 0)
+    ended : isDone (chipRefusal rec x) ≡ true → bit b (getD (finishedCells (runs (rec .model) (x .state)) (runsAt (x .state)) (x .page) (x .cells)) k 0) ≤ bit b (getD (x .cells) k 0)
     ended d =
         let r = ready rec x (chip-fits rec x d) in
         let i = inside (rec .model) Programs (x .state .address) (x .cells) e (r .placed) (r .whole) refl in
-        rw e (falls-in (x .cells) (pageAddress (place (x .state))) (x .page) b k (omega (arith, page-fits (rec .model) (x .cells) (place (x .state)) i (r .whole))))
+        rw e (falls-in (x .cells) (pageAddress (runsAt (x .state))) (x .page) b k (omega (arith, page-fits (rec .model) (x .cells) (runsAt (x .state)) i (r .whole))))
 
 -- ---- patterns
 pub pattern-old : PatternOld
-unfolding cutOf cutOff tornChip
+unfolding powerCutOf cutOff tornChip
 pattern-old rec x d =
     let c = cuttable rec x (unitCells rec x (x .cells)) d in
     let r = ready rec x (c .fit) in
-    rw d (old-cells (rec .model) (place (x .state)) (x .page) (x .cells) (r .whole) (r .page-data) (runs (rec .model) (x .state)) (r .placed))
+    rw d (old-cells (rec .model) (runsAt (x .state)) (x .page) (x .cells) (r .whole) (r .page-data) (runs (rec .model) (x .state)) (r .placed))
 
 pub pattern-finished : PatternFinished
-unfolding cutOf cutOff tornChip finished
+unfolding powerCutOf cutOff tornChip finished
 pattern-finished rec x d =
     let c = cuttable rec x (unitCells rec x (finished (rec .model) x .cells)) d in
     let r = ready rec x (c .fit) in
-    rw d (new-cells (rec .model) (place (x .state)) (x .page) (x .cells) (r .whole) (r .page-data) (runs (rec .model) (x .state)) (r .placed))
+    rw d (new-cells (rec .model) (runsAt (x .state)) (x .page) (x .cells) (r .whole) (r .page-data) (runs (rec .model) (x .state)) (r .placed))
 
 -- ---- no second answer
 pub one-outcome : OneOutcome

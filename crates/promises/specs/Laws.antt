@@ -22,8 +22,8 @@ use Rattle.effects.specs.Effects.{Gives, latched, refusalLeaves, stateOnly}
 use Rattle.ladder.specs.declared.Head.{Head}
 use Rattle.chip.specs.Frames.{Sent, headOf, refusedOf, frameOf}
 use Rattle.chip.specs.Driven.{drivenBytes, foldOf}
-use Rattle.operations.specs.Operations.{Extent, unitOf, runs, place, finished}
-use Rattle.time.specs.Time.{Aftermath, Ends, waitOf, powerOf, cutOf}
+use Rattle.operations.specs.Operations.{Extent, unitOf, runs, runsAt, finished}
+use Rattle.time.specs.Time.{Aftermath, Ends, waitOf, powerOf, powerCutOf}
 use Rattle.calls.specs.Calls.{Call, ours, after}
 
 -- waiting a and then b is waiting a + b, for any record, state, page data and array
@@ -57,7 +57,7 @@ abbrev pub RefusedWait : Type 0
 RefusedWait = (rec : Record) (x : Chip) (us : ℕ) → isDone (waitOf rec x us .answer) ≡ false → waitOf rec x us .chip ≡ x
 
 abbrev pub RefusedCut : Type 0
-RefusedCut = (rec : Record) (x : Chip) (pattern : List ℕ) → isDone (cutOf rec x pattern .answer) ≡ false → cutOf rec x pattern .chip ≡ x
+RefusedCut = (rec : Record) (x : Chip) (pattern : List ℕ) → isDone (powerCutOf rec x pattern .answer) ≡ false → powerCutOf rec x pattern .chip ≡ x
 
 abbrev pub RefusedCycle : Type 0
 RefusedCycle = (rec : Record) (s : State) (page : List ℕ) → isDone (powerOf rec s page .answer) ≡ false → powerOf rec s page .state ≡ s
@@ -91,7 +91,7 @@ SettlingStays =
 
 -- a wait changes at most the unit of the running operation, and so does a cut; a frame changes no cell at all
 abbrev pub unit : Record → Chip → Extent
-unit rec x = unitOf (runs (rec .model) (x .state)) (place (x .state)) (length (x .cells))
+unit rec x = unitOf (runs (rec .model) (x .state)) (runsAt (x .state)) (length (x .cells))
 
 abbrev pub Outside : Extent → ℕ → Type 0
 Outside u k = (k < u .start) ⊎ (u .start + u .size ≤ k)
@@ -100,7 +100,7 @@ abbrev pub OnlyItsUnit : Type 0
 OnlyItsUnit = (rec : Record) (x : Chip) (us k : ℕ) → Outside (unit rec x) k → getD (waitOf rec x us .chip .cells) k 0 ≡ getD (x .cells) k 0
 
 abbrev pub CutsOnlyItsUnit : Type 0
-CutsOnlyItsUnit = (rec : Record) (x : Chip) (pattern : List ℕ) (k : ℕ) → Outside (unit rec x) k → getD (cutOf rec x pattern .chip .cells) k 0 ≡ getD (x .cells) k 0
+CutsOnlyItsUnit = (rec : Record) (x : Chip) (pattern : List ℕ) (k : ℕ) → Outside (unit rec x) k → getD (powerCutOf rec x pattern .chip .cells) k 0 ≡ getD (x .cells) k 0
 
 -- cells only fall under a program: no bit b of any cell k rises when it has finished (of a cut one `torn-falls` says it, in `cells`)
 abbrev pub ProgramFalls : Type 0
@@ -116,13 +116,13 @@ abbrev pub unitCells : Record → Chip → List ℕ → List ℕ
 unitCells rec x cells = part cells (unit rec x .start) (unit rec x .size)
 
 abbrev pub PatternOld : Type 0
-PatternOld = (rec : Record) (x : Chip) → isDone (cutOf rec x (unitCells rec x (x .cells)) .answer) ≡ true → cutOf rec x (unitCells rec x (x .cells)) .chip .cells ≡ x .cells
+PatternOld = (rec : Record) (x : Chip) → isDone (powerCutOf rec x (unitCells rec x (x .cells)) .answer) ≡ true → powerCutOf rec x (unitCells rec x (x .cells)) .chip .cells ≡ x .cells
 
 abbrev pub PatternFinished : Type 0
 PatternFinished =
     (rec : Record) (x : Chip)
     → (let done : List ℕ = finished (rec .model) x .cells in
-    isDone (cutOf rec x (unitCells rec x done) .answer) ≡ true → cutOf rec x (unitCells rec x done) .chip .cells ≡ done)
+    isDone (powerCutOf rec x (unitCells rec x done) .answer) ≡ true → powerCutOf rec x (unitCells rec x done) .chip .cells ≡ done)
 
 -- no second answer satisfies a promise. Every promise of the crates below is an equation with a definition, `Gives` or `Ends`.
 abbrev pub OneOutcome : Type 1

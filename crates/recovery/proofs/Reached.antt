@@ -13,7 +13,7 @@ use Rattle.states.specs.declared.Record.{Record}
 use Rattle.states.specs.declared.State.{State}
 use Rattle.answers.specs.declared.Answer.the-variants.{Done}
 use Rattle.states.proofs.States.{times, has-half, longest-in-range, by-longest}
-use Rattle.effects.specs.Effects.{Effect, stateOnly, turned, started, shown, drives, dozing, starting, wakingTime, wake, writeStatus, erase, programPage}
+use Rattle.effects.specs.Effects.{Effect, stateOnly, turned, started, shown, drives, dozing, starting, wakingTime, wake, writeStatus, eraseStarts, programPage}
 use Rattle.time.specs.Time.{later, waited}
 use Rattle.chip.specs.Frames.{frameOf}
 use Rattle.calls.specs.Calls.{Call, sends, waits, ours, left, run, Bench, frame}
@@ -73,29 +73,29 @@ module _ (rec : Record) (cells : List ℕ) (j : Job) (e : recordOk rec ≡ true)
       (program-taken rec armed (arms .bench) refl refl room 0 0 0 (0 ∷ []) refl refl refl (lit≤ tt) (lit≤ tt) (lit≤ tt)) refl refl (times rec e .page) m
 
   by-sector : longestOf rec ≡ rec .sector → Reached
-  unfolding erase starting
+  unfolding eraseStarts starting
   by-sector m =
-      by (0x20 ∷ 0 ∷ 0 ∷ 0 ∷ []) (turned blankPage room (erase rec (enabled 0) ErasesSector (addressOf (rec .model) 0 0 0 .0) (0x20 ∷ 0 ∷ 0 ∷ 0 ∷ []))) (rec .sector)
+      by (0x20 ∷ 0 ∷ 0 ∷ 0 ∷ []) (turned blankPage room (eraseStarts rec (enabled 0) ErasesSector (addressOf (rec .model) 0 0 0 .0) (0x20 ∷ 0 ∷ 0 ∷ 0 ∷ []))) (rec .sector)
       (erase-taken rec armed (arms .bench) refl refl room 0 0 0 refl refl refl (lit≤ tt)) refl refl (times rec e .sector) m
 
   by-block : longestOf rec ≡ rec .block → Reached
-  unfolding erase starting
+  unfolding eraseStarts starting
   by-block m =
-      by (0xD8 ∷ 0 ∷ 0 ∷ 0 ∷ []) (turned blankPage room (erase rec (enabled 0) ErasesBlock (addressOf (rec .model) 0 0 0 .0) (0xD8 ∷ 0 ∷ 0 ∷ 0 ∷ []))) (rec .block)
+      by (0xD8 ∷ 0 ∷ 0 ∷ 0 ∷ []) (turned blankPage room (eraseStarts rec (enabled 0) ErasesBlock (addressOf (rec .model) 0 0 0 .0) (0xD8 ∷ 0 ∷ 0 ∷ 0 ∷ []))) (rec .block)
       (block-taken rec armed (arms .bench) refl refl room 0 0 0 refl refl refl (lit≤ tt)) refl refl (times rec e .block) m
 
   by-chip : longestOf rec ≡ rec .chip → Reached
-  unfolding erase starting
+  unfolding eraseStarts starting
   by-chip m =
-      by (0xC7 ∷ []) (turned blankPage room (erase rec (enabled 0) ErasesChip noAddress (0xC7 ∷ []))) (rec .chip)
+      by (0xC7 ∷ []) (turned blankPage room (eraseStarts rec (enabled 0) ErasesChip noAddress (0xC7 ∷ []))) (rec .chip)
       (chip-taken rec armed (arms .bench) refl refl room refl refl refl (lit≤ tt)) refl refl (times rec e .chip) m
 
   -- a model that has the sixth time has that erase
   by-half : longestOf rec ≡ rec .half → Reached
-  unfolding erase starting
+  unfolding eraseStarts starting
   by-half m =
       let t : 0 < rec .half = subst (λ (us : ℕ). 0 < us) m (longest-in-range rec e .some) in
-      by (0x52 ∷ 0 ∷ 0 ∷ 0 ∷ []) (turned blankPage room (erase rec (enabled 0) ErasesHalf (addressOf (rec .model) 0 0 0 .0) (0x52 ∷ 0 ∷ 0 ∷ 0 ∷ []))) (rec .half)
+      by (0x52 ∷ 0 ∷ 0 ∷ 0 ∷ []) (turned blankPage room (eraseStarts rec (enabled 0) ErasesHalf (addressOf (rec .model) 0 0 0 .0) (0x52 ∷ 0 ∷ 0 ∷ 0 ∷ []))) (rec .half)
       (half-taken rec armed (arms .bench) refl refl room 0 0 0 (has-half rec e t) refl refl refl (lit≤ tt)) refl refl t m
 
   -- ---- from power-on: B9, and AB after it

@@ -30,7 +30,7 @@ use Rattle.states.specs.declared.Record.{Record}
 use Rattle.states.specs.declared.State.{State}
 use Rattle.answers.specs.declared.Answer.the-variants.{Done}
 use Rattle.states.proofs.States.{Resting, sound, times, busy-le, busy-le-all, settle-le-all, blank-page}
-use Rattle.effects.specs.Effects.{Effect, quiet, stateOnly, turned, started, shown, drives, latched, dozing, starting, writeStatus, erase as Effects·erase, programPage, readFrom}
+use Rattle.effects.specs.Effects.{Effect, quiet, stateOnly, turned, started, shown, drives, latched, dozing, starting, writeStatus, eraseStarts as Effects·erase, programPage, readFrom}
 use Rattle.operations.specs.Operations.{runs, pageAddress, configAfter, written, forgotten, finished}
 use Rattle.operations.proofs.Kept.{finished-settle}
 use Rattle.operations.proofs.Page.{page-laid}

@@ -15,7 +15,7 @@ use Rattle.commands.specs.declared.Operation.the-variants.{Idle, WritesStatus, 
 use borrow.Author.Tests.{eqb-true, eqb-false, leb-true, leb-false, not-true, eq-eqb, ne-eqb, le-leb}
 use Rattle.models.specs.Models.{isModel, partOf, modelOf}
 use Rattle.units.proofs.Bools.{both, either}
-use Rattle.states.specs.States.{commonTimes, busyTimes, settleTimes, timesOf, inRange, all, halfOk, recordOk, largest, longestBusy, longestSettle, longestOf, configOk, noCommand, noAddress, operationTime, placeOk, idleOk, busyOk, stateOk, usedOf, pageOk, blankPage}
+use Rattle.states.specs.States.{commonTimes, busyTimes, settleTimes, timesOf, inRange, all, halfOk, recordOk, largest, longestBusy, longestSettle, longestOf, configOk, noCommand, noAddress, operationTime, placeOk, idleOk, busyOk, stateOk, usedPage, pageOk, blankPage}
 use Rattle.states.specs.declared.Record.{Record}
 use Rattle.states.specs.declared.State.{State}
 
@@ -102,13 +102,13 @@ module _ (n : ℕ) (s : State) (page : List ℕ) where
 
   -- an idle chip's are blank
   pub blank-page : pageOk n s page ≡ true → s .busy ≡ 0 → page ≡ blankPage
-  unfolding pageOk usedOf
+  unfolding pageOk usedPage
   blank-page e z =
       let k = both (eqb (length page) 256) _ e in
       all-same page 256 (eqb-true (length page) 256 (k .0)) (rw (eq-eqb (s .busy) 0 z) at (k .1))
 
 pub blank-ok : (n : ℕ) (s : State) → s .busy ≡ 0 → pageOk n s blankPage ≡ true
-unfolding pageOk usedOf
+unfolding pageOk usedPage
 blank-ok n s z = rw (eq-eqb (s .busy) 0 z)
 
 -- ---- the register

@@ -120,11 +120,11 @@ usedBytes ErasesHalf place = 0
 usedBytes ErasesBlock place = 0
 usedBytes ErasesChip place = 0
 
-unfoldable pub usedOf : ℕ → State → ℕ
-usedOf n s = cond (eqb (s .busy) 0) 0 (usedBytes (startedBy n (s .command)) (s .address))
+unfoldable pub usedPage : ℕ → State → ℕ
+usedPage n s = cond (eqb (s .busy) 0) 0 (usedBytes (startedBy n (s .command)) (s .address))
 
 unfoldable pub pageOk : ℕ → State → List ℕ → Bool
-pageOk n s page = eqb (length page) 256 && allAre 0xFF (drop (usedOf n s) page)
+pageOk n s page = eqb (length page) 256 && allAre 0xFF (drop (usedPage n s) page)
 
 -- no page data
 abbrev pub blankPage : List ℕ

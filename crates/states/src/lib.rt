@@ -2,7 +2,7 @@
 ghost use mathlib.Core.Path.{_≡_};
 ghost use Prim.Native.Nat.{max, _<_, _≤_};
 ghost use lib.Dec.{leb};
-ghost use Rattle.states.specs.States.{inRange, halfOk, recordOk, longestSettle, configOk, operationTime, placeOk, idleOk, busyOk, stateOk, usedBytes, usedOf, pageOk, tbOf, flag as States·flag, statusOf, powerOn, benchKH25L512, benchKH25L2006E, benchKH25L12845G};
+ghost use Rattle.states.specs.States.{inRange, halfOk, recordOk, longestSettle, configOk, operationTime, placeOk, idleOk, busyOk, stateOk, usedBytes, usedPage, pageOk, tbOf, flag as States·flag, statusOf, powerOn, benchKH25L512, benchKH25L2006E, benchKH25L12845G};
 use commands::Operation;
 
 // The model's number, and its times in microseconds: busy after each operation (that of a half block's erase is 0 on a model that has none), and
@@ -179,7 +179,7 @@ fn used_bytes(op: Operation, place: u32) -> u32
 }
 
 fn used_of(model: u32, st: State) -> u32
-    ensures { λ r. ⌜ r ≡ usedOf model st ⌝ }
+    ensures { λ r. ⌜ r ≡ usedPage model st ⌝ }
 {
     if st.busy == 0 {
         return 0;

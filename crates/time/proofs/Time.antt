@@ -17,8 +17,8 @@ use Rattle.states.specs.States.{recordOk, stateOk, pageOk, placeOk, noAddress, 
 use Rattle.states.specs.declared.Record.{Record}
 use Rattle.states.specs.declared.State.{State}
 use Rattle.states.proofs.States.{sound, page-length, Resting}
-use Rattle.operations.specs.Operations.{runs, patternLength, finished, tornChip, Ready, Left}
-use Rattle.time.specs.Time.{later, waited, cycled, cutOff, chipRefusal, powerRefusal, cutRefusal, waitOf, cutOf, Ends}
+use Rattle.operations.specs.Operations.{runs, patternLength, finished, tornChip, Operable, Left}
+use Rattle.time.specs.Time.{later, waited, cycled, cutOff, chipRefusal, powerRefusal, cutRefusal, waitOf, powerCutOf, Ends}
 
 -- record, array, state and page data fit
 pub record Fit (rec : Record) (x : Chip) : Type 0 where
@@ -47,7 +47,7 @@ module _ (rec : Record) (x : Chip) where
   placed : (s : State) → Resting s → placeOk (rec .model) (runs (rec .model) s) (s .address) ≡ true
   placed s q = rw (q .command, none-started (rec .model), q .address)
 
-  pub ready : Fit rec x → Ready (rec .model) (x .state) (x .page) (x .cells)
+  pub ready : Fit rec x → Operable (rec .model) (x .state) (x .page) (x .cells)
   ready f =
       record {
         whole = f .whole;
@@ -102,13 +102,13 @@ module _ (rec : Record) (x : Chip) (pattern : List ℕ) where
     pub taken-cut : isDone a ≡ true → Cuttable
     taken-cut d = cuttable (same-cut d)
 
-    pub refused-cut : isDone a ≡ false → Ends (cutOf rec x pattern) (record { answer = a; state = x .state }) (x .page) (x .cells)
-    unfolding cutOf
+    pub refused-cut : isDone a ≡ false → Ends (powerCutOf rec x pattern) (record { answer = a; state = x .state }) (x .page) (x .cells)
+    unfolding powerCutOf
     refused-cut d = let f = same-cut d in record { answer-is = e; state-is = rw f; page-is = rw f; cells-are = rw f }
 
     pub done-cut : {s t : State} {page cells : List ℕ} → isDone a ≡ true → Left (tornChip (rec .model) x pattern) s page cells → t ≡ cycled s
-        → Ends (cutOf rec x pattern) (record { answer = a; state = t }) page cells
-    unfolding cutOf cutOff
+        → Ends (powerCutOf rec x pattern) (record { answer = a; state = t }) page cells
+    unfolding powerCutOf cutOff
     done-cut d g h = let f = same-cut d in record { answer-is = e; state-is = rw f (h ∙ ap cycled (g .state-is)); page-is = rw f (g .page-is); cells-are = rw f (g .cells-are) }
 
 -- ---- power cycles

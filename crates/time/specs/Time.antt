@@ -62,8 +62,8 @@ unless a x y = record { answer = a; chip = cond (isDone a) y x }
 unfoldable pub waitOf : Record → Chip → ℕ → Aftermath
 waitOf rec x us = unless (chipRefusal rec x) x (waited (rec .model) x us)
 
-unfoldable pub cutOf : Record → Chip → List ℕ → Aftermath
-cutOf rec x pattern = unless (cutRefusal rec x pattern) x (cutOff (rec .model) x pattern)
+unfoldable pub powerCutOf : Record → Chip → List ℕ → Aftermath
+powerCutOf rec x pattern = unless (cutRefusal rec x pattern) x (cutOff (rec .model) x pattern)
 
 -- a power cycle leaves page data and array alone
 unfoldable pub powerOf : Record → State → List ℕ → After

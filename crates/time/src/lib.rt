@@ -3,7 +3,7 @@ ghost use mathlib.Core.Path.{_≡_};
 ghost use Prim.Native.Nat.{_-_};
 ghost use lib.ListN.{length};
 ghost use Rattle.states.specs.States.{chipOf};
-ghost use Rattle.time.specs.Time.{later, cycled, chipRefusal, powerRefusal, cutRefusal, waitOf, powerOf, cutOf, Ends};
+ghost use Rattle.time.specs.Time.{later, cycled, chipRefusal, powerRefusal, cutRefusal, waitOf, powerOf, powerCutOf, Ends};
 use answers::Answer;
 use states::Record;
 use states::State;
@@ -129,7 +129,7 @@ fn cut_refusal(rec: Record, st: State, page: &[u8], array: &[u8], pattern: &[u8]
 
 // Any cut of the power.
 pub fn cut(rec: Record, st: State, page: &mut [u8], array: &mut [u8], pattern: &[u8]) -> After
-    ensures { λ r. ⌜ Ends (cutOf rec (chipOf st (now (page .entry)) (now (array .entry))) (now (pattern .entry))) r (now (page .exit)) (now (array .exit)) ⌝ }
+    ensures { λ r. ⌜ Ends (powerCutOf rec (chipOf st (now (page .entry)) (now (array .entry))) (now (pattern .entry))) r (now (page .exit)) (now (array .exit)) ⌝ }
 {
     let answer = cut_refusal(rec, st, page, array, pattern);
     if !answers::is_done(answer) {

@@ -4,12 +4,12 @@ use Prim.Native.Nat.{ℕ}
 use lib.ListN.{getD}
 use borrow.Author.Needs.{needs}
 use Rattle.answers.specs.declared.Answer.the-variants.{Done}
-use Rattle.effects.specs.Effects.{quiet, starting, erase}
+use Rattle.effects.specs.Effects.{quiet, starting, eraseStarts}
 use Rattle.effects.proofs.erase.Statement.{statement}
 use Rattle.effects.proofs.erase.Tie as tie
 
 returns : tie.Need-returns
-unfolding erase
+unfolding eraseStarts
 returns c =
     let b = c .before .before in
     let t = b .before in

@@ -5,7 +5,7 @@ use lib.ListN.{length, replicate}
 use denote.Ref.{now}
 use Rattle.commands.specs.declared.Operation.{Operation}
 use Rattle.states.specs.declared.State.{State}
-use Rattle.operations.specs.Operations.{finishedCells, finishedBits, forgotten, finished, place}
+use Rattle.operations.specs.Operations.{finishedCells, finishedBits, forgotten, finished, runsAt}
 use borrow.Author.Needs.{needs}
 use Rattle.operations.proofs.finish.Statement.{statement}
 use Rattle.operations.proofs.finish.Tie as tie
@@ -30,7 +30,7 @@ returns c =
           c .forget .ensures
           ∙ ap forgotten (k .finish-bits .ensures ∙ ap (λ (op : Operation). finishedBits (a .model) op (a .st) (now (a .page))) (b .started-by .ensures));
       page-is = f .fill .ensures ∙ ap (λ (n : ℕ). replicate n 0xFF) (s .pre .page-data);
-      cells-are = e .finish-cells .ensures ∙ ap (λ (op : Operation). finishedCells op (place (a .st)) (now (a .page)) (now (a .array))) (b .started-by .ensures);
+      cells-are = e .finish-cells .ensures ∙ ap (λ (op : Operation). finishedCells op (runsAt (a .st)) (now (a .page)) (now (a .array))) (b .started-by .ensures);
     }
 
 pub finish-spec : {M : Type 1} → statement M

@@ -5,7 +5,7 @@ use lib.ListN.{length, replicate}
 use denote.Ref.{now}
 use Rattle.commands.specs.declared.Operation.{Operation}
 use Rattle.states.specs.declared.State.{State}
-use Rattle.operations.specs.Operations.{cutCells, cutBits, tornChip, patternLength, place}
+use Rattle.operations.specs.Operations.{cutCells, cutBits, tornChip, patternLength, runsAt}
 use borrow.Author.Needs.{needs}
 use Rattle.operations.proofs.tear.Statement.{statement}
 use Rattle.operations.proofs.tear.Tie as tie
@@ -31,7 +31,7 @@ returns c =
     record {
       state-is = k .cut-bits .ensures ∙ ap (λ (op : Operation). cutBits (a .model) op (a .st) (now (a .page)) (now (a .pattern))) (b .started-by .ensures);
       page-is = f .fill .ensures ∙ ap (λ (n : ℕ). replicate n 0xFF) (s .pre .0 .page-data);
-      cells-are = e .cut-cells .ensures ∙ ap (λ (op : Operation). cutCells op (place (a .st)) (now (a .page)) (now (a .pattern)) (now (a .array))) (b .started-by .ensures);
+      cells-are = e .cut-cells .ensures ∙ ap (λ (op : Operation). cutCells op (runsAt (a .st)) (now (a .page)) (now (a .pattern)) (now (a .array))) (b .started-by .ensures);
     }
 
 pub tear-spec : {M : Type 1} → statement M

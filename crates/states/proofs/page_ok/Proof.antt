@@ -10,7 +10,7 @@ use denote.Ref.{now}
 use borrow.Author.Needs.{needs}
 use borrow.Author.Tests.{ne-eqb, eq-eqb}
 use Rattle.parts.specs.Parts.{allAre}
-use Rattle.states.specs.States.{usedOf, pageOk}
+use Rattle.states.specs.States.{usedPage, pageOk}
 use Rattle.states.proofs.page_ok.Statement.{statement}
 use Rattle.states.proofs.page_ok.Tie as tie
 
@@ -32,7 +32,7 @@ returns-2 c =
     let u = c .before in
     let e = u .before in
     let page = now (e .before .before .args .page) in
-    rw (eq-eqb _ _ (e .if1 .left), all-used page (usedOf (e .before .before .args .model) (e .before .before .args .st)) (omega (arith, e .if1 .left, u .used-of .ensures, c .if2 .taken)))
+    rw (eq-eqb _ _ (e .if1 .left), all-used page (usedPage (e .before .before .args .model) (e .before .before .args .st)) (omega (arith, e .if1 .left, u .used-of .ensures, c .if2 .taken)))
 
 returns-3 : tie.Need-returns-3
 unfolding pageOk
