@@ -7,7 +7,7 @@ help:
 	@echo 'make run SCRIPT=FILE               run a script through the runner; the log goes to standard output'
 	@echo 'make compare SCRIPT=FILE LOG=FILE  run a script and compare its log with a stored one'
 	@echo 'make explain SCRIPT=FILE           run a script and show each line beside its answer in words'
-	@echo 'make example                       run the firmware of host/example on the model, with its mistake and mended'
+	@echo 'make example                       run the two programs of host/example: firmware with its mistake and mended, and a board pulled in mid-erase'
 	@echo 'make bench, make benchmark         count instructions against the independent C model'
 
 test:

@@ -47,7 +47,7 @@ check() {
 }
 
 compile() {
-    for source in "$here"/model/model.c "$here"/test/*.c "$here"/example/firmware.c "$here"/benchmark/empty.c; do
+    for source in "$here"/model/model.c "$here"/test/*.c "$here"/example/*.c "$here"/benchmark/empty.c; do
         "$host" cc -std=c99 $flags -c "$source" -o "$obj/$(basename "$source" .c).o"
     done
 }
@@ -57,7 +57,7 @@ stand_in() {
     echo "the independent model stands in for the archive: this tries the tests only"
     archive=$obj/stand_in.o
     "$host" cc -std=c99 $flags -Dref_frame=gwo_frame -Dref_wait=gwo_wait -Dref_power_cycle=gwo_power_cycle \
-        -c "$here/model/model.c" -o "$archive"
+        -Dref_cut=gwo_cut -c "$here/model/model.c" -o "$archive"
 }
 
 link() {
@@ -66,7 +66,9 @@ link() {
         "$host" cc "$obj/$program"*.o "$obj/rig.o" "$archive" "$obj/model.o" -o "$bin/$program"
     done
     "$host" cc "$obj"/stack*.o "$obj/empty.o" "$obj/rig.o" "$archive" "$obj/model.o" -o "$bin/stack"
-    "$host" cc "$obj/firmware.o" "$archive" "$obj/model.o" -o "$bin/example"
+    for program in firmware unplugged; do
+        "$host" cc "$obj/$program.o" "$obj/flash.o" "$archive" "$obj/model.o" -o "$bin/$program"
+    done
     "$host" cc "$obj"/scripts*.o "$obj/rig.o" "$obj/model.o" -o "$bin/scripts"
     "$host" cc -std=c99 $flags "$here"/explain/*.c -o "$bin/explain"
 }
@@ -83,14 +85,14 @@ header() {
 
 # Firmware of an earlier header, without a warning; it must not be edited.
 by_names() {
-    "$host" cc -std=c99 $flags -Werror "$here/test/by_names.c" "$archive" "$obj/model.o" -o "$bin/by_names" &&
+    "$host" cc -std=c99 $flags -Werror "$here/test/by_names_05.c" "$archive" "$obj/model.o" -o "$bin/by_names" &&
         "$host" run "$bin/by_names"
 }
 
 example() {
-    "$host" run "$bin/example" >"$GWO_BUILD/example.got" &&
+    "$host" run "$bin/firmware" >"$GWO_BUILD/example.got" && "$host" run "$bin/unplugged" >>"$GWO_BUILD/example.got" &&
         diff "$here/example/output.txt" "$GWO_BUILD/example.got" &&
-        echo "example: last spring's fold is said and overwrites the table's first record, the mended table is whole"
+        echo "example: last spring's fold, the table mended, and a table lost in mid-erase and won back"
 }
 
 # The C of README.md, as it stands there, prints what is said there.

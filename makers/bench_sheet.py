@@ -63,8 +63,10 @@ def programs(b):
     b.cells(0, b"\xF0" + b"\xFF" * 7)
     b.frame(b"\x06")
     b.look(0)
-    b.case("cell F0, data 3C", "30", answer=0, cell=0x30)
+    b.case("cell F0, data 3C", "F0 until its time has run out", answer=0, cell=0xF0)
     b.frame(b"\x02\x00\x00\x00\x3C")
+    b.case("cell F0, data 3C, after the wait", "30", answer=0, cell=0x30)
+    b.wait(5000)
 
 
 def protection(b):
@@ -89,7 +91,7 @@ def status_and_sleep(b):
     b.frame(b"\x06")
     b.case("01 FF", "accepted", answer=0)
     b.frame(b"\x01\xFF")
-    b.case("01 FF accepted", "status 8F", driven=b"\x8F")
+    b.case("01 FF accepted", "status 03", driven=b"\x03")
     b.frame(b"\x05\x00")
     b.wait(15000)
     b.case("01 FF accepted, after the wait", "8C", driven=b"\x8C")
@@ -146,7 +148,7 @@ def main():
     with open("crates/bench_sheet/stdin", "w", newline="") as f:
         f.write("\n".join(b.lines) + "\n")
     with open("crates/bench_sheet/stdout", "w", newline="") as f:
-        f.write("step|case|wanted|answer\tfrom\tcount\tbytes\tnote\tstatus\tasleep\tbusy\tsettle\tcells\n")
+        f.write("step|case|wanted|answer\tfrom\tcount\tbytes\tnote\tstatus\tasleep\tbusy\tsettle\tcommand\taddress\tcells\n")
         f.write("\n".join(b.rows) + "\n")
 
 

@@ -18,7 +18,9 @@ SIGNATURE = {1: 0x05, 2: 0x11}
 PROTECTED = {1: ((), (0,), (0,), (0,)), 2: ((), (3,), (2, 3), (0, 1, 2, 3))}
 EXACT = {0x06: 1, 0x04: 1, 0xB9: 1, 0x60: 1, 0xC7: 1, 0x01: 2, 0x20: 4, 0x52: 4, 0xD8: 4}  # and no tail
 LEAST = {0x05: 1, 0x03: 4, 0x0B: 5, 0x9F: 1, 0x90: 4}  # and any tail
-CHANGES = (0x01, 0x02, 0x20, 0x52, 0xD8, 0x60, 0xC7)
+CHANGES = {0x01: 0, 0x02: 1, 0x20: 2, 0x52: 3, 0xD8: 3, 0x60: 4, 0xC7: 4}  # what starts an operation, and the place of its time
+PLACED = (0x02, 0x20, 0x52, 0xD8)  # operations with an address
+NO_COMMAND, NO_ADDRESS = 0xFF, 0xFFFFFF  # of an idle chip; the chip's erase has no address either
 COMMANDS = (0x06, 0x04, 0x05, 0x01, 0x03, 0x0B, 0x20, 0x52, 0xD8, 0x60, 0xC7, 0x02, 0x9F, 0xAB, 0x90, 0xB9)
 UNKNOWN = (0x00, 0x07, 0x3B, 0x5A, 0xFF)
 
@@ -30,36 +32,77 @@ class Chip:
         self.settles = SETTLES.get(model, SETTLES[1])
         self.cells = bytearray(b"\xff" * (BLOCK * blocks))
         self.srwd, self.bp, self.wel, self.asleep, self.busy, self.settle = 0, 0, 0, 0, 0, 0
+        self.forget()
         self.folded = False
+
+    def forget(self):
+        """No operation runs, and no page data are kept."""
+        self.command, self.address, self.page = NO_COMMAND, NO_ADDRESS, bytearray(b"\xff" * PAGE)
 
     def status(self):
         return 128 * self.srwd + 4 * self.bp + 2 * self.wel + (1 if self.busy else 0)
 
-    def bad(self):
-        """Refusals 1 and 3, which waits and power cycles have too."""
+    def valid(self):
+        if self.bp > 3 or not self.remembers():
+            return False
+        if self.busy:
+            return self.wel and not self.asleep and not self.settle
+        return self.settle <= max(self.settles)
+
+    def remembers(self):
+        """Whether command, address and page data are those of the operation that runs, or of none."""
+        if not self.busy:
+            fits, used = self.command == NO_COMMAND and self.address == NO_ADDRESS, 0
+        elif self.command not in CHANGES or self.busy > self.times[CHANGES[self.command]]:
+            return False
+        elif self.command == 0x01:
+            fits, used = self.address == 1, 1
+        elif self.command in PLACED:
+            fits, used = self.address < BLOCK * BLOCKS[self.model], PAGE if self.command == 0x02 else 0
+        else:
+            fits, used = self.address == NO_ADDRESS, 0
+        return fits and self.page[used:] == b"\xff" * (PAGE - used)
+
+    def bad(self, array=True):
+        """Refusals 1, 2 and 3; a power cycle takes no array."""
         if self.model not in BLOCKS:
             return 1
-        if self.bp > 3 or self.busy > max(self.times):
-            return 3
-        if self.busy and (not self.wel or self.asleep or self.settle):
-            return 3
-        if self.settle > max(self.settles):
-            return 3
-        return 0
+        if array and len(self.cells) != BLOCK * BLOCKS[self.model]:
+            return 2
+        return 0 if self.valid() else 3
 
     def wait(self, us):
         if self.bad():
             return self.bad()
         if self.busy and us >= self.busy:
-            self.wel = 0
+            self.complete()
         self.busy = max(0, self.busy - us)
         self.settle = max(0, self.settle - us)
         return 0
 
+    def complete(self):
+        """The time of the operation has run out: only now cells and bits change."""
+        a = self.address
+        if self.command == 0x01:
+            self.srwd, self.bp = self.page[0] >> 7, self.page[0] >> 2 & 3
+        elif self.command == 0x02:
+            for offset in range(PAGE):
+                self.cells[a // PAGE * PAGE + offset] &= self.page[offset]
+        elif self.command == 0x20:
+            self.erase(a // SECTOR * SECTOR, SECTOR)
+        elif self.command in (0x52, 0xD8):
+            self.erase(a // BLOCK * BLOCK, BLOCK)
+        else:
+            self.erase(0, len(self.cells))
+        self.wel = 0
+        self.forget()
+
     def power_cycle(self):
-        if self.bad():
-            return self.bad()
-        self.wel = self.asleep = self.busy = self.settle = 0
+        if self.bad(array=False):
+            return self.bad(array=False)
+        if self.busy:
+            return 11
+        self.wel = self.asleep = self.settle = 0
         return 0
 
     def length_ok(self, command, n, tail):
@@ -72,12 +115,8 @@ class Chip:
         return n >= 5 or (n == 1 and tail == 0)  # AB
 
     def refusal(self, sent, tail, wp, room):
-        if self.bad() == 1:
-            return 1
-        if len(self.cells) != BLOCK * BLOCKS[self.model]:
-            return 2
         if self.bad():
-            return 3
+            return self.bad()
         if len(sent) > 65541 or tail > 7:
             return 4
         if room < len(sent):
@@ -101,11 +140,11 @@ class Chip:
             return 16
         if command in (0x60, 0xC7) and self.bp:
             return 17
-        if command in (0x02, 0x20, 0x52, 0xD8) and self.address(sent) // BLOCK in PROTECTED[self.model][self.bp]:
+        if command in PLACED and self.addressed(sent) // BLOCK in PROTECTED[self.model][self.bp]:
             return 17
         return 0
 
-    def address(self, sent):
+    def addressed(self, sent):
         return int.from_bytes(sent[1:4], "big") % len(self.cells)
 
     def erase(self, first, size):
@@ -126,22 +165,11 @@ class Chip:
             self.asleep, self.settle = 1, self.settles[0]
         elif command == 0x05:
             first, driven = 1, bytes([self.status()]) * (n - 1)
-        elif command == 0x01:
-            self.srwd, self.bp, self.busy = sent[1] >> 7, sent[1] >> 2 & 3, self.times[0]
+        elif command in CHANGES:
+            self.start(sent)
         elif command in (0x03, 0x0B):
-            first, a = (4 if command == 0x03 else 5), self.address(sent)
+            first, a = (4 if command == 0x03 else 5), self.addressed(sent)
             driven = bytes(self.cells[(a + i) % len(self.cells)] for i in range(n - first))
-        elif command == 0x20:
-            self.erase(self.address(sent) // SECTOR * SECTOR, SECTOR)
-            self.busy = self.times[2]
-        elif command in (0x52, 0xD8):
-            self.erase(self.address(sent) // BLOCK * BLOCK, BLOCK)
-            self.busy = self.times[3]
-        elif command in (0x60, 0xC7):
-            self.erase(0, len(self.cells))
-            self.busy = self.times[4]
-        elif command == 0x02:
-            self.program(self.address(sent), sent[4:])
         elif command == 0x9F:
             first, driven = 1, bytes(ID[self.model][i % 3] for i in range(n - 1))
         elif command == 0xAB:
@@ -153,14 +181,17 @@ class Chip:
             first, driven = 4, bytes(pair[(i + sent[3]) % 2] for i in range(n - 4))
         return 0, first, driven
 
-    def program(self, a, sent):
-        self.folded = any(a % PAGE + i >= PAGE for i in range(len(sent)))
-        last = {}
-        for i, byte in enumerate(sent):
-            last[(a + i) % PAGE] = byte
-        for offset, byte in last.items():
-            self.cells[a // PAGE * PAGE + offset] &= byte
-        self.busy = self.times[1]
+    def start(self, sent):
+        """The operation is remembered; of a program each offset of the page keeps the last byte sent to it."""
+        self.command, self.busy = sent[0], self.times[CHANGES[sent[0]]]
+        if self.command in PLACED:
+            self.address = self.addressed(sent)
+        if self.command == 0x01:
+            self.address, self.page[0] = 1, sent[1]
+        if self.command == 0x02:
+            self.folded = any(self.address % PAGE + i >= PAGE for i in range(len(sent) - 4))
+            for i, byte in enumerate(sent[4:]):
+                self.page[(self.address + i) % PAGE] = byte
 
 
 class Cases:
@@ -179,10 +210,24 @@ class Cases:
         self.say("M", "%02x%02x" % (model, blocks))
         self.chip, self.at = Chip(model, blocks), 0
 
-    def state(self, srwd=0, bp=0, wel=0, asleep=0, busy=0, settle=0):
+    def state(self, srwd=0, bp=0, wel=0, asleep=0, busy=0, settle=0, command=NO_COMMAND, address=NO_ADDRESS):
         c = self.chip
-        c.srwd, c.bp, c.wel, c.asleep, c.busy, c.settle = srwd, bp, wel, asleep, busy, settle
-        self.say("S", "%02x%02x%06x%s" % (128 * srwd + 4 * bp + 2 * wel, asleep, busy, "%06x" % settle if settle else ""))
+        c.forget()
+        c.srwd, c.bp, c.wel, c.asleep, c.busy, c.settle, c.command, c.address = srwd, bp, wel, asleep, busy, settle, command, address
+        runs = (command, address) != (NO_COMMAND, NO_ADDRESS)
+        more = "%06x" % settle if settle or runs else ""
+        more += "%02x%06x" % (command, address) if runs else ""
+        self.say("S", "%02x%02x%06x%s" % (128 * srwd + 4 * bp + 2 * wel, asleep, busy, more))
+
+    def running(self, command, busy, address=0x000100, **more):
+        """A state in which the command's operation runs."""
+        place = 1 if command == 0x01 else address if command in PLACED else NO_ADDRESS
+        self.state(**dict(dict(wel=1, busy=busy, command=command, address=place), **more))
+
+    def page(self, offset, data):
+        assert len(data) <= 8 and offset + len(data) <= PAGE
+        self.chip.page[offset:offset + len(data)] = data
+        self.say("D", "%02x%s" % (offset, data.hex()))
 
     def cells(self, at, eight):
         assert len(eight) == 8 and at + 8 <= len(self.chip.cells)
@@ -207,8 +252,8 @@ class Cases:
         n = len(c.cells)
         eight = bytes(c.cells[(self.at + i) % n] for i in range(8)) if n else b""
         self.lines.append("%s|%s" % (line, note))
-        self.rows.append("%s|%s|%d\t%s\t%02X\t%d\t%d\t%d\t%s" % (
-            line, note, answer, fields, c.status(), c.asleep, c.busy, c.settle, eight.hex().upper()))
+        self.rows.append("%s|%s|%d\t%s\t%02X\t%d\t%d\t%d\t%02X\t%06X\t%s" % (
+            line, note, answer, fields, c.status(), c.asleep, c.busy, c.settle, c.command, c.address, eight.hex().upper()))
 
     def frame(self, sent, tail=0, wp=1):
         assert len(sent) <= 300
@@ -226,6 +271,12 @@ class Cases:
 
     def wait(self, us):
         self.row("W\t%d" % us, self.before(), self.chip.wait(us), 0, b"")
+
+    def complete(self):
+        """The rest of an operation's time, and its last microsecond by itself."""
+        if self.chip.busy:
+            self.wait(self.chip.busy - 1)
+            self.wait(1)
 
     def power(self):
         self.row("P", self.before(), self.chip.power_cycle(), 0, b"")
@@ -252,7 +303,7 @@ def shortest(command, address=0x000100):
 
 def states(b, command):
     """The command in every kind of state, and with every kind of length, tail and WP#."""
-    longest = max(TIMES[b.model])
+    times = TIMES[b.model]
     settled = max(SETTLES[b.model])
     sent = shortest(command)
     for srwd in (0, 1):
@@ -261,9 +312,12 @@ def states(b, command):
             b.frame(sent, wp=0)
             b.state(srwd, bp, wel=1)
             b.frame(sent, wp=1)
-    for extra in (dict(), dict(asleep=1), dict(wel=1, asleep=1), dict(wel=1, busy=1), dict(srwd=1, bp=2, wel=1, busy=longest),
-                  dict(settle=1), dict(wel=1, asleep=1, settle=settled), dict(srwd=1, bp=3, wel=1, settle=settled)):
+    for extra in (dict(), dict(asleep=1), dict(wel=1, asleep=1), dict(settle=1), dict(wel=1, asleep=1, settle=settled),
+                  dict(srwd=1, bp=3, wel=1, settle=settled)):
         b.state(**extra)
+        b.frame(sent)
+    for runs, busy, extra in ((0x20, 1, dict()), (0xC7, times[4], dict(srwd=1, bp=2))):
+        b.running(runs, busy, **extra)
         b.frame(sent)
     for tail in range(1, 8):
         b.state(wel=1)
@@ -272,9 +326,11 @@ def states(b, command):
         for tail in (0, 5):
             b.state(wel=1, asleep=1 if command == 0xAB else 0)
             b.frame((sent + b"\x11\x22\x33\x44\x55\x66\x77\x88")[:n], tail)
-    for bad in (dict(bp=4, wel=1), dict(busy=1), dict(wel=1, asleep=1, busy=1), dict(wel=1, busy=longest + 1),
-                dict(wel=1, busy=1, settle=1), dict(settle=settled + 1), dict(asleep=1, settle=settled + 1)):
+    for bad in (dict(bp=4, wel=1), dict(wel=1, busy=1), dict(settle=settled + 1), dict(asleep=1, settle=settled + 1)):
         b.state(**bad)
+        b.frame(sent)
+    for busy, bad in ((1, dict(wel=0)), (1, dict(asleep=1)), (1, dict(settle=1)), (times[2] + 1, dict())):
+        b.running(0x20, busy, **bad)
         b.frame(sent)
 
 
@@ -300,7 +356,7 @@ def reads(b, command):
 
 
 def erases(b, command):
-    """Cells on both sides of the unit's ends: those inside become FF, those outside stay."""
+    """Cells on both sides of the unit's ends: those inside become FF with the last microsecond, those outside stay."""
     unit = SECTOR if command == 0x20 else BLOCK
     size = len(b.chip.cells)
     for a in edges(b.model):
@@ -312,8 +368,9 @@ def erases(b, command):
             b.state(bp=bp, wel=1)
             b.look(around[0])
             b.frame(bytes([command]) + a.to_bytes(3, "big"))
+            b.complete()
             b.look(around[-1])
-            b.wait(b.chip.busy)
+            b.frame(b"\x05\0")
 
 
 def whole(b, command):
@@ -324,7 +381,7 @@ def whole(b, command):
             b.look(at)
             b.state(wel=wel)
             b.frame(bytes([command]))
-            b.wait(b.chip.busy)
+            b.complete()
 
 
 def programs(b, command):
@@ -339,10 +396,9 @@ def programs(b, command):
             b.cells(page, bytes((0xF0, 0x0F, 0xFF, 0x3C, 0x81, 0x00, 0x55, 0xAA)))
             b.state(wel=1)
             b.look(a % size // 8 * 8)
-            b.frame(bytes([command]) + a.to_bytes(3, "big") + bytes((7 * i + n) % 256 for i in range(n)))
+            b.frame(bytes([command]) + a.to_bytes(3, "big") + bytes((7 * i + i // PAGE + n) % 256 for i in range(n)))
             b.look(page)
-            b.wait(b.chip.busy - 1)
-            b.wait(1)
+            b.complete()
             b.look((page + PAGE) % size)
             b.long(b"\x03" + page.to_bytes(3, "big"), 0, 4 + PAGE)
 
@@ -356,8 +412,12 @@ def writes(b, command):
             b.wait(b.chip.busy - 1)
             b.frame(b"\x05\0")
             b.wait(1)
+            b.frame(b"\x05\0")
             b.frame(b"\x06")
             b.frame(bytes([command, 0]), wp=wp)
+            b.power()  # 11 while it is busy
+            b.frame(b"\x05\0")
+            b.wait(b.chip.busy)
             b.power()
 
 
@@ -397,11 +457,68 @@ MORE = {0x03: reads, 0x0B: reads, 0x20: erases, 0x52: erases, 0xD8: erases, 0x60
         0x02: programs, 0x01: writes, 0x90: makers, 0xB9: sleeps}
 
 
+def valid_states(b):
+    """Each field of a state that remembers an operation, at the edge of what is valid and past it."""
+    size, times = len(b.chip.cells), TIMES[b.model]
+
+    def rows():
+        b.frame(b"\x05\0")
+        b.power()
+        b.wait(1)
+
+    for command, place in CHANGES.items():
+        for busy in (1, times[place], times[place] + 1):
+            b.running(command, busy)
+            rows()
+        for address in (0, 1, 2, 0x100, size - 1, size, NO_ADDRESS):
+            b.state(wel=1, busy=1, command=command, address=address)
+            rows()
+        for offset in (0, 1, 127, 255):
+            b.running(command, 1)
+            b.page(offset, b"\xFE")
+            rows()
+    for command in (0x00, 0x05, 0x06, 0x21, 0x9F, 0xAB, NO_COMMAND):
+        for address in (1, NO_ADDRESS):
+            b.state(wel=1, busy=1, command=command, address=address)
+            rows()
+    for command, address in ((0x20, NO_ADDRESS), (0xC7, NO_ADDRESS), (NO_COMMAND, 0), (0x01, 1), (0x02, 0x100)):
+        b.state(command=command, address=address)
+        rows()
+    for offset in (0, 255):
+        for asleep in (0, 1):
+            b.state(asleep=asleep)
+            b.page(offset, b"\x00")
+            rows()
+
+
+def remembered(b):
+    """Operations whose whole past is the state: what they do at their end is what it remembers."""
+    size = len(b.chip.cells)
+    for command, place in CHANGES.items():
+        for at in (0x1234, size - 256):
+            page = at // PAGE * PAGE
+            b.cells(page, bytes(range(0xF0, 0xF8)))
+            b.cells(page + 248, bytes(range(0x08, 0x10)))
+            b.running(command, TIMES[b.model][place], address=at)
+            if command == 0x01:
+                b.page(0, b"\x88" if at == 0x1234 else b"\x7F")
+            if command == 0x02:
+                b.page(0, bytes((0x0F, 0xF0, 0xFF, 0x00, 0x55, 0xAA, 0x3C, 0xC3)))
+                b.page(252, bytes((0xFE, 0xFD, 0xFB, 0x00)))
+            b.look(page)
+            b.complete()
+            b.look(page + 248)
+            b.frame(b"\x05\0")
+
+
 def long_frames(b):
     for command in COMMANDS + UNKNOWN:
         for count, room, tail in ((65541, None, 0), (65541, 65540, 0), (65542, None, 0), (65542, 1, 0), (9, 9, 8), (9, 8, 7), (9, 600, 7)):
             b.state(wel=1)
             b.long(bytes([command]) + b"\x00\xff\xfe\x11", 0x22, count, room, tail)
+            if b.chip.busy:
+                b.complete()
+                b.long(b"\x03\x00\xff", 0, 4 + PAGE)
     b.state()
     for n in (96, 97, 98, 299, 300, 301, 302, 303, 304, 305, 1000):
         for command in (0x05, 0x9F, 0x90, 0xAB, 0x03, 0x0B):
@@ -458,6 +575,9 @@ def main():
             b.frame(b"", tail)
         long_frames(b)
         b.fresh(model)
+        valid_states(b)
+        remembered(b)
+        b.fresh(model)
         history(b, random.Random(model), 500)
     wrong_setups(b)
     b.fresh(1)
@@ -472,7 +592,7 @@ def main():
     with open("crates/frames/stdin", "w", newline="") as f:
         f.write(text)
     with open("crates/frames/stdout", "w", newline="") as f:
-        f.write("step|model, status before|answer\tfrom\tcount\tbytes\tnote\tstatus\tasleep\tbusy\tsettle\tcells\n")
+        f.write("step|model, status before|answer\tfrom\tcount\tbytes\tnote\tstatus\tasleep\tbusy\tsettle\tcommand\taddress\tcells\n")
         f.write("\n".join(b.rows) + "\n")
 
 

@@ -21,11 +21,12 @@ typedef void *set_call(void *, int, size_t);
 frame_call empty_frame;
 wait_call empty_wait;
 power_cycle_call empty_power_cycle;
+cut_call empty_cut;
 copy_call empty_copy;
 set_call empty_set;
 
 enum { OURS, MODEL, MEMORY, EMPTY, EMPTY_MEMORY };
-enum kind { FRAME, WAIT, POWER_CYCLE };
+enum kind { FRAME, WAIT, POWER_CYCLE, CUT };
 enum memory { NONE, COPY, SET };
 
 /* SHORT rows have a limit of 300 instructions; FOLDED and AS_MODEL_2 are held against the row before. */
@@ -37,11 +38,11 @@ struct row {
     unsigned status, asleep;
     uint32_t left_us;       /* the state: status byte, flag and time left, busy with WIP 1, settling with WIP 0 */
     enum kind kind;
-    uint8_t head[5];        /* the frame's first bytes; the others are 5A */
+    uint8_t head[5];        /* the frame's first bytes, the others are 5A; of the other calls the running operation's */
     size_t frame_len;
     uint32_t tail, wp, answer;
     enum memory memory;
-    size_t moved;
+    size_t moved;           /* also the length of a cut's pattern */
     const char *memory_limit; /* at most this many times the memory function; "-" none */
     int marks;
 };
@@ -56,20 +57,33 @@ static const struct row rows[] = {
     {"read, 64 KiB, model 2", 2, 0, 0, 0, FRAME, {0x03, 3, 0x80, 0x01}, 4 + READ_64K, 0, 1, 0, COPY, READ_64K, "3", 0},
     {"fast read, 64 KiB", 1, 0, 0, 0, FRAME, {0x0B, 0, 0x80, 0x01}, 5 + READ_64K, 0, 1, 0, COPY, READ_64K, "3", 0},
     {"9F, 64 KiB", 1, 0, 0, 0, FRAME, {0x9F}, 1 + READ_64K, 0, 1, 0, COPY, READ_64K, "-", 0},
-    {"sector erase", 1, 2, 0, 0, FRAME, {0x20, 0, 0x12, 0x34}, 4, 0, 1, 0, SET, 4096, "-", 0},
-    {"block erase", 2, 2, 0, 0, FRAME, {0xD8, 1, 0x12, 0x34}, 4, 0, 1, 0, SET, 65536, "1.3", 0},
-    {"chip erase, model 1", 1, 2, 0, 0, FRAME, {0xC7}, 1, 0, 1, 0, SET, 65536, "1.3", 0},
-    {"chip erase, model 2", 2, 2, 0, 0, FRAME, {0x60}, 1, 0, 1, 0, SET, 262144, "1.3", 0},
+    {"sector erase", 1, 2, 0, 0, FRAME, {0x20, 0, 0x12, 0x34}, 4, 0, 1, 0, NONE, 0, "-", SHORT},
+    {"chip erase", 1, 2, 0, 0, FRAME, {0xC7}, 1, 0, 1, 0, NONE, 0, "-", SHORT},
     {"program, 1 byte", 1, 2, 0, 0, FRAME, {0x02, 0, 0x12, 0x34}, 4 + 1, 0, 1, 0, NONE, 0, "-", SHORT},
     {"program, 256 bytes", 1, 2, 0, 0, FRAME, {0x02, 0, 0x12, 0x34}, 4 + 256, 0, 1, 0, COPY, 256, "-", 0},
     {"program, 65,537 bytes", 1, 2, 0, 0, FRAME, {0x02, 0, 0x12, 0x34}, 4 + 65537, 0, 1, 0, COPY, 256, "-", FOLDED},
-    {"wait", 1, 3, 0, 5000, WAIT, {0}, 0, 0, 0, 0, NONE, 0, "-", SHORT},
-    {"power cycle", 1, 3, 0, 5000, POWER_CYCLE, {0}, 0, 0, 0, 0, NONE, 0, "-", SHORT},
+    {"wait, idle", 1, 0, 0, 0, WAIT, {0}, 0, 0, 0, 0, NONE, 0, "-", SHORT},
+    {"wait, busy", 1, 3, 0, 5000, WAIT, {0x20, 0, 0x12, 0x34}, 0, 0, 0, 0, NONE, 0, "-", SHORT},
+    {"wait, end of a status write", 1, 3, 0, 4999, WAIT, {0x01, 0, 0, 1, 0x0C}, 0, 0, 0, 0, NONE, 0, "-", SHORT},
+    {"wait, end of a program", 1, 3, 0, 4999, WAIT, {0x02, 0, 0x12, 0x34}, 0, 0, 0, 0, COPY, 256, "-", 0},
+    {"wait, end of a sector erase", 1, 3, 0, 4999, WAIT, {0x20, 0, 0x12, 0x34}, 0, 0, 0, 0, SET, 4096, "-", 0},
+    {"wait, end of a block erase", 2, 3, 0, 4999, WAIT, {0xD8, 1, 0x12, 0x34}, 0, 0, 0, 0, SET, 65536, "1.3", 0},
+    {"wait, end of a chip erase, model 1", 1, 3, 0, 4999, WAIT, {0xC7, 0xFF, 0xFF, 0xFF}, 0, 0, 0, 0, SET, 65536,
+     "1.3", 0},
+    {"wait, end of a chip erase, model 2", 2, 3, 0, 4999, WAIT, {0x60, 0xFF, 0xFF, 0xFF}, 0, 0, 0, 0, SET, 262144,
+     "1.3", 0},
+    {"power cycle", 1, 0, 0, 0, POWER_CYCLE, {0}, 0, 0, 0, 0, NONE, 0, "-", SHORT},
+    {"cut, idle", 1, 0, 0, 0, CUT, {0}, 0, 0, 0, 0, NONE, 0, "-", SHORT},
+    {"cut of a program", 1, 3, 0, 5000, CUT, {0x02, 0, 0x12, 0x34}, 0, 0, 0, 0, COPY, 256, "-", 0},
+    {"cut of a sector erase", 1, 3, 0, 5000, CUT, {0x20, 0, 0x12, 0x34}, 0, 0, 0, 0, COPY, 4096, "-", 0},
+    {"cut of a chip erase, model 2", 2, 3, 0, 5000, CUT, {0x60, 0xFF, 0xFF, 0xFF}, 0, 0, 0, 0, COPY, 262144, "-", 0},
     {"refused 1, record", 4, 0, 0, 0, FRAME, {0x06}, 1, 0, 1, 1, NONE, 0, "-", SHORT},
     {"refused 3, state", 1, 0x10, 0, 0, FRAME, {0x06}, 1, 0, 1, 3, NONE, 0, "-", SHORT},
     {"refused 4, tail", 1, 0, 0, 0, FRAME, {0x06}, 1, 8, 1, 4, NONE, 0, "-", SHORT},
     {"refused 10, empty", 1, 0, 0, 0, FRAME, {0}, 0, 0, 1, 10, NONE, 0, "-", SHORT},
     {"refused 22, settling", 1, 0, 0, 5, FRAME, {0x03}, 4 + 16, 0, 1, 22, NONE, 0, "-", SHORT},
+    {"refused 11, power cycle", 1, 3, 0, 5000, POWER_CYCLE, {0xC7, 0xFF, 0xFF, 0xFF}, 0, 0, 0, 11, NONE, 0, "-", SHORT},
+    {"refused 23, pattern", 1, 3, 0, 5000, CUT, {0x20, 0, 0x12, 0x34}, 0, 0, 0, 23, NONE, 0, "-", SHORT},
     {"refused 11, busy", 1, 3, 0, 5000, FRAME, {0x03}, 4 + 16, 0, 1, 11, NONE, 0, "-", SHORT},
     {"refused 12, asleep", 1, 0, 1, 0, FRAME, {0x03}, 4 + 16, 0, 1, 12, NONE, 0, "-", SHORT},
     {"refused 13, unknown", 1, 0, 0, 0, FRAME, {0x5A}, 4 + 16, 0, 1, 13, NONE, 0, "-", SHORT},
@@ -89,18 +103,27 @@ static const struct row rows[] = {
     {"program, 256 bytes, model 2", 2, 2, 0, 0, FRAME, {0x02, 0, 0x12, 0x34}, 4 + 256, 0, 1, 0, COPY, 256, "-", 0},
     {"program, 256 bytes, model 3", 3, 2, 0, 0, FRAME, {0x02, 0, 0x12, 0x34}, 4 + 256, 0, 1, 0, COPY, 256, "-",
      AS_MODEL_2},
-    {"wait, model 2", 2, 3, 0, 5000, WAIT, {0}, 0, 0, 0, 0, NONE, 0, "-", SHORT},
-    {"wait, model 3", 3, 3, 0, 5000, WAIT, {0}, 0, 0, 0, 0, NONE, 0, "-", SHORT | AS_MODEL_2},
-    {"power cycle, model 2", 2, 3, 0, 5000, POWER_CYCLE, {0}, 0, 0, 0, 0, NONE, 0, "-", SHORT},
-    {"power cycle, model 3", 3, 3, 0, 5000, POWER_CYCLE, {0}, 0, 0, 0, 0, NONE, 0, "-", SHORT | AS_MODEL_2},
+    {"wait, busy, model 2", 2, 3, 0, 5000, WAIT, {0x20, 0, 0x12, 0x34}, 0, 0, 0, 0, NONE, 0, "-", SHORT},
+    {"wait, busy, model 3", 3, 3, 0, 5000, WAIT, {0x20, 0, 0x12, 0x34}, 0, 0, 0, 0, NONE, 0, "-", SHORT | AS_MODEL_2},
+    {"wait, end of a program, model 2", 2, 3, 0, 700, WAIT, {0x02, 0, 0x12, 0x34}, 0, 0, 0, 0, COPY, 256, "-", 0},
+    {"wait, end of a program, model 3", 3, 3, 0, 700, WAIT, {0x02, 0, 0x12, 0x34}, 0, 0, 0, 0, COPY, 256, "-",
+     AS_MODEL_2},
+    {"power cycle, model 2", 2, 0, 0, 0, POWER_CYCLE, {0}, 0, 0, 0, 0, NONE, 0, "-", SHORT},
+    {"power cycle, model 3", 3, 0, 0, 0, POWER_CYCLE, {0}, 0, 0, 0, 0, NONE, 0, "-", SHORT | AS_MODEL_2},
+    {"cut, idle, model 2", 2, 0, 0, 0, CUT, {0}, 0, 0, 0, 0, NONE, 0, "-", SHORT},
+    {"cut, idle, model 3", 3, 0, 0, 0, CUT, {0}, 0, 0, 0, 0, NONE, 0, "-", SHORT | AS_MODEL_2},
     {"refused 17, model 2", 2, 6, 0, 0, FRAME, {0x20, 0xFF, 0, 0}, 4, 0, 1, 17, NONE, 0, "-", SHORT},
     {"refused 17, model 3", 3, 6, 0, 0, FRAME, {0x20, 0xFF, 0, 0}, 4, 0, 1, 17, NONE, 0, "-", SHORT | AS_MODEL_2},
     {"configuration, 2 bytes", 3, 0, 0, 0, FRAME, {0x15}, 2, 0, 1, 0, NONE, 0, "-", SHORT},
     {"status write, 2 data bytes", 3, 2, 0, 0, FRAME, {0x01, 0x04, 0x08}, 3, 0, 1, 0, NONE, 0, "-", SHORT},
-    {"sector erase, model 3", 3, 2, 0, 0, FRAME, {0x20, 0, 0x12, 0x34}, 4, 0, 1, 0, SET, 4096, "-", 0},
-    {"half block erase, model 3", 3, 2, 0, 0, FRAME, {0x52, 1, 0x12, 0x34}, 4, 0, 1, 0, SET, 32768, "1.3", 0},
-    {"block erase, model 3", 3, 2, 0, 0, FRAME, {0xD8, 1, 0x12, 0x34}, 4, 0, 1, 0, SET, 65536, "1.3", 0},
-    {"chip erase, model 3", 3, 2, 0, 0, FRAME, {0x60}, 1, 0, 1, 0, SET, 16777216, "1.1", 0},
+    {"wait, end of a sector erase, model 3", 3, 3, 0, 4999, WAIT, {0x20, 0, 0x12, 0x34}, 0, 0, 0, 0, SET, 4096, "-", 0},
+    {"wait, end of a half block erase, model 3", 3, 3, 0, 4999, WAIT, {0x52, 1, 0x12, 0x34}, 0, 0, 0, 0, SET, 32768,
+     "1.3", 0},
+    {"wait, end of a block erase, model 3", 3, 3, 0, 4999, WAIT, {0xD8, 1, 0x12, 0x34}, 0, 0, 0, 0, SET, 65536, "1.3",
+     0},
+    {"wait, end of a chip erase, model 3", 3, 3, 0, 4999, WAIT, {0x60, 0xFF, 0xFF, 0xFF}, 0, 0, 0, 0, SET, 16777216,
+     "1.1", 0},
+    {"cut of a chip erase, model 3", 3, 3, 0, 5000, CUT, {0xC7, 0xFF, 0xFF, 0xFF}, 0, 0, 0, 0, COPY, 16777216, "-", 0},
 };
 enum { ROWS = sizeof rows / sizeof rows[0] };
 
@@ -113,6 +136,21 @@ static struct gwo_record record;
 static size_t array_len;
 static uint32_t from, count, fold;
 
+/* The operation that runs in a busy chip: the row's, of a frame's row a chip erase; data bytes of a program are 5A. */
+static void prepare_operation(const struct row *r)
+{
+    static const uint8_t chip_erase[4] = {0xC7, 0xFF, 0xFF, 0xFF};
+    const uint8_t *operation = r->kind == FRAME ? chip_erase : r->head;
+
+    if (r->status % 2 == 0)
+        return;
+    memcpy(state + 12, operation, 4);
+    if (operation[0] == 0x01)
+        state[16] = operation[4];
+    if (operation[0] == 0x02)
+        memset(state + 16, 0x5A, 256);
+}
+
 /* A number that is no model has the first one's record and array. */
 static void prepare(const struct row *r)
 {
@@ -122,11 +160,12 @@ static void prepare(const struct row *r)
     record = r->model == 3 ? gwo_bench_model_3 : r->model == 2 ? gwo_bench_model_2 : gwo_bench_model_1;
     array_len = gwo_array_length(record.model);
     record.model = r->model;
-    memset(state, 0, sizeof state);
+    gwo_factory_state(state);
     state[0] = (uint8_t)r->status;
     state[1] = (uint8_t)r->asleep;
     left[0] = (uint8_t)r->left_us;
     left[1] = (uint8_t)(r->left_us >> 8);
+    prepare_operation(r);
     for (i = 0; i < GWO_MODEL_2_LENGTH; i++) /* all that the rows read or write, but for model 3's chip erase */
         array[i] = (uint8_t)(i * 7);
     memset(frame, 0x5A, sizeof frame);
@@ -149,6 +188,7 @@ static STRETCH uint32_t count_frame(frame_call *f, const struct row *r, int stre
     return answer;
 }
 
+/* 4,999 microseconds: one less than what is left, or all of it. */
 static STRETCH uint32_t count_wait(wait_call *f, int stretch, const char *name)
 {
     uint32_t answer;
@@ -156,7 +196,7 @@ static STRETCH uint32_t count_wait(wait_call *f, int stretch, const char *name)
     (void)stretch, (void)name;
     MARK_START(stretch);
     answer = f(record.model, record.status_us, record.page_us, record.sector_us, record.block_us, record.chip_us,
-               record.half_us, record.sleep_us, record.wake_us, record.sign_us, state, sizeof state, 4999);
+               record.half_us, record.sleep_us, record.wake_us, record.sign_us, state, sizeof state, array, array_len, 4999);
     MARK_END(stretch, name);
     return answer;
 }
@@ -169,6 +209,19 @@ static STRETCH uint32_t count_power_cycle(power_cycle_call *f, int stretch, cons
     MARK_START(stretch);
     answer = f(record.model, record.status_us, record.page_us, record.sector_us, record.block_us, record.chip_us,
                record.half_us, record.sleep_us, record.wake_us, record.sign_us, state, sizeof state);
+    MARK_END(stretch, name);
+    return answer;
+}
+
+static STRETCH uint32_t count_cut(cut_call *f, const struct row *r, int stretch, const char *name)
+{
+    uint32_t answer;
+
+    (void)stretch, (void)name;
+    MARK_START(stretch);
+    answer = f(record.model, record.status_us, record.page_us, record.sector_us, record.block_us, record.chip_us,
+               record.half_us, record.sleep_us, record.wake_us, record.sign_us, state, sizeof state, array, array_len,
+               other, r->moved);
     MARK_END(stretch, name);
     return answer;
 }
@@ -194,11 +247,13 @@ static uint32_t call_once(const struct row *r, int who, int stretch, const char 
     static frame_call *const frames[] = {gwo_frame, ref_frame, NULL, empty_frame};
     static wait_call *const waits[] = {gwo_wait, ref_wait, NULL, empty_wait};
     static power_cycle_call *const power_cycles[] = {gwo_power_cycle, ref_power_cycle, NULL, empty_power_cycle};
+    static cut_call *const cuts[] = {gwo_cut, ref_cut, NULL, empty_cut};
 
     prepare(r);
     switch (r->kind) {
     case FRAME: return count_frame(frames[who], r, stretch, name);
     case WAIT: return count_wait(waits[who], stretch, name);
+    case CUT: return count_cut(cuts[who], r, stretch, name);
     default: return count_power_cycle(power_cycles[who], stretch, name);
     }
 }

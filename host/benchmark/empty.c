@@ -5,7 +5,7 @@
 uint32_t empty_frame(uint32_t model, uint32_t status_us, uint32_t page_us, uint32_t sector_us,
                      uint32_t block_us, uint32_t chip_us, uint32_t half_us,
                      uint32_t sleep_us, uint32_t wake_us, uint32_t sign_us,
-                     uint8_t *state, size_t state_len, uint8_t *array, size_t array_len,
+                     uint8_t *state, size_t state_len, const uint8_t *array, size_t array_len,
                      const uint8_t *frame, size_t frame_len, uint32_t tail, uint32_t wp,
                      uint8_t *out, size_t out_len, uint32_t *from, uint32_t *count, uint32_t *fold)
 {
@@ -19,10 +19,11 @@ uint32_t empty_frame(uint32_t model, uint32_t status_us, uint32_t page_us, uint3
 uint32_t empty_wait(uint32_t model, uint32_t status_us, uint32_t page_us, uint32_t sector_us,
                     uint32_t block_us, uint32_t chip_us, uint32_t half_us,
                     uint32_t sleep_us, uint32_t wake_us, uint32_t sign_us,
-                    uint8_t *state, size_t state_len, uint32_t us)
+                    uint8_t *state, size_t state_len, uint8_t *array, size_t array_len, uint32_t us)
 {
     (void)model, (void)status_us, (void)page_us, (void)sector_us, (void)block_us, (void)chip_us, (void)half_us;
-    (void)sleep_us, (void)wake_us, (void)sign_us, (void)state, (void)state_len, (void)us;
+    (void)sleep_us, (void)wake_us, (void)sign_us, (void)state, (void)state_len, (void)array, (void)array_len;
+    (void)us;
     return 0;
 }
 
@@ -33,6 +34,18 @@ uint32_t empty_power_cycle(uint32_t model, uint32_t status_us, uint32_t page_us,
 {
     (void)model, (void)status_us, (void)page_us, (void)sector_us, (void)block_us, (void)chip_us, (void)half_us;
     (void)sleep_us, (void)wake_us, (void)sign_us, (void)state, (void)state_len;
+    return 0;
+}
+
+uint32_t empty_cut(uint32_t model, uint32_t status_us, uint32_t page_us, uint32_t sector_us,
+                   uint32_t block_us, uint32_t chip_us, uint32_t half_us,
+                   uint32_t sleep_us, uint32_t wake_us, uint32_t sign_us,
+                   uint8_t *state, size_t state_len, uint8_t *array, size_t array_len,
+                   const uint8_t *pattern, size_t pattern_len)
+{
+    (void)model, (void)status_us, (void)page_us, (void)sector_us, (void)block_us, (void)chip_us, (void)half_us;
+    (void)sleep_us, (void)wake_us, (void)sign_us, (void)state, (void)state_len, (void)array, (void)array_len;
+    (void)pattern, (void)pattern_len;
     return 0;
 }
 

@@ -18,7 +18,7 @@ mkdir -p "$build"
 "$host" cc $flags -fno-builtin $("$host" count-flags) -c "$here/benchmark.c" -o "$build/benchmark.o"
 if [ "$archive" = model ]; then
     "$host" cc $flags -Dref_frame=gwo_frame -Dref_wait=gwo_wait -Dref_power_cycle=gwo_power_cycle \
-        -c "$root/host/model/model.c" -o "$build/stand_in.o"
+        -Dref_cut=gwo_cut -c "$root/host/model/model.c" -o "$build/stand_in.o"
     archive=$build/stand_in.o
 elif [ ! -f "$archive" ]; then
     echo "host/benchmark/run.sh: there is no archive at $archive" >&2

@@ -8,10 +8,9 @@
  * it folds, and the model says so with its answer. Run once as the firmware was last
  * spring, and once mended.
  */
-#include "gwo.h"
+#include "flash.h"
 
 #include <stdio.h>
-#include <stdlib.h>
 #include <string.h>
 
 enum { RECORD_LENGTH = 48, RECORDS = 6, TABLE = 0x2000 };
@@ -24,80 +23,6 @@ static const char *const records[RECORDS] = {
     "shelf 5  batteries     price 0600  stock 064  ok",
     "shelf 6  spare bulbs   price 0275  stock 031  ok",
 };
-
-/* ---- the flash driver ---- */
-
-/* The chip on the board: here the model. */
-struct flash {
-    struct gwo_record record;
-    uint8_t state[GWO_STATE_LENGTH];
-    uint8_t array[GWO_MODEL_1_LENGTH];
-};
-
-static void stop_unless_done(uint32_t number)
-{
-    if (number == GWO_DONE)
-        return;
-    printf("the chip refused: %lu, %s\n", (unsigned long)number, gwo_text(number));
-    exit(1);
-}
-
-static void flash_power_on(struct flash *f)
-{
-    f->record = gwo_bench_model_1;
-    memset(f->state, 0, sizeof f->state);
-    memset(f->array, 0xFF, sizeof f->array);
-}
-
-/* CS# low, n bytes out and in, CS# high; 1 where it was a program that folded. */
-static uint32_t transfer(struct flash *f, const uint8_t *out, uint8_t *in, size_t n)
-{
-    uint32_t from, count, fold;
-
-    memset(in, 0, n);
-    stop_unless_done(gwo_record_frame_fold(&f->record, f->state, sizeof f->state, f->array, sizeof f->array,
-                                           out, n, 0, 1, in, n, &from, &count, &fold));
-    return fold;
-}
-
-static void write_enable(struct flash *f)
-{
-    static const uint8_t frame[] = {0x06};
-    uint8_t in[1];
-
-    transfer(f, frame, in, 1);
-}
-
-/* Asks for the status every 100 microseconds until the chip is no longer busy. */
-static void wait_until_ready(struct flash *f)
-{
-    static const uint8_t frame[] = {0x05, 0x00};
-    uint8_t in[2];
-
-    transfer(f, frame, in, 2);
-    while ((in[1] & 1) != 0) {
-        stop_unless_done(gwo_record_wait(&f->record, f->state, sizeof f->state, 100));
-        transfer(f, frame, in, 2);
-    }
-}
-
-static size_t addressed(uint8_t *frame, uint8_t command, uint32_t address)
-{
-    frame[0] = command;
-    frame[1] = (uint8_t)(address >> 16);
-    frame[2] = (uint8_t)(address >> 8);
-    frame[3] = (uint8_t)address;
-    return 4;
-}
-
-static void erase_sector(struct flash *f, uint32_t address)
-{
-    uint8_t frame[4], in[4];
-
-    write_enable(f);
-    transfer(f, frame, in, addressed(frame, 0x20, address));
-    wait_until_ready(f);
-}
 
 /* One page program; a fold is said at once. */
 static void program(struct flash *f, uint32_t address, const uint8_t *bytes, size_t n)
@@ -112,18 +37,6 @@ static void program(struct flash *f, uint32_t address, const uint8_t *bytes, siz
                (unsigned long)address);
     wait_until_ready(f);
 }
-
-static void read_record(struct flash *f, uint32_t address, uint8_t *bytes)
-{
-    uint8_t frame[4 + RECORD_LENGTH], in[4 + RECORD_LENGTH];
-    size_t at = addressed(frame, 0x03, address);
-
-    memset(frame + at, 0, RECORD_LENGTH);
-    transfer(f, frame, in, at + RECORD_LENGTH);
-    memcpy(bytes, in + at, RECORD_LENGTH);
-}
-
-/* ---- the table ---- */
 
 /* Last spring: a record is one program, wherever it lies. */
 static void write_record_last_spring(struct flash *f, uint32_t address, const uint8_t *bytes)
@@ -170,7 +83,7 @@ static void show_table(struct flash *f)
     uint32_t i;
 
     for (i = 0; i < RECORDS; i++) {
-        read_record(f, TABLE + i * RECORD_LENGTH, bytes);
+        read_bytes(f, TABLE + i * RECORD_LENGTH, bytes, RECORD_LENGTH);
         show_record(i, bytes);
     }
 }

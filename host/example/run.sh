@@ -1,5 +1,5 @@
 #!/bin/sh
-# Builds the example against the archive and runs it.
+# Builds the two examples against the archive and runs them.
 #   host/example/run.sh [ARCHIVE]
 set -eu
 here=$(cd "$(dirname "$0")" && pwd)
@@ -8,5 +8,7 @@ host=$root/tools/host.sh
 build=${GWO_BUILD:-$root/target/host}
 archive=${1:-$root/target/staticlib/libpod.a}
 mkdir -p "$build"
-"$host" cc -std=c99 -O2 -I"$root/host/include" "$here/firmware.c" "$archive" -o "$build/example"
-exec "$host" run "$build/example"
+for program in firmware unplugged; do
+    "$host" cc -std=c99 -O2 -I"$root/host/include" "$here/$program.c" "$here/flash.c" "$archive" -o "$build/$program"
+    "$host" run "$build/$program"
+done

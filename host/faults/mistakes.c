@@ -3,8 +3,6 @@
 
 #include <string.h>
 
-enum { PAGE = 256 };
-
 static uint32_t says(const struct call *c, uint32_t number)
 {
     *c->from = 0;
@@ -35,16 +33,26 @@ static uint32_t same_byte(const struct call *c)
 }
 
 /* 3: changes no cell of the two smaller chips. */
-static uint32_t no_cell(const struct call *c)
+static uint32_t with_old_cells(const struct call *c, answers *right)
 {
     static uint8_t kept[GWO_MODEL_2_LENGTH];
     size_t n = c->array_len <= sizeof kept ? c->array_len : 0;
     uint32_t number;
 
     memcpy(kept, c->array, n);
-    number = right_frame(c);
+    number = right(c);
     memcpy(c->array, kept, n);
     return number;
+}
+
+static uint32_t waits_without_cells(const struct call *c)
+{
+    return with_old_cells(c, right_wait);
+}
+
+static uint32_t cuts_without_cells(const struct call *c)
+{
+    return with_old_cells(c, right_cut);
 }
 
 /* 4: works on the first frame and afterwards only says 0. */
@@ -65,55 +73,51 @@ static uint32_t first_power_cycle_only(const struct call *c)
     return frames == 0 ? right_power_cycle(c) : 0;
 }
 
-/* An accepted program, laid by another rule: the page is put back and the rule applied to it. */
-typedef void rule(const struct call *c, uint8_t *page, uint32_t address, const uint8_t *sent, size_t n);
+static uint32_t first_cut_only(const struct call *c)
+{
+    return frames == 0 ? right_cut(c) : 0;
+}
+
+/* A program at its end, laid by another rule: the page is put back and the rule applied to it. */
+typedef void rule(const struct call *c, uint8_t *page, const struct operation *o);
 
 static uint32_t programs_by(const struct call *c, rule *lay)
 {
+    struct operation o = ended_by(c);
     uint8_t kept[PAGE], *page;
-    uint32_t address, number;
+    uint32_t number;
 
-    if (c->frame_len < 5 || c->frame[0] != 0x02 || c->array_len != gwo_array_length(c->record.model))
-        return right_frame(c);
-    address = address_in(c);
-    page = c->array + address / PAGE * PAGE;
+    if (o.command != 0x02 || c->array_len != gwo_array_length(c->record.model))
+        return right_wait(c);
+    page = unit_cells(c, &o);
     memcpy(kept, page, PAGE);
-    number = right_frame(c);
+    number = right_wait(c);
     if (number == 0) {
         memcpy(page, kept, PAGE);
-        lay(c, page, address, c->frame + 4, c->frame_len - 4);
+        lay(c, page, &o);
     }
     return number;
 }
 
-static void on_into_the_next_page(const struct call *c, uint8_t *page, uint32_t address, const uint8_t *sent, size_t n)
+static void on_into_the_next_page(const struct call *c, uint8_t *page, const struct operation *o)
 {
-    size_t i;
+    size_t at = (size_t)(page - c->array), k;
 
-    (void)page;
-    for (i = 0; i < n; i++)
-        c->array[(address + i) % c->array_len] &= sent[i];
+    for (k = 0; k < PAGE; k++)
+        c->array[(at + k + (k < o->place % PAGE ? PAGE : 0)) % c->array_len] &= o->data[k];
 }
 
-static void first_256(const struct call *c, uint8_t *page, uint32_t address, const uint8_t *sent, size_t n)
+static void stored(const struct call *c, uint8_t *page, const struct operation *o)
 {
-    size_t i;
+    size_t k;
 
     (void)c;
-    for (i = 0; i < n && i < PAGE; i++)
-        page[(address + i) % PAGE] &= sent[i];
+    for (k = 0; k < PAGE; k++)
+        if (o->data[k] != 0xFF)
+            page[k] = o->data[k];
 }
 
-static void stored(const struct call *c, uint8_t *page, uint32_t address, const uint8_t *sent, size_t n)
-{
-    size_t i;
-
-    (void)c;
-    for (i = 0; i < n; i++)
-        page[(address + i) % PAGE] = sent[i];
-}
-
-/* 5: a long program runs into the next page. */
+/* 5: a program that folds runs into the next page. */
 static uint32_t next_page(const struct call *c)
 {
     return programs_by(c, on_into_the_next_page);
@@ -122,7 +126,15 @@ static uint32_t next_page(const struct call *c)
 /* 6: the first 256 bytes are kept instead of the last. */
 static uint32_t keeps_first(const struct call *c)
 {
-    return programs_by(c, first_256);
+    uint32_t number = right_frame(c);
+    size_t i;
+
+    if (number != 0 || c->frame[0] != 0x02)
+        return number;
+    memset(c->state + DATA_AT, 0xFF, PAGE);
+    for (i = 0; i < c->frame_len - 4 && i < PAGE; i++)
+        c->state[DATA_AT + (c->frame[3] + i) % PAGE] = c->frame[4 + i];
+    return 0;
 }
 
 /* 7: data stored in place of AND. */
@@ -163,6 +175,11 @@ static uint32_t power_cycles_early(const struct call *c)
     return with_early_latch(c, right_power_cycle);
 }
 
+static uint32_t cuts_early(const struct call *c)
+{
+    return with_early_latch(c, right_cut);
+}
+
 /* 9: WP# low alone blocks 01. */
 static uint32_t blocked_by_wp(const struct call *c)
 {
@@ -187,7 +204,7 @@ static uint32_t reads_while_busy(const struct call *c)
 
     if (number != 11 || c->frame[0] != 0x03)
         return number;
-    memset(idle, 0, sizeof idle);
+    gwo_factory_state(idle);
     quiet.state = idle;
     return right_frame(&quiet);
 }
@@ -202,7 +219,9 @@ static uint32_t looks_too_far(const struct call *c)
 }
 
 const struct pod mistakes[MISTAKES] = {
-    {refuses_all, refuses_time, refuses_time}, {same_byte, NULL, NULL}, {no_cell, NULL, NULL},
-    {first_frame_only, first_wait_only, first_power_cycle_only}, {next_page, NULL, NULL}, {keeps_first, NULL, NULL},
-    {stores, NULL, NULL}, {clears_early, waits_early, power_cycles_early}, {blocked_by_wp, NULL, NULL},
-    {reads_while_busy, NULL, NULL}, {looks_too_far, NULL, NULL}};
+    {refuses_all, refuses_time, refuses_time, refuses_time}, {same_byte, NULL, NULL, NULL},
+    {NULL, waits_without_cells, NULL, cuts_without_cells},
+    {first_frame_only, first_wait_only, first_power_cycle_only, first_cut_only}, {NULL, next_page, NULL, NULL},
+    {keeps_first, NULL, NULL, NULL}, {NULL, stores, NULL, NULL},
+    {clears_early, waits_early, power_cycles_early, cuts_early}, {blocked_by_wp, NULL, NULL, NULL},
+    {reads_while_busy, NULL, NULL, NULL}, {looks_too_far, NULL, NULL, NULL}};

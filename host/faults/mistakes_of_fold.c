@@ -3,8 +3,6 @@
 
 #include <string.h>
 
-enum { PAGE = 256 };
-
 /* Where the bytes after the address end, counted from the page's start; 0 where there are none. */
 static size_t end_of(const struct call *c)
 {
@@ -55,28 +53,23 @@ static uint32_t says_it_of_a_read(const struct call *c)
     return number;
 }
 
-/* 25: right in all, but folds into a copy of the page on the stack. */
+/* 25: right in all, but folds into a copy of the page data on the stack. */
 static uint32_t copies_the_page(const struct call *c)
 {
-    uint8_t copy[PAGE], *page;
-    uint32_t address, number;
+    uint8_t copy[PAGE];
+    uint32_t number = right_frame(c);
     size_t n, i;
 
-    if (!is_program(c) || c->array_len == 0 || c->array_len != gwo_array_length(c->record.model))
-        return right_frame(c);
-    address = address_in(c);
-    page = c->array + address / PAGE * PAGE;
-    memcpy(copy, page, PAGE);
-    number = right_frame(c);
-    if (number != 0)
+    if (number != 0 || !is_program(c))
         return number;
+    memset(copy, 0xFF, PAGE);
     n = c->frame_len - 4;
     for (i = n > PAGE ? n - PAGE : 0; i < n; i++)
-        copy[(address + i) % PAGE] &= c->frame[4 + i];
-    memcpy(page, copy, PAGE);
+        copy[(c->frame[3] + i) % PAGE] = c->frame[4 + i];
+    memcpy(c->state + DATA_AT, copy, PAGE);
     return 0;
 }
 
 const struct pod mistakes_of_fold[MISTAKES_OF_FOLD] = {
-    {never_says_it, NULL, NULL}, {says_it_of_a_page, NULL, NULL}, {says_it_when_refused, NULL, NULL},
-    {says_it_of_a_read, NULL, NULL}, {copies_the_page, NULL, NULL}};
+    {never_says_it, NULL, NULL, NULL}, {says_it_of_a_page, NULL, NULL, NULL}, {says_it_when_refused, NULL, NULL, NULL},
+    {says_it_of_a_read, NULL, NULL, NULL}, {copies_the_page, NULL, NULL, NULL}};

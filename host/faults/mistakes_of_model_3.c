@@ -13,10 +13,11 @@ static int is_model_3(const struct call *c)
 /* 12: a second data byte without TB clears it. */
 static uint32_t writes_tb(const struct call *c)
 {
-    uint32_t number = right_frame(c);
+    struct operation o = ended_by(c);
+    uint32_t number = right_wait(c);
 
-    if (number == 0 && is_model_3(c) && c->frame[0] == 0x01 && c->frame_len == 3)
-        c->state[2] = c->frame[2] & 0xDB;
+    if (number == 0 && is_model_3(c) && o.command == 0x01 && o.place == 2)
+        c->state[2] = o.data[1] & 0xDB;
     return number;
 }
 
@@ -53,10 +54,11 @@ static uint32_t clears_latch(const struct call *c)
 /* 16: 52 erases 64 KiB on model 3 too. */
 static uint32_t erases_a_block(const struct call *c)
 {
-    uint32_t number = right_frame(c);
+    struct operation o = ended_by(c);
+    uint32_t number = right_wait(c);
 
-    if (number == 0 && is_model_3(c) && c->frame[0] == 0x52)
-        memset(c->array + address_in(c) / BLOCK * BLOCK, 0xFF, BLOCK);
+    if (number == 0 && is_model_3(c) && o.command == 0x52)
+        memset(c->array + o.place / BLOCK * BLOCK, 0xFF, BLOCK);
     return number;
 }
 
@@ -117,14 +119,15 @@ static uint32_t always_top(const struct call *c)
 /* 20: a sector erase also clears a cell in the other half of the chip. */
 static uint32_t strays(const struct call *c)
 {
-    uint32_t number = right_frame(c);
+    struct operation o = ended_by(c);
+    uint32_t number = right_wait(c);
 
-    if (number == 0 && is_model_3(c) && c->frame[0] == 0x20)
-        c->array[address_in(c) ^ GWO_MODEL_3_LENGTH / 2] = 0x00;
+    if (number == 0 && is_model_3(c) && o.command == 0x20)
+        c->array[o.place ^ GWO_MODEL_3_LENGTH / 2] = 0x00;
     return number;
 }
 
 const struct pod mistakes_of_model_3[MISTAKES_OF_MODEL_3] = {
-    {writes_tb, NULL, NULL}, {NULL, NULL, power_clears_tb}, {keeps_latch, NULL, NULL}, {clears_latch, NULL, NULL},
-    {erases_a_block, NULL, NULL}, {small_area, NULL, NULL}, {large_area, NULL, NULL}, {always_top, NULL, NULL},
-    {strays, NULL, NULL}};
+    {NULL, writes_tb, NULL, NULL}, {NULL, NULL, power_clears_tb, NULL}, {keeps_latch, NULL, NULL, NULL},
+    {clears_latch, NULL, NULL, NULL}, {NULL, erases_a_block, NULL, NULL}, {small_area, NULL, NULL, NULL},
+    {large_area, NULL, NULL, NULL}, {always_top, NULL, NULL, NULL}, {NULL, strays, NULL, NULL}};

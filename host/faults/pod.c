@@ -8,6 +8,7 @@
 
 #include <stdio.h>
 #include <stdlib.h>
+#include <string.h>
 
 uint32_t right_frame(const struct call *c)
 {
@@ -23,7 +24,7 @@ uint32_t right_wait(const struct call *c)
     const struct gwo_record *r = &c->record;
 
     return ref_wait(r->model, r->status_us, r->page_us, r->sector_us, r->block_us, r->chip_us, r->half_us,
-                    r->sleep_us, r->wake_us, r->sign_us, c->state, c->state_len, c->us);
+                    r->sleep_us, r->wake_us, r->sign_us, c->state, c->state_len, c->array, c->array_len, c->us);
 }
 
 uint32_t right_power_cycle(const struct call *c)
@@ -34,33 +35,86 @@ uint32_t right_power_cycle(const struct call *c)
                            r->sleep_us, r->wake_us, r->sign_us, c->state, c->state_len);
 }
 
+uint32_t right_cut(const struct call *c)
+{
+    const struct gwo_record *r = &c->record;
+
+    return ref_cut(r->model, r->status_us, r->page_us, r->sector_us, r->block_us, r->chip_us, r->half_us,
+                   r->sleep_us, r->wake_us, r->sign_us, c->state, c->state_len, c->array, c->array_len, c->pattern,
+                   c->pattern_len);
+}
+
 uint32_t address_in(const struct call *c)
 {
     return ((uint32_t)c->frame[1] << 16 | (uint32_t)c->frame[2] << 8 | c->frame[3]) % (uint32_t)c->array_len;
 }
 
-enum {
-    FIRST_OF_MODEL_3 = 1 + MISTAKES,
-    FIRST_OF_FOLD = FIRST_OF_MODEL_3 + MISTAKES_OF_MODEL_3,
-    FIRST_OF_SLEEP = FIRST_OF_FOLD + MISTAKES_OF_FOLD
-};
+static uint32_t busy_in(const struct call *c)
+{
+    const uint8_t *p = c->state + 4;
+
+    return (uint32_t)p[0] | (uint32_t)p[1] << 8 | (uint32_t)p[2] << 16 | (uint32_t)p[3] << 24;
+}
+
+struct operation running(const struct call *c)
+{
+    struct operation o = {.command = NO_COMMAND};
+
+    if (c->state_len != GWO_STATE_LENGTH || busy_in(c) == 0)
+        return o;
+    o.command = c->state[COMMAND_AT];
+    o.place = (uint32_t)c->state[13] << 16 | (uint32_t)c->state[14] << 8 | c->state[15];
+    memcpy(o.data, c->state + DATA_AT, PAGE);
+    return o;
+}
+
+struct operation ended_by(const struct call *c)
+{
+    struct operation o = running(c);
+
+    if (o.command != NO_COMMAND && c->us < busy_in(c))
+        o.command = NO_COMMAND;
+    return o;
+}
+
+uint32_t unit_length(const struct call *c, const struct operation *o)
+{
+    switch (o->command) {
+    case 0x02: return PAGE;
+    case 0x20: return GWO_SECTOR_LENGTH;
+    case 0x52: return c->record.model == 3 ? GWO_HALF_BLOCK_LENGTH : GWO_BLOCK_LENGTH;
+    case 0xD8: return GWO_BLOCK_LENGTH;
+    case 0x60: case 0xC7: return (uint32_t)c->array_len;
+    default: return 0;
+    }
+}
+
+uint8_t *unit_cells(const struct call *c, const struct operation *o)
+{
+    uint32_t unit = unit_length(c, o);
+
+    return unit == 0 ? c->array : c->array + o->place % (uint32_t)c->array_len / unit * unit;
+}
+
+/* The mistakes in the order of their numbers. */
+static const struct { const struct pod *pods; int n; } books[] = {
+    {mistakes, MISTAKES}, {mistakes_of_model_3, MISTAKES_OF_MODEL_3}, {mistakes_of_fold, MISTAKES_OF_FOLD},
+    {mistakes_of_sleep, MISTAKES_OF_SLEEP}, {mistakes_of_cut, MISTAKES_OF_CUT}};
 
 static const struct pod *choose_pod(void)
 {
     static const struct pod none;
     const char *text = getenv("GWO_FAULT");
-    int fault = text == NULL ? 0 : atoi(text);
+    int fault = text == NULL ? 0 : atoi(text), left = fault;
+    size_t i;
 
     if (fault == 0)
         return &none;
-    if (fault >= 1 && fault < FIRST_OF_MODEL_3)
-        return &mistakes[fault - 1];
-    if (fault >= FIRST_OF_MODEL_3 && fault < FIRST_OF_FOLD)
-        return &mistakes_of_model_3[fault - FIRST_OF_MODEL_3];
-    if (fault >= FIRST_OF_FOLD && fault < FIRST_OF_SLEEP)
-        return &mistakes_of_fold[fault - FIRST_OF_FOLD];
-    if (fault >= FIRST_OF_SLEEP && fault < FIRST_OF_SLEEP + MISTAKES_OF_SLEEP)
-        return &mistakes_of_sleep[fault - FIRST_OF_SLEEP];
+    for (i = 0; i < sizeof books / sizeof books[0] && left > 0; i++) {
+        if (left <= books[i].n)
+            return &books[i].pods[left - 1];
+        left -= books[i].n;
+    }
     printf("there is no fault %d\n", fault);
     exit(2);
 }
@@ -77,13 +131,15 @@ static const struct pod *pod(void)
 uint32_t gwo_frame(uint32_t model, uint32_t status_us, uint32_t page_us, uint32_t sector_us,
                    uint32_t block_us, uint32_t chip_us, uint32_t half_us,
                    uint32_t sleep_us, uint32_t wake_us, uint32_t sign_us,
-                   uint8_t *state, size_t state_len, uint8_t *array, size_t array_len,
+                   uint8_t *state, size_t state_len, const uint8_t *array, size_t array_len,
                    const uint8_t *frame, size_t frame_len, uint32_t tail, uint32_t wp,
                    uint8_t *out, size_t out_len, uint32_t *from, uint32_t *count, uint32_t *fold)
 {
-    const struct call c = {{model, status_us, page_us, sector_us, block_us, chip_us, half_us, sleep_us, wake_us,
-                            sign_us}, state, state_len, array, array_len, frame, frame_len, tail, wp, out, out_len,
-                           from, count, fold, 0};
+    const struct call c = {.record = {model, status_us, page_us, sector_us, block_us, chip_us, half_us, sleep_us,
+                                      wake_us, sign_us},
+                           .state = state, .state_len = state_len, .array = (uint8_t *)array, .array_len = array_len,
+                           .frame = frame, .frame_len = frame_len, .tail = tail, .wp = wp, .out = out,
+                           .out_len = out_len, .from = from, .count = count, .fold = fold};
 
     return pod()->frame != NULL ? pod()->frame(&c) : right_frame(&c);
 }
@@ -91,11 +147,11 @@ uint32_t gwo_frame(uint32_t model, uint32_t status_us, uint32_t page_us, uint32_
 uint32_t gwo_wait(uint32_t model, uint32_t status_us, uint32_t page_us, uint32_t sector_us,
                   uint32_t block_us, uint32_t chip_us, uint32_t half_us,
                   uint32_t sleep_us, uint32_t wake_us, uint32_t sign_us,
-                  uint8_t *state, size_t state_len, uint32_t us)
+                  uint8_t *state, size_t state_len, uint8_t *array, size_t array_len, uint32_t us)
 {
     const struct call c = {.record = {model, status_us, page_us, sector_us, block_us, chip_us, half_us, sleep_us,
                                       wake_us, sign_us},
-                           .state = state, .state_len = state_len, .us = us};
+                           .state = state, .state_len = state_len, .array = array, .array_len = array_len, .us = us};
 
     return pod()->wait != NULL ? pod()->wait(&c) : right_wait(&c);
 }
@@ -110,4 +166,18 @@ uint32_t gwo_power_cycle(uint32_t model, uint32_t status_us, uint32_t page_us, u
                            .state = state, .state_len = state_len};
 
     return pod()->power_cycle != NULL ? pod()->power_cycle(&c) : right_power_cycle(&c);
+}
+
+uint32_t gwo_cut(uint32_t model, uint32_t status_us, uint32_t page_us, uint32_t sector_us,
+                 uint32_t block_us, uint32_t chip_us, uint32_t half_us,
+                 uint32_t sleep_us, uint32_t wake_us, uint32_t sign_us,
+                 uint8_t *state, size_t state_len, uint8_t *array, size_t array_len,
+                 const uint8_t *pattern, size_t pattern_len)
+{
+    const struct call c = {.record = {model, status_us, page_us, sector_us, block_us, chip_us, half_us, sleep_us,
+                                      wake_us, sign_us},
+                           .state = state, .state_len = state_len, .array = array, .array_len = array_len,
+                           .pattern = pattern, .pattern_len = pattern_len};
+
+    return pod()->cut != NULL ? pod()->cut(&c) : right_cut(&c);
 }

@@ -4,12 +4,12 @@
 
 #include "gwo.h"
 
-/* The arguments of gwo_frame, gwo_wait or gwo_power_cycle. */
+/* The arguments of gwo_frame, gwo_wait, gwo_power_cycle or gwo_cut. */
 struct call {
     struct gwo_record record;
     uint8_t *state;
     size_t state_len;
-    uint8_t *array;
+    uint8_t *array; /* a frame may not write to it */
     size_t array_len;
     const uint8_t *frame;
     size_t frame_len;
@@ -18,24 +18,41 @@ struct call {
     size_t out_len;
     uint32_t *from, *count, *fold;
     uint32_t us;
+    const uint8_t *pattern;
+    size_t pattern_len;
 };
 
 typedef uint32_t answers(const struct call *c);
 
 /* A pod answers its calls so; where it has no function it is right. */
 struct pod {
-    answers *frame, *wait, *power_cycle;
+    answers *frame, *wait, *power_cycle, *cut;
 };
 
-/* 1 to 11; those of model 3, from 12 on; those of the fold, from 21 on; and those of sleep, from 26 on. */
-enum { MISTAKES = 11, MISTAKES_OF_MODEL_3 = 9, MISTAKES_OF_FOLD = 5, MISTAKES_OF_SLEEP = 5 };
+/* 1 to 11; those of model 3, from 12 on; of the fold, from 21 on; of sleep, from 26 on; and of a cut, from 31 on. */
+enum { MISTAKES = 11, MISTAKES_OF_MODEL_3 = 9, MISTAKES_OF_FOLD = 5, MISTAKES_OF_SLEEP = 5, MISTAKES_OF_CUT = 5 };
 extern const struct pod mistakes[MISTAKES], mistakes_of_model_3[MISTAKES_OF_MODEL_3],
-    mistakes_of_fold[MISTAKES_OF_FOLD], mistakes_of_sleep[MISTAKES_OF_SLEEP];
+    mistakes_of_fold[MISTAKES_OF_FOLD], mistakes_of_sleep[MISTAKES_OF_SLEEP], mistakes_of_cut[MISTAKES_OF_CUT];
 
 /* Without a fault. */
-answers right_frame, right_wait, right_power_cycle;
+answers right_frame, right_wait, right_power_cycle, right_cut;
 
 /* The address in a frame of 4 bytes or more, modulo the array. */
 uint32_t address_in(const struct call *c);
+
+/* An operation as the packed state has it from byte 12 on; its place is an address or a count. */
+enum { COMMAND_AT = 12, DATA_AT = 16, PAGE = 256, NO_COMMAND = 0xFF };
+struct operation {
+    uint8_t command, data[PAGE];
+    uint32_t place;
+};
+
+/* That which is running before the call; and that which a wait ends, if it is taken. NO_COMMAND where there is none. */
+struct operation running(const struct call *c);
+struct operation ended_by(const struct call *c);
+
+/* The cells that a program or an erase may change: how many, and the first of them; 0 of a status write. */
+uint32_t unit_length(const struct call *c, const struct operation *o);
+uint8_t *unit_cells(const struct call *c, const struct operation *o);
 
 #endif

@@ -27,10 +27,12 @@ for program in compare thirteen; do
     "$host" cc "$obj/$program"*.o "$obj"/rig.o $pod -o "$out/$program"
 done
 "$host" cc "$obj"/stack*.o "$obj"/empty.o "$obj"/rig.o $pod -o "$out/stack"
-"$host" cc "$obj"/firmware.o $pod -o "$out/example"
+for program in firmware unplugged; do
+    "$host" cc "$obj/$program.o" "$obj"/flash.o $pod -o "$out/$program"
+done
 
-# The bytes of stack that the three calls take without a fault: the limits for the faulty ones.
-own=$(GWO_FAULT=0 "$host" run "$out/stack" 65536 65536 65536 | awk '/^  gwo_/ { print $2 }')
+# The bytes of stack that the four calls take without a fault: the limits for the faulty ones.
+own=$(GWO_FAULT=0 "$host" run "$out/stack" 65536 65536 65536 65536 | awk '/^  gwo_/ { print $2 }')
 
 # passes FAULT TEST: runs one of the five, or a group of rules, with that fault; its words go to $out/log.
 passes() {
@@ -42,7 +44,7 @@ passes() {
     thirteen) "$host" run "$out/thirteen" first >"$out/log" 2>&1 ;;
     stack) "$host" run "$out/stack" $own >"$out/log" 2>&1 ;;
     example)
-        "$host" run "$out/example" >"$out/log" 2>&1 || return 1
+        "$host" run "$out/firmware" >"$out/log" 2>&1 && "$host" run "$out/unplugged" >>"$out/log" 2>&1 || return 1
         diff "$root/host/example/output.txt" "$out/log" >"$out/example.diff" && return 0
         echo "FAIL: the example's output differs" >>"$out/log"
         return 1 ;;
@@ -93,7 +95,7 @@ fault 4 "one that works on the first frame and then only says 0" rules compare t
 fault 5 "a long program runs into the next page" rules:programming compare example
 fault 6 "the first 256 bytes kept instead of the last" rules:programming compare
 fault 7 "data stored in place of AND" rules:programming compare example
-fault 8 "WEL cleared when the operation starts" rules:erasing compare thirteen
+fault 8 "WEL cleared when the operation starts" rules:erasing rules:operations compare thirteen
 fault 9 "WP# low alone blocks 01" "rules:refused by command" compare
 fault 10 "03 answered while busy" "rules:refused by command" compare thirteen
 fault 11 "a byte past the frame is looked at" rules compare
@@ -116,5 +118,10 @@ fault 27 "22 comes before 10" "rules:refused before the command" "rules:refused 
 fault 28 "05 is taken while settling" "rules:refused by command" "rules:falling asleep and waking" compare
 fault 29 "AB settles a chip that was awake" "rules:state commands" "rules:falling asleep and waking" compare thirteen
 fault 30 "the short AB takes the long one's time" "rules:falling asleep and waking" compare thirteen
+fault 31 "a cut changes a cell beside its unit" rules:cuts compare thirteen example
+fault 32 "cells change when the frame is taken" rules:operations rules:erasing rules:programming compare thirteen
+fault 33 "a cut takes the pattern for bits that were not to change" rules:cuts compare
+fault 34 "a power cycle is taken while busy" "rules:time and power" "rules:refused in order" rules:operations compare
+fault 35 "an operation that has ended is not forgotten" rules:operations rules:cuts "rules:bench sheet" compare thirteen example
 echo "$passed passed, $failed failed"
 [ $failed -eq 0 ]

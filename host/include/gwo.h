@@ -3,8 +3,13 @@
  *
  * The archive libpod.a answers frames as the Macronix KH25L512 (model 1), KH25L2006E
  * (model 2) and KH25L12845G (model 3) do. It keeps no memory of its own: the caller
- * lends the chip's state (12 packed bytes) and its array, and each call alters them there.
+ * lends the chip's state (272 packed bytes) and its array, and each call alters them there.
  * Every call is answered by a number (enum gwo_number), for any argument at all.
+ *
+ * A status write, program or erase takes time. The frame only starts it: the chip is busy, and the
+ * state remembers what it is doing. Cells and register bits change when the time has run out, in the
+ * wait that brings it to 0 and in the array that is lent to that wait; until then 05 and 15 show the
+ * old bits. When the power is cut before that, the operation is left unfinished (gwo_cut).
  *
  * The caller's duties are those of C, and no others:
  *  - each pointer points to as many bytes as its length says, and may be null
@@ -16,10 +21,13 @@
  * is the KH25L12845G's own: on model 3 a program or erase that protection refuses (17) clears
  * the write enable latch in the state, and 06 has to come again.
  *
- * The 12 bytes of a state: the status register; 1 in deep power-down, else 0; the configuration
+ * The 272 bytes of a state: the status register; 1 in deep power-down, else 0; the configuration
  * register, 0 on models 1 and 2; 0; the microseconds that the chip is still busy, in four bytes,
- * low byte first; and the microseconds that it still settles after B9 or AB, in the last four.
- * All zero is a chip from the factory at power-on.
+ * low byte first; the microseconds that it still settles after B9 or AB, in four; the command of
+ * the running operation; its address in the array, in three bytes, high byte first, or for a status
+ * write 0, 0 and the number of its data bytes; and in the last 256 the data: of a page program by
+ * their place in the page, of a status write as they were sent. What is not used of the last 260 is
+ * FF, so all of them on an idle chip. gwo_factory_state lays a chip from the factory at power-on.
  *
  * A chip is in deep power-down at once after B9, and out of it at once after AB. Then it settles
  * and answers no frame (22), not even 05; a chip that was awake does not settle after AB.
@@ -35,7 +43,7 @@ extern "C" {
 #endif
 
 /* Lengths, in bytes. */
-#define GWO_STATE_LENGTH 12u    /* a packed state */
+#define GWO_STATE_LENGTH 272u   /* a packed state */
 #define GWO_FRAME_LIMIT 65541u  /* the longest frame */
 #define GWO_PAGE_LENGTH 256u
 #define GWO_SECTOR_LENGTH 4096u
@@ -47,16 +55,16 @@ extern "C" {
 
 /* What a call is answered. Of several that apply, the first in this order is given. */
 enum gwo_number {
-    GWO_DONE = 0,           /* taken; what it does is done */
+    GWO_DONE = 0,           /* taken: a status write, program or erase is started, all else is done */
     GWO_BAD_RECORD = 1,     /* the model isn't 1, 2 or 3, or a time isn't 1 to 1,000,000,000 us;
                                half_us must be 0 on models 1 and 2, and 1 to 1,000,000,000 on model 3 */
     GWO_BAD_ARRAY = 2,      /* the array's length isn't the model's */
-    GWO_BAD_STATE = 3,      /* the 12 bytes are not the packing of a valid state */
+    GWO_BAD_STATE = 3,      /* the 272 bytes are not the packing of a valid state */
     GWO_BAD_FRAME = 4,      /* over 65,541 bytes, or over 7 tail bits */
     GWO_SHORT_OUTPUT = 5,   /* the output buffer is shorter than the frame */
     GWO_NO_COMMAND = 10,    /* no whole byte in the frame */
     GWO_SETTLING = 22,      /* still going into deep power-down or coming out of it, whatever the command */
-    GWO_BUSY = 11,          /* busy, and the command isn't 05, nor 15 on model 3 */
+    GWO_BUSY = 11,          /* busy, and the command isn't 05, nor 15 on model 3; or a power cycle while busy */
     GWO_ASLEEP = 12,        /* in deep power-down, and the command isn't AB */
     GWO_UNKNOWN = 13,       /* no command of this chip: 15 is one on model 3 only */
     GWO_BAD_LENGTH = 14,    /* length or tail not allowed for the command */
@@ -64,6 +72,7 @@ enum gwo_number {
     GWO_STATUS_LOCKED = 16, /* status write with SRWD 1 and WP# low */
     GWO_PROTECTED = 17,     /* the addressed unit is protected by BP (on model 3 by BP and TB);
                                on model 3 the write enable latch clears, and nothing else changes */
+    GWO_BAD_PATTERN = 23,   /* a cut whose pattern isn't as long as what the running operation changes */
     GWO_BAD_LINE = 20       /* a script line that is not well formed (the runner only) */
 };
 
@@ -86,16 +95,27 @@ static inline const char *gwo_text(uint32_t number)
     case GWO_NOT_ENABLED: return "write enable latch not set";
     case GWO_STATUS_LOCKED: return "status register locked by SRWD and WP#";
     case GWO_PROTECTED: return "unit protected";
+    case GWO_BAD_PATTERN: return "pattern length is not that of the running operation";
     case GWO_BAD_LINE: return "script line not well formed";
     default: return "no number of this model";
     }
+}
+
+/* Makes GWO_STATE_LENGTH bytes a chip from the factory at power-on: idle, awake, nothing protected. */
+static inline void gwo_factory_state(uint8_t *state)
+{
+    size_t i;
+
+    for (i = 0u; i < GWO_STATE_LENGTH; i++)
+        state[i] = (uint8_t)(i < 12u ? 0x00u : 0xFFu);
 }
 
 /*
  * One frame: frame_len whole bytes clocked in while CS# is low, then tail bits;
  * wp 0 is WP# low, any other number high. out[i] is the byte driven while frame[i]
  * goes in; *from is the first driven position, *count how many are driven, both 0
- * when none. Positions not driven keep their contents. A frame takes no time.
+ * when none. Positions not driven keep their contents. A frame takes no time, and changes no cell:
+ * a program or an erase does so in the wait that ends it.
  *
  * *fold is 1 when a page program was taken that ran past the end of its page, so that it went on
  * at the start of the same page: the low address byte and the number of data bytes add up to
@@ -104,28 +124,54 @@ static inline const char *gwo_text(uint32_t number)
 uint32_t gwo_frame(uint32_t model, uint32_t status_us, uint32_t page_us, uint32_t sector_us,
                    uint32_t block_us, uint32_t chip_us, uint32_t half_us,
                    uint32_t sleep_us, uint32_t wake_us, uint32_t sign_us,
-                   uint8_t *state, size_t state_len, uint8_t *array, size_t array_len,
+                   uint8_t *state, size_t state_len, const uint8_t *array, size_t array_len,
                    const uint8_t *frame, size_t frame_len, uint32_t tail, uint32_t wp,
                    uint8_t *out, size_t out_len, uint32_t *from, uint32_t *count, uint32_t *fold);
 
-/* us microseconds pass. Only 1 and 3 can refuse it. */
+/*
+ * us microseconds pass. When they use up the time of the running operation, its change is made, in the lent
+ * array or in the registers; the write enable latch clears, and the operation is forgotten. Only 1, 2 and 3 can
+ * refuse it.
+ */
 uint32_t gwo_wait(uint32_t model, uint32_t status_us, uint32_t page_us, uint32_t sector_us,
                   uint32_t block_us, uint32_t chip_us, uint32_t half_us,
                   uint32_t sleep_us, uint32_t wake_us, uint32_t sign_us,
-                  uint8_t *state, size_t state_len, uint32_t us);
+                  uint8_t *state, size_t state_len, uint8_t *array, size_t array_len, uint32_t us);
 
-/* Power off and on again: SRWD and BP stay, on model 3 TB too. Only 1 and 3 can refuse it. */
+/*
+ * Power off and on again: SRWD and BP stay, on model 3 TB too. Only 1, 3 and 11 can refuse it: to take the
+ * power from a chip that is busy is to cut it (gwo_cut).
+ */
 uint32_t gwo_power_cycle(uint32_t model, uint32_t status_us, uint32_t page_us, uint32_t sector_us,
                          uint32_t block_us, uint32_t chip_us, uint32_t half_us,
                          uint32_t sleep_us, uint32_t wake_us, uint32_t sign_us,
                          uint8_t *state, size_t state_len);
 
 /*
+ * The power is cut at this moment, as when a board is pulled, and comes back. What a running operation leaves
+ * is anybody's guess, so the caller says it, bit by bit, in the pattern:
+ *  - idle, or settling: nothing is lost, and pattern_len is 0;
+ *  - an erase leaves the pattern in its unit: 4,096, 32,768 or 65,536 bytes, or as many as the array has;
+ *  - a program leaves the pattern's bit wherever it was to clear a bit of its page, and every other bit as it
+ *    was: 256 bytes, one for each cell of the page, whatever the address and the number of data bytes;
+ *  - a status write leaves the pattern's bit wherever it was to change SRWD, BP or, by a second data byte, TB,
+ *    and these as they were otherwise: a byte for each data byte, its bits at their places in the register.
+ * A pattern of the old contents is an operation that had not begun, one of the new contents an operation that
+ * was through. Nothing outside the unit changes. Then the chip is as after a power cycle: idle, awake and
+ * settled, with the write enable latch 0, and the operation is forgotten. Only 1, 2, 3 and 23 can refuse it.
+ */
+uint32_t gwo_cut(uint32_t model, uint32_t status_us, uint32_t page_us, uint32_t sector_us,
+                 uint32_t block_us, uint32_t chip_us, uint32_t half_us,
+                 uint32_t sleep_us, uint32_t wake_us, uint32_t sign_us,
+                 uint8_t *state, size_t state_len, uint8_t *array, size_t array_len,
+                 const uint8_t *pattern, size_t pattern_len);
+
+/*
  * The chip record under one name. Firmware that fills it from a named bench record, or by field
  * names in an initialiser, and calls through the functions below compiles unchanged when the record
  * gains further times. A time that it does not name is 0. half_us has to be 0 on models 1 and 2; for
  * a sleep_us, wake_us or sign_us of 0 the functions below pass the model's bench value. gwo_frame,
- * gwo_wait and gwo_power_cycle themselves answer 1 to a 0 there.
+ * gwo_wait, gwo_power_cycle and gwo_cut themselves answer 1 to a 0 there.
  */
 struct gwo_record {
     uint32_t model;     /* 1, 2 or 3 */
@@ -183,7 +229,7 @@ static inline struct gwo_record gwo_record_filled(const struct gwo_record *r)
 
 /* gwo_frame under a record. */
 static inline uint32_t gwo_record_frame_fold(const struct gwo_record *r, uint8_t *state, size_t state_len,
-                                             uint8_t *array, size_t array_len,
+                                             const uint8_t *array, size_t array_len,
                                              const uint8_t *frame, size_t frame_len,
                                              uint32_t tail, uint32_t wp,
                                              uint8_t *out, size_t out_len,
@@ -199,7 +245,7 @@ static inline uint32_t gwo_record_frame_fold(const struct gwo_record *r, uint8_t
 
 /* The same for firmware that does not ask for the fold. */
 static inline uint32_t gwo_record_frame(const struct gwo_record *r, uint8_t *state, size_t state_len,
-                                        uint8_t *array, size_t array_len,
+                                        const uint8_t *array, size_t array_len,
                                         const uint8_t *frame, size_t frame_len,
                                         uint32_t tail, uint32_t wp,
                                         uint8_t *out, size_t out_len,
@@ -213,12 +259,12 @@ static inline uint32_t gwo_record_frame(const struct gwo_record *r, uint8_t *sta
 
 /* gwo_wait under a record. */
 static inline uint32_t gwo_record_wait(const struct gwo_record *r, uint8_t *state, size_t state_len,
-                                       uint32_t us)
+                                       uint8_t *array, size_t array_len, uint32_t us)
 {
     const struct gwo_record f = gwo_record_filled(r);
 
     return gwo_wait(f.model, f.status_us, f.page_us, f.sector_us, f.block_us, f.chip_us, f.half_us,
-                    f.sleep_us, f.wake_us, f.sign_us, state, state_len, us);
+                    f.sleep_us, f.wake_us, f.sign_us, state, state_len, array, array_len, us);
 }
 
 /* gwo_power_cycle under a record. */
@@ -228,6 +274,17 @@ static inline uint32_t gwo_record_power_cycle(const struct gwo_record *r, uint8_
 
     return gwo_power_cycle(f.model, f.status_us, f.page_us, f.sector_us, f.block_us, f.chip_us, f.half_us,
                            f.sleep_us, f.wake_us, f.sign_us, state, state_len);
+}
+
+/* gwo_cut under a record. */
+static inline uint32_t gwo_record_cut(const struct gwo_record *r, uint8_t *state, size_t state_len,
+                                      uint8_t *array, size_t array_len,
+                                      const uint8_t *pattern, size_t pattern_len)
+{
+    const struct gwo_record f = gwo_record_filled(r);
+
+    return gwo_cut(f.model, f.status_us, f.page_us, f.sector_us, f.block_us, f.chip_us, f.half_us,
+                   f.sleep_us, f.wake_us, f.sign_us, state, state_len, array, array_len, pattern, pattern_len);
 }
 
 #ifdef __cplusplus

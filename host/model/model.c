@@ -7,7 +7,7 @@
 #include <stdbool.h>
 #include <string.h>
 
-enum { PAGE = 256, SECTOR = 4096, HALF_BLOCK = 32768, BLOCK = 65536, FRAME_LIMIT = 65541, STATE = 12 };
+enum { PAGE = 256, SECTOR = 4096, HALF_BLOCK = 32768, BLOCK = 65536, FRAME_LIMIT = 65541, STATE = 272 };
 
 enum {
     WRITE_STATUS = 0x01, PROGRAM = 0x02, READ = 0x03, WRITE_DISABLE = 0x04,
@@ -21,6 +21,12 @@ enum { MAKER = 0xC2 };
 /* The configuration register: TB is set once and stays; the others are volatile and change no answer (003 L828-867). */
 enum { TB = 0x08, VOLATILE = 0xD3 };
 
+/* What stays without power: SRWD and BP in the status byte. */
+enum { KEPT = 0xBC };
+
+/* No operation is running; the operation has no address. */
+enum { NO_COMMAND = 0xFF, NOWHERE = 0xFFFFFF };
+
 struct record {
     uint32_t model, status_us, page_us, sector_us, block_us, chip_us, half_us, sleep_us, wake_us, sign_us;
 };
@@ -28,6 +34,9 @@ struct record {
 struct state {
     unsigned srwd, bp, wel, asleep, config;
     uint32_t busy_us, settling_us;
+    uint8_t command; /* of the running operation */
+    uint32_t at;     /* its address in the array; of a status write how many data bytes it has */
+    uint8_t *data;   /* the page data: the last 256 bytes of the packed state itself */
 };
 
 /* What differs between the models. */
@@ -69,11 +78,31 @@ static uint32_t larger(uint32_t a, uint32_t b)
     return a > b ? a : b;
 }
 
-/* half_us is 0 where it does not count. */
-static uint32_t longest_busy(const struct record *r)
+/* How long an operation takes; 0 for a byte that starts none. */
+static uint32_t time_of(const struct record *r, uint8_t command)
 {
-    return larger(larger(larger(r->status_us, r->page_us), larger(r->sector_us, r->block_us)),
-                  larger(r->chip_us, r->half_us));
+    switch (command) {
+    case WRITE_STATUS: return r->status_us;
+    case PROGRAM: return r->page_us;
+    case SECTOR_ERASE: return r->sector_us;
+    case ERASE_52: return r->model == 3 ? r->half_us : r->block_us; /* 003 L1227-1231 */
+    case BLOCK_ERASE: return r->block_us;
+    case CHIP_ERASE_60: case CHIP_ERASE_C7: return r->chip_us;
+    default: return 0;
+    }
+}
+
+/* How many cells a program or an erase may change. */
+static uint32_t unit_of(const struct chip *chip, uint8_t command)
+{
+    switch (command) {
+    case PROGRAM: return PAGE;
+    case SECTOR_ERASE: return SECTOR;
+    case ERASE_52: return chip->large ? HALF_BLOCK : BLOCK;
+    case BLOCK_ERASE: return BLOCK;
+    case CHIP_ERASE_60: case CHIP_ERASE_C7: return chip->size;
+    default: return 0;
+    }
 }
 
 static uint32_t longest_settling(const struct record *r)
@@ -109,10 +138,38 @@ static void pack(const struct state *s, uint8_t *p)
     p[3] = 0;
     pack_us(s->busy_us, p + 4);
     pack_us(s->settling_us, p + 8);
+    p[12] = s->command;
+    p[13] = (uint8_t)(s->at >> 16);
+    p[14] = (uint8_t)(s->at >> 8);
+    p[15] = (uint8_t)s->at;
+}
+
+/* Whether the operation, or none, has such an address. */
+static bool place_ok(const struct chip *chip, const struct state *s)
+{
+    switch (s->command) {
+    case WRITE_STATUS: return s->at == 1 || (s->at == 2 && chip->large);
+    case PROGRAM: case SECTOR_ERASE: case ERASE_52: case BLOCK_ERASE: return s->at < chip->size;
+    default: return s->at == NOWHERE;
+    }
+}
+
+/* The first is, and each is as the one before. */
+static bool all_ff(const uint8_t *p, size_t n)
+{
+    return n == 0 || (p[0] == 0xFF && memcmp(p + 1, p, n - 1) == 0);
+}
+
+/* A program may use all of the page data, a status write has its data bytes there; the rest is FF. */
+static bool data_ok(const struct state *s)
+{
+    size_t used = s->command == PROGRAM ? PAGE : s->command == WRITE_STATUS ? s->at : 0;
+
+    return all_ff(s->data + used, PAGE - used);
 }
 
 /* False unless p holds the packing of a valid state. */
-static bool unpack(struct state *s, const uint8_t *p, size_t len, const struct record *r)
+static bool unpack(struct state *s, uint8_t *p, size_t len, const struct record *r)
 {
     const struct chip *chip = &chips[r->model - 1];
 
@@ -125,11 +182,14 @@ static bool unpack(struct state *s, const uint8_t *p, size_t len, const struct r
     s->config = p[2];
     s->busy_us = unpack_us(p + 4);
     s->settling_us = unpack_us(p + 8);
-    if ((p[0] & 1) != (s->busy_us > 0))
+    s->command = p[12];
+    s->at = (uint32_t)p[13] << 16 | (uint32_t)p[14] << 8 | p[15];
+    s->data = p + 16;
+    if ((p[0] & 1) != (s->busy_us > 0) || !place_ok(chip, s) || !data_ok(s))
         return false;
     if (s->busy_us == 0)
-        return s->settling_us <= longest_settling(r);
-    return s->busy_us <= longest_busy(r) && s->wel && !s->asleep && s->settling_us == 0;
+        return s->command == NO_COMMAND && s->settling_us <= longest_settling(r);
+    return s->busy_us <= time_of(r, s->command) && s->wel && !s->asleep && s->settling_us == 0;
 }
 
 /* The 24-bit address, high byte first, modulo the array length (a power of two). */
@@ -247,27 +307,6 @@ static void read_cells(const uint8_t *array, uint32_t size, uint32_t at, uint8_t
     }
 }
 
-/*
- * Byte i goes to offset (a + i) mod 256, the last one counts: of n bytes only the last
- * 256 can, and no two of those share an offset. New cell = old AND data. True when a byte
- * went past the page's end.
- */
-static bool program_page(uint8_t *array, uint32_t at, const uint8_t *sent, size_t n)
-{
-    uint8_t *page = array + at / PAGE * PAGE;
-    uint32_t a = at % PAGE;
-    size_t i;
-
-    for (i = n > PAGE ? n - PAGE : 0; i < n; i++)
-        page[(a + i) % PAGE] &= sent[i];
-    return n > PAGE - a;
-}
-
-static void erase_unit(uint8_t *array, uint32_t at, uint32_t unit)
-{
-    memset(array + at / unit * unit, 0xFF, unit);
-}
-
 static void drive_id(const uint8_t id[3], uint8_t *out, size_t n)
 {
     size_t i;
@@ -330,15 +369,6 @@ static size_t answer(const struct chip *chip, const struct state *s, const uint8
     }
 }
 
-/* The second data byte is the configuration register's; without it the register stays. */
-static void write_status(const struct chip *chip, struct state *s, const uint8_t *data, size_t n)
-{
-    s->srwd = data[0] >> 7;
-    s->bp = (data[0] & chip->status) >> 2 & 15;
-    if (n == 2)
-        s->config = (data[1] & VOLATILE) | ((s->config | data[1]) & TB);
-}
-
 /* Asleep at once; then it settles (002 L802). */
 static void fall_asleep(const struct record *r, struct state *s)
 {
@@ -354,49 +384,164 @@ static void wake_up(const struct record *r, struct state *s, size_t len)
     s->asleep = 0;
 }
 
-/* The commands that change the state or the array; true when a program folded. */
-static bool carry_out(const struct chip *chip, const struct record *r, struct state *s,
-                      uint8_t *array, const uint8_t *frame, size_t len)
+/*
+ * Byte i goes to offset (a + i) mod 256, the last one counts: of n bytes only the last
+ * 256 can, and no two of those share an offset. Where none goes the page data stay FF. True
+ * when a byte went past the page's end.
+ */
+static bool fold_bytes(uint8_t *data, uint32_t at, const uint8_t *sent, size_t n)
 {
-    bool folded = false;
+    uint32_t a = at % PAGE;
+    size_t i;
 
+    for (i = n > PAGE ? n - PAGE : 0; i < n; i++)
+        data[(a + i) % PAGE] = sent[i];
+    return n > PAGE - a;
+}
+
+/* An operation begins: what it is to do is remembered. True when a program folded. */
+static bool start(const struct chip *chip, const struct record *r, struct state *s, const uint8_t *frame, size_t len)
+{
+    s->command = frame[0];
+    s->busy_us = time_of(r, frame[0]);
     switch (frame[0]) {
-    case WRITE_ENABLE: s->wel = 1; break;
-    case WRITE_DISABLE: s->wel = 0; break;
-    case SLEEP: fall_asleep(r, s); break;
-    case WAKE: wake_up(r, s, len); break;
     case WRITE_STATUS:
-        write_status(chip, s, frame + 1, len - 1);
-        s->busy_us = r->status_us;
+        s->at = (uint32_t)(len - 1);
+        memcpy(s->data, frame + 1, len - 1);
+        return false;
+    case PROGRAM:
+        s->at = address(frame, chip->size);
+        return fold_bytes(s->data, s->at, frame + 4, len - 4);
+    case SECTOR_ERASE: case ERASE_52: case BLOCK_ERASE:
+        s->at = address(frame, chip->size);
+        return false;
+    default:
+        return false; /* a chip erase has no address */
+    }
+}
+
+/* The commands that change the state; true when a program folded. */
+static bool carry_out(const struct chip *chip, const struct record *r, struct state *s, const uint8_t *frame,
+                      size_t len)
+{
+    switch (frame[0]) {
+    case WRITE_ENABLE: s->wel = 1; return false;
+    case WRITE_DISABLE: s->wel = 0; return false;
+    case SLEEP: fall_asleep(r, s); return false;
+    case WAKE: wake_up(r, s, len); return false;
+    default: return time_of(r, frame[0]) > 0 && start(chip, r, s, frame, len);
+    }
+}
+
+static void forget(struct state *s)
+{
+    s->busy_us = 0;
+    s->command = NO_COMMAND;
+    s->at = NOWHERE;
+    memset(s->data, 0xFF, PAGE);
+}
+
+/* The cells of the running program or erase. The chip is the one unit of a chip erase, whose address is FFFFFF. */
+static uint8_t *unit_in(const struct chip *chip, const struct state *s, uint8_t *array)
+{
+    uint32_t unit = unit_of(chip, s->command);
+
+    return array + (s->at & (chip->size - 1)) / unit * unit;
+}
+
+static void put_status(struct state *s, unsigned bits)
+{
+    s->srwd = bits >> 7;
+    s->bp = bits >> 2 & 15;
+}
+
+/* What a status write leads to; without a second data byte the register stays. */
+static uint8_t status_written(const struct chip *chip, const struct state *s)
+{
+    return s->data[0] & chip->status & KEPT;
+}
+
+static unsigned config_written(const struct state *s)
+{
+    return s->at == 2 ? (s->data[1] & VOLATILE) | ((s->config | s->data[1]) & TB) : s->config;
+}
+
+/* The time has run out: new cell = old AND data, FF in an erased unit, the bits of a status write. */
+static void finish(const struct chip *chip, struct state *s, uint8_t *array)
+{
+    uint8_t *unit;
+    size_t i;
+
+    switch (s->command) {
+    case WRITE_STATUS:
+        s->config = config_written(s);
+        put_status(s, status_written(chip, s));
         break;
     case PROGRAM:
-        folded = program_page(array, address(frame, chip->size), frame + 4, len - 4);
-        s->busy_us = r->page_us;
+        unit = unit_in(chip, s, array);
+        for (i = 0; i < PAGE; i++)
+            unit[i] &= s->data[i];
         break;
-    case SECTOR_ERASE:
-        erase_unit(array, address(frame, chip->size), SECTOR);
-        s->busy_us = r->sector_us;
-        break;
-    case ERASE_52: /* 003 L1227-1231 */
-        erase_unit(array, address(frame, chip->size), chip->large ? HALF_BLOCK : BLOCK);
-        s->busy_us = chip->large ? r->half_us : r->block_us;
-        break;
-    case BLOCK_ERASE:
-        erase_unit(array, address(frame, chip->size), BLOCK);
-        s->busy_us = r->block_us;
-        break;
-    case CHIP_ERASE_60: case CHIP_ERASE_C7:
-        memset(array, 0xFF, chip->size);
-        s->busy_us = r->chip_us;
+    default:
+        memset(unit_in(chip, s, array), 0xFF, unit_of(chip, s->command));
         break;
     }
-    return folded;
+    s->wel = 0;
+    forget(s);
+}
+
+/* Each bit that was to change takes its pattern bit. */
+static unsigned torn(unsigned old, unsigned new, unsigned pattern)
+{
+    unsigned changing = old ^ new;
+
+    return (old & ~changing) | (pattern & changing);
+}
+
+/* What the running operation leaves when the power is cut. */
+static void tear(const struct chip *chip, struct state *s, uint8_t *array, const uint8_t *pattern)
+{
+    uint8_t *unit;
+    size_t i;
+
+    switch (s->command) {
+    case NO_COMMAND:
+        break;
+    case WRITE_STATUS:
+        if (s->at == 2)
+            s->config = torn(s->config, config_written(s), pattern[1]);
+        put_status(s, torn(status_byte(s) & KEPT, status_written(chip, s), pattern[0]));
+        break;
+    case PROGRAM:
+        unit = unit_in(chip, s, array);
+        for (i = 0; i < PAGE; i++)
+            unit[i] = (uint8_t)torn(unit[i], unit[i] & s->data[i], pattern[i]);
+        break;
+    default:
+        memcpy(unit_in(chip, s, array), pattern, unit_of(chip, s->command));
+        break;
+    }
+}
+
+/* As long as what the running operation changes: in bytes of its unit, or of the two registers. */
+static size_t pattern_length(const struct chip *chip, const struct state *s)
+{
+    return s->command == WRITE_STATUS ? s->at : unit_of(chip, s->command);
+}
+
+/* SRWD, BP and TB stay, the rest becomes 0. */
+static void lose_power(struct state *s)
+{
+    s->wel = 0;
+    s->asleep = 0;
+    s->config &= TB;
+    s->settling_us = 0;
 }
 
 uint32_t ref_frame(uint32_t model, uint32_t status_us, uint32_t page_us, uint32_t sector_us,
                    uint32_t block_us, uint32_t chip_us, uint32_t half_us,
                    uint32_t sleep_us, uint32_t wake_us, uint32_t sign_us,
-                   uint8_t *state, size_t state_len, uint8_t *array, size_t array_len,
+                   uint8_t *state, size_t state_len, const uint8_t *array, size_t array_len,
                    const uint8_t *frame, size_t frame_len, uint32_t tail, uint32_t wp,
                    uint8_t *out, size_t out_len, uint32_t *from, uint32_t *count, uint32_t *fold)
 {
@@ -428,37 +573,38 @@ uint32_t ref_frame(uint32_t model, uint32_t status_us, uint32_t page_us, uint32_
     if (number != 0)
         return number;
     driven(answer(chip, &s, array, frame, frame_len, out), frame_len, from, count);
-    *fold = carry_out(chip, &r, &s, array, frame, frame_len);
+    *fold = carry_out(chip, &r, &s, frame, frame_len);
     pack(&s, state);
     return 0;
 }
 
-/* Both times fall, never below 0; when the busy time comes to 0, WEL clears. */
+/* Both times fall, never below 0; when the busy time comes to 0, the operation is done. */
 uint32_t ref_wait(uint32_t model, uint32_t status_us, uint32_t page_us, uint32_t sector_us,
                   uint32_t block_us, uint32_t chip_us, uint32_t half_us,
                   uint32_t sleep_us, uint32_t wake_us, uint32_t sign_us,
-                  uint8_t *state, size_t state_len, uint32_t us)
+                  uint8_t *state, size_t state_len, uint8_t *array, size_t array_len, uint32_t us)
 {
     const struct record r = {model, status_us, page_us, sector_us, block_us, chip_us, half_us, sleep_us, wake_us,
                              sign_us};
+    const struct chip *chip;
     struct state s;
 
     if (!record_ok(&r))
         return 1;
+    chip = &chips[model - 1];
+    if (array_len != chip->size)
+        return 2;
     if (!unpack(&s, state, state_len, &r))
         return 3;
-    if (us < s.busy_us) {
+    if (us < s.busy_us)
         s.busy_us -= us;
-    } else if (s.busy_us > 0) {
-        s.busy_us = 0;
-        s.wel = 0;
-    }
+    else if (s.busy_us > 0)
+        finish(chip, &s, array);
     s.settling_us -= us < s.settling_us ? us : s.settling_us;
     pack(&s, state);
     return 0;
 }
 
-/* SRWD, BP and TB stay, the rest becomes 0. */
 uint32_t ref_power_cycle(uint32_t model, uint32_t status_us, uint32_t page_us, uint32_t sector_us,
                          uint32_t block_us, uint32_t chip_us, uint32_t half_us,
                          uint32_t sleep_us, uint32_t wake_us, uint32_t sign_us,
@@ -472,11 +618,36 @@ uint32_t ref_power_cycle(uint32_t model, uint32_t status_us, uint32_t page_us, u
         return 1;
     if (!unpack(&s, state, state_len, &r))
         return 3;
-    s.wel = 0;
-    s.asleep = 0;
-    s.config &= TB;
-    s.busy_us = 0;
-    s.settling_us = 0;
+    if (s.busy_us > 0)
+        return 11;
+    lose_power(&s);
+    pack(&s, state);
+    return 0;
+}
+
+uint32_t ref_cut(uint32_t model, uint32_t status_us, uint32_t page_us, uint32_t sector_us,
+                 uint32_t block_us, uint32_t chip_us, uint32_t half_us,
+                 uint32_t sleep_us, uint32_t wake_us, uint32_t sign_us,
+                 uint8_t *state, size_t state_len, uint8_t *array, size_t array_len,
+                 const uint8_t *pattern, size_t pattern_len)
+{
+    const struct record r = {model, status_us, page_us, sector_us, block_us, chip_us, half_us, sleep_us, wake_us,
+                             sign_us};
+    const struct chip *chip;
+    struct state s;
+
+    if (!record_ok(&r))
+        return 1;
+    chip = &chips[model - 1];
+    if (array_len != chip->size)
+        return 2;
+    if (!unpack(&s, state, state_len, &r))
+        return 3;
+    if (pattern_len != pattern_length(chip, &s))
+        return 23;
+    tear(chip, &s, array, pattern);
+    forget(&s);
+    lose_power(&s);
     pack(&s, state);
     return 0;
 }

@@ -1,8 +1,9 @@
 /*
  * Random calls to the archive and to the independent model, side by side: the answer,
  * state, array, output and frame must agree after every one; the 16 MiB of model 3 around the
- * addressed block, and whole now and then, after a chip erase and at the end. Arguments: how many
- * calls (1,000,000), and the seed. It stops at the first difference.
+ * addressed block, and whole now and then, after the end of a chip erase and at the end. Only a call that ends a
+ * program or an erase can write to the array. Arguments: how many calls (1,000,000), and the seed. It stops at the
+ * first difference.
  */
 #include "compare.h"
 #include "model.h"
@@ -12,12 +13,13 @@
 #include <string.h>
 
 struct side ours, model;
+struct guard over_array, over_pattern;
 
 enum { LARGE_EVERY = 1024, SMALL_EVERY = 64 }; /* so often all that could be lent as an array is compared */
 
 static void show(const struct call *c, const uint8_t *state, const char *what)
 {
-    static const char *const kinds[] = {"frame", "wait", "power cycle"};
+    static const char *const kinds[KINDS] = {"frame", "wait", "power cycle", "cut"};
     const struct gwo_record *r = &c->record;
     const uint8_t *frame = last_of(&model.frame, c->frame_len);
     size_t i;
@@ -28,15 +30,13 @@ static void show(const struct call *c, const uint8_t *state, const char *what)
            (unsigned long)r->sector_us, (unsigned long)r->block_us, (unsigned long)r->chip_us,
            (unsigned long)r->half_us, (unsigned long)r->sleep_us, (unsigned long)r->wake_us,
            (unsigned long)r->sign_us, (unsigned long)c->state_len);
-    for (i = 0; i < c->state_len && i < 16; i++)
+    for (i = 0; i < c->state_len && i < 24; i++)
         printf(" %02X", state[i]);
-    if (c->kind == WAIT)
-        printf(", %lu us", (unsigned long)c->us);
-    printf("\n");
-    if (c->kind != FRAME)
-        return;
-    printf("  array of %lu, tail %lu, WP# %lu, output of %lu, frame of %lu:", (unsigned long)c->array_len,
-           (unsigned long)c->tail, (unsigned long)c->wp, (unsigned long)c->out_len, (unsigned long)c->frame_len);
+    printf("\n  array of %lu, %lu us, pattern of %lu", (unsigned long)c->array_len, (unsigned long)c->us,
+           (unsigned long)c->pattern_len);
+    if (c->kind == FRAME)
+        printf(", tail %lu, WP# %lu, output of %lu, frame of %lu:", (unsigned long)c->tail, (unsigned long)c->wp,
+               (unsigned long)c->out_len, (unsigned long)c->frame_len);
     for (i = 0; i < c->frame_len && i < 24; i++)
         printf(" %02X", frame[i]);
     printf("\n");
@@ -48,28 +48,33 @@ static int same(const struct lent *a, const struct lent *b, size_t n)
     return agree(last_of(a, n + MARGIN), last_of(b, n + MARGIN), n + MARGIN);
 }
 
-static int same_array(const struct call *c)
+/* Whether the call may write to the array, by the state before it and its answer. */
+static int may_write(const struct call *c, const uint8_t *state, uint32_t number)
+{
+    return number == 0 && ((c->kind == WAIT && ends_by_wait(state, c->us)) || (c->kind == CUT && ends_by_cut(state)));
+}
+
+/* Around what the state before the call was at work on, if the call could write there. */
+static int same_array(const struct call *c, const uint8_t *state, uint32_t number)
 {
     const uint8_t *a = last_of(&ours.array, c->array_len), *b = last_of(&model.array, c->array_len);
-    struct stretch s = around(addressed(c), c->array_len);
+    struct stretch s = around(get_place(state), c->array_len);
 
-    return agree(a + s.low, b + s.low, s.high - s.low);
+    return !may_write(c, state, number) || agree(a + s.low, b + s.low, s.high - s.low);
 }
 
 /* What differs after the call, or null. */
-static const char *difference(const struct call *c)
+static const char *difference(const struct call *c, const uint8_t *state, uint32_t number)
 {
     if (!same(&ours.state, &model.state, c->state_len))
         return "the state";
     if (c->kind != FRAME)
-        return NULL;
+        return same_array(c, state, number) ? NULL : "the array";
     if (!same(&ours.numbers, &model.numbers, NUMBERS))
         return "the first driven position, the count or the fold";
     if (!same(&ours.out, &model.out, c->out_len))
         return "the output";
-    if (!same(&ours.frame, &model.frame, c->frame_len))
-        return "the frame";
-    return same_array(c) ? NULL : "the array";
+    return same(&ours.frame, &model.frame, c->frame_len) ? NULL : "the frame";
 }
 
 /* The last bytes of all that could ever be lent as an array, also what this call was not given. */
@@ -81,12 +86,11 @@ static int same_cells(size_t n)
     return 0;
 }
 
-static int same_everywhere(const struct call *c, uint32_t number)
+static int same_everywhere(const struct call *c, const uint8_t *state, uint32_t number)
 {
-    uint8_t command = c->kind == FRAME && c->frame_len > 0 ? *last_of(&model.frame, c->frame_len) : 0;
-    int chip_erased = number == 0 && (command == 0x60 || command == 0xC7);
+    int chip_erase = state[COMMAND_AT] == 0x60 || state[COMMAND_AT] == 0xC7;
 
-    if (rig_calls % LARGE_EVERY == 0 || (chip_erased && c->array_len > SMALL_ROOM))
+    if (rig_calls % LARGE_EVERY == 0 || (may_write(c, state, number) && chip_erase && c->array_len > SMALL_ROOM))
         return same_cells(ARRAY_ROOM);
     return rig_calls % SMALL_EVERY != 0 || same_cells(SMALL_ROOM);
 }
@@ -109,7 +113,8 @@ static uint32_t wait_on(wait_call *f, const struct side *s, const struct call *c
     const struct gwo_record *r = &c->record;
 
     return f(r->model, r->status_us, r->page_us, r->sector_us, r->block_us, r->chip_us, r->half_us,
-             r->sleep_us, r->wake_us, r->sign_us, last_of(&s->state, c->state_len), c->state_len, c->us);
+             r->sleep_us, r->wake_us, r->sign_us, last_of(&s->state, c->state_len), c->state_len,
+             last_of(&s->array, c->array_len), c->array_len, c->us);
 }
 
 static uint32_t power_cycle_on(power_cycle_call *f, const struct side *s, const struct call *c)
@@ -120,12 +125,52 @@ static uint32_t power_cycle_on(power_cycle_call *f, const struct side *s, const 
              r->sleep_us, r->wake_us, r->sign_us, last_of(&s->state, c->state_len), c->state_len);
 }
 
+static uint32_t cut_on(cut_call *f, const struct side *s, const struct call *c)
+{
+    const struct gwo_record *r = &c->record;
+
+    return f(r->model, r->status_us, r->page_us, r->sector_us, r->block_us, r->chip_us, r->half_us,
+             r->sleep_us, r->wake_us, r->sign_us, last_of(&s->state, c->state_len), c->state_len,
+             last_of(&s->array, c->array_len), c->array_len, last_of(&s->pattern, c->pattern_len), c->pattern_len);
+}
+
+/* Whether an operation has begun in this call, or goes on in it. */
+static int has_work(const struct call *c, const uint8_t *state, uint32_t number)
+{
+    if (c->kind != FRAME)
+        return get_us(state + BUSY_AT) > 0;
+    return number == 0 && us_of(&c->record, *last_of(&model.frame, c->frame_len)) > 0;
+}
+
+/* Around what the operation aims at; of the smaller arrays all that could be lent. */
+static void guard_cells(const struct call *c, uint32_t address)
+{
+    uint8_t *array = last_of(&ours.array, c->array_len);
+    struct stretch s = around(address, c->array_len);
+
+    if (c->array_len <= SMALL_ROOM)
+        guard_over(&over_array, last_of(&ours.array, SMALL_ROOM), ours.array.end);
+    else
+        guard_over(&over_array, array + s.low, array + s.high);
+}
+
+/* Only a call that may write to the array finds it open. To move the guard takes time: without work it stays. */
+static void guard_for(const struct call *c, const uint8_t *state, uint32_t number)
+{
+    if (may_write(c, state, number))
+        guard_lift(&over_array);
+    else if (has_work(c, state, number))
+        guard_cells(c, c->kind == FRAME ? addressed(c) : get_place(state));
+    guard_over(&over_pattern, last_of(&ours.pattern, c->pattern_len), ours.pattern.end);
+}
+
 /* The calls themselves: the functions on a record (gwo.h) put a bench value where a time is 0. */
 static uint32_t ours_gives(const struct call *c)
 {
     switch (c->kind) {
     case FRAME: return frame_on(gwo_frame, &ours, c);
     case WAIT: return wait_on(gwo_wait, &ours, c);
+    case CUT: return cut_on(gwo_cut, &ours, c);
     default: return power_cycle_on(gwo_power_cycle, &ours, c);
     }
 }
@@ -135,6 +180,7 @@ static uint32_t model_gives(const struct call *c)
     switch (c->kind) {
     case FRAME: return frame_on(ref_frame, &model, c);
     case WAIT: return wait_on(ref_wait, &model, c);
+    case CUT: return cut_on(ref_cut, &model, c);
     default: return power_cycle_on(ref_power_cycle, &model, c);
     }
 }
@@ -148,9 +194,11 @@ static int one_call(void)
     const char *what;
 
     choose(&c);
+    memset(state, 0, sizeof state);
     memcpy(state, last_of(&model.state, c.state_len), c.state_len);
     rig_calls++;
     wanted = model_gives(&c);
+    guard_for(&c, state, wanted);
     got = ours_gives(&c);
     if (got != wanted) {
         show(&c, state, "the answer");
@@ -158,16 +206,17 @@ static int one_call(void)
         return 0;
     }
     note(&c, state, wanted);
-    what = difference(&c);
+    what = difference(&c, state, wanted);
     if (what != NULL)
         show(&c, state, what);
-    return what == NULL && same_everywhere(&c, wanted);
+    return what == NULL && same_everywhere(&c, state, wanted);
 }
 
 static void lend_side(struct side *s)
 {
     s->state = lend(STATE_ROOM + MARGIN);
     s->array = lend(ARRAY_ROOM);
+    s->pattern = lend(ARRAY_ROOM);
     s->frame = lend(FRAME_ROOM + MARGIN);
     s->out = lend(OUT_ROOM + MARGIN);
     s->numbers = lend(NUMBERS + MARGIN);
@@ -184,6 +233,8 @@ int main(int argc, char **argv)
     rig_begin(name);
     lend_side(&ours);
     lend_side(&model);
+    scatter(&dice, model.pattern.start, ARRAY_ROOM);
+    memcpy(ours.pattern.start, model.pattern.start, ARRAY_ROOM);
     fill_cells(0, ARRAY_ROOM);
     while (rig_calls < calls && one_call())
         continue;

@@ -11,33 +11,39 @@ enum { STATE = GWO_STATE_LENGTH, STATE_ROOM = 280, FRAME_ROOM = 65600, OUT_ROOM 
 enum { PAGE = 256, BLOCK = 65536, ARRAY_ROOM = 16777216 + BLOCK, SMALL_ROOM = 327680 };
 
 enum { MODELS = 3 };
-enum kind { FRAME, WAIT, POWER_CYCLE };
+enum kind { FRAME, WAIT, POWER_CYCLE, CUT, KINDS };
 
 /* One call, as chosen. */
 struct call {
     enum kind kind;
     struct gwo_record record;
-    size_t state_len, array_len, frame_len, out_len;
+    size_t state_len, array_len, frame_len, out_len, pattern_len;
     uint32_t tail, wp, us;
 };
 
 /* What is lent to one of the two: each call takes the last bytes of them. */
 struct side {
-    struct lent state, array, frame, out, numbers;
+    struct lent state, array, frame, out, numbers, pattern;
 };
 
 extern struct side ours, model;
+
+/* The archive's array and pattern can be written to by the choice of a call, and else only where the call may. */
+extern struct guard over_array, over_pattern;
 
 /* The choice of every call follows from the seed alone. */
 extern struct dice dice;
 
 #define ONE_OF(list) ((list)[below(&dice, sizeof(list) / sizeof((list)[0]))])
 
-/* Chooses a call and lays its state, frame, output and sometimes new cells into both sides. */
+/* Chooses a call and lays its state, frame, output, pattern and sometimes new cells into both sides. */
 void choose(struct call *c);
 
-/* The array, frame, tail, WP# level and output of a frame; the record is chosen before it. */
+/* The frame, tail, WP# level and output of a frame; the record is chosen before it. */
 void choose_frame(struct call *c);
+
+/* An address around an end of something, for a model or for what is none. */
+uint32_t any_address(uint32_t chip);
 
 /* Lays random cells into both rooms. */
 void fill_cells(size_t at, size_t n);
@@ -45,12 +51,16 @@ void fill_cells(size_t at, size_t n);
 /* The address in the model's frame, 0 where it has none. */
 uint32_t addressed(const struct call *c);
 
+/* New cells in both arrays, mostly in the page of an address, at times in three blocks around it. */
+void refresh_cells(const struct call *c, uint32_t address);
+
 /* Counts a call, by the packed state before it and its answer. */
 void note(const struct call *c, const uint8_t *state, uint32_t number);
 
 /*
- * A failure unless on each model every number was met, every command accepted and programs ended on both sides of
- * their page's end; and unless all that only model 3 has was met, and all that sleep takes.
+ * A failure unless on each model every number was met, by each kind of call that can be answered so, every command
+ * accepted, every operation completed and cut, and programs ended on both sides of their page's end; and unless all
+ * that only model 3 has was met, and all that sleep takes.
  */
 void check_variety(void);
 

@@ -1,4 +1,7 @@
-/* The choice of calls, leaning towards limits: records and states, valid or nearly so; waits around the time left. */
+/*
+ * The choice of calls, leaning towards limits: records and states, valid or nearly so, idle or at work; waits around
+ * the time left; patterns of the right length, mostly.
+ */
 #include "compare.h"
 
 #include <string.h>
@@ -76,8 +79,36 @@ static uint32_t any_left(uint32_t most)
     }
 }
 
+/* The operations; a chip erase of 16 MiB takes its time, so it comes seldom. */
+static uint8_t any_operation(uint32_t chip)
+{
+    static const uint8_t commands[] = {0x01, 0x01, 0x02, 0x02, 0x02, 0x20, 0x20, 0x52, 0xD8, 0x60, 0xC7};
+    uint8_t command = ONE_OF(commands);
+
+    return chip == 3 && (command == 0x60 || command == 0xC7) && chance(&dice, 80) ? 0x02 : command;
+}
+
+/* An operation that is running, with all that the state remembers of it; the time may be one too long. */
+static void at_work(uint8_t *p, const struct gwo_record *r)
+{
+    uint8_t command = any_operation(r->model);
+    uint32_t size = (uint32_t)gwo_array_length(r->model), busy = any_left(us_of(r, command));
+    uint32_t place = size == 0 ? 0 : any_address(r->model) % size;
+
+    if (busy == 0)
+        return;
+    p[0] |= 3;
+    p[1] = 0;
+    put_us(p + BUSY_AT, busy);
+    if (command == 0x01)
+        place = r->model == 3 ? 1 + below(&dice, 2) : 1;
+    put_operation(p, command, command == 0x60 || command == 0xC7 ? NOWHERE : place);
+    if (command == 0x01 || command == 0x02)
+        scatter(&dice, p + DATA_AT, command == 0x01 ? place : PAGE);
+}
+
 /* A new state, valid but for a time one too long. */
-static void fresh_state(uint8_t *p, const struct gwo_record *r)
+static void fresh_state(uint8_t *p, const struct gwo_record *r, unsigned at_work_percent)
 {
     unsigned bp = chance(&dice, 40) ? 0 : below(&dice, r->model == 3 ? 16 : 4);
     unsigned wel = chance(&dice, 80), srwd = chance(&dice, 30);
@@ -86,26 +117,25 @@ static void fresh_state(uint8_t *p, const struct gwo_record *r)
     p[0] = (uint8_t)(128 * srwd + 4 * bp + 2 * wel);
     p[1] = (uint8_t)chance(&dice, 12);
     p[2] = r->model == 3 ? (uint8_t)(roll(&dice) & 0xDB) : 0;
-    if (chance(&dice, 20)) {
-        uint32_t busy = any_left(longest_busy(r));
-
-        p[0] = (uint8_t)((p[0] | 2) + (busy > 0));
-        p[1] = 0;
-        put_us(p + BUSY_AT, busy);
-    } else if (chance(&dice, 10)) {
+    put_operation(p, NO_COMMAND, NOWHERE);
+    if (chance(&dice, at_work_percent))
+        at_work(p, r);
+    else if (chance(&dice, 10))
         put_us(p + SETTLING_AT, any_left(longest_settling(r)));
-    }
 }
 
 static void spoil_state(uint8_t *p)
 {
     uint8_t *us = p + (chance(&dice, 50) ? BUSY_AT : SETTLING_AT);
 
-    switch (below(&dice, 5)) {
+    switch (below(&dice, 8)) {
     case 0: p[below(&dice, STATE)] ^= (uint8_t)(1u << below(&dice, 8)); break;
     case 1: p[below(&dice, 4)] = (uint8_t)roll(&dice); break;
     case 2: scatter(&dice, p, STATE); break;
     case 3: put_us(us, 1); break;
+    case 4: p[COMMAND_AT] = chance(&dice, 50) ? any_operation(1) : (uint8_t)roll(&dice); break;
+    case 5: p[PLACE_AT + (chance(&dice, 50) ? 2 : below(&dice, 3))] = (uint8_t)(roll(&dice) % 4); break;
+    case 6: p[DATA_AT + below(&dice, PAGE)] = (uint8_t)roll(&dice); break;
     default: put_us(us, (uint32_t)roll(&dice)); break;
     }
 }
@@ -113,14 +143,14 @@ static void spoil_state(uint8_t *p)
 /* The state of the call, in both: what the last call left, mostly on the same model; a new one, or a spoilt one. */
 static void choose_state(struct call *c)
 {
-    static const size_t lengths[] = {0, 1, 8, 11, 13, 16, 272};
+    static const size_t lengths[] = {0, 1, 12, 16, 271, 273, 280};
     static uint32_t last_model;
     uint8_t p[STATE_ROOM];
 
     memset(p, 0, sizeof p);
     memcpy(p, last_of(&model.state, STATE), STATE);
     if (chance(&dice, c->record.model == last_model ? 40 : 95))
-        fresh_state(p, &c->record);
+        fresh_state(p, &c->record, c->kind == FRAME ? 20 : 65);
     last_model = c->record.model;
     if (chance(&dice, 6))
         spoil_state(p);
@@ -146,14 +176,56 @@ static void choose_wait(struct call *c)
     }
 }
 
+static void choose_array(struct call *c)
+{
+    static const size_t lengths[] = {0, 1, 65535, 65536, 65537, 262143, 262144, 262145, 327680,
+                                     16777215, 16777216, 16777217};
+
+    c->array_len = gwo_array_length(c->record.model);
+    if (c->array_len == 0 || chance(&dice, c->kind == FRAME ? 1 : 3))
+        c->array_len = ONE_OF(lengths);
+}
+
+/* New bytes in both patterns, so many before their end. */
+static void fill_pattern(size_t before, size_t n)
+{
+    guard_lift(&over_pattern);
+    scatter(&dice, last_of(&model.pattern, before), n);
+    memcpy(last_of(&ours.pattern, before), last_of(&model.pattern, before), n);
+}
+
+/* As long as the running operation has it, now and then not; new bytes at its ends and somewhere in it. */
+static void choose_pattern(struct call *c)
+{
+    static const size_t lengths[] = {0, 1, 2, 3, 255, 256, 257, 4096, 32768, 65535, 65536, 262144};
+    const uint8_t *p = last_of(&model.state, STATE);
+    size_t n = p[COMMAND_AT] == 0x01 ? get_place(p) : unit_of(c->record.model, p[COMMAND_AT]), at;
+
+    if (chance(&dice, 8))
+        n = chance(&dice, 50) ? n + 1 : n - (n > 0);
+    c->pattern_len = chance(&dice, 4) ? ONE_OF(lengths) : n;
+    n = c->pattern_len < PAGE ? c->pattern_len : PAGE;
+    at = c->pattern_len == n ? 0 : below(&dice, (uint32_t)(c->pattern_len - n));
+    fill_pattern(c->pattern_len, n);
+    fill_pattern(c->pattern_len - at, n);
+    fill_pattern(n, n);
+}
+
 void choose(struct call *c)
 {
+    static const enum kind others[] = {WAIT, WAIT, WAIT, WAIT, CUT, CUT, POWER_CYCLE};
+
     memset(c, 0, sizeof *c);
-    c->kind = chance(&dice, 82) ? FRAME : chance(&dice, 70) ? WAIT : POWER_CYCLE;
+    c->kind = chance(&dice, 78) ? FRAME : ONE_OF(others);
     choose_record(&c->record);
     choose_state(c);
+    choose_array(c);
     if (c->kind == WAIT)
         choose_wait(c);
+    if (c->kind == CUT)
+        choose_pattern(c);
     if (c->kind == FRAME)
         choose_frame(c);
+    else if (chance(&dice, 60))
+        refresh_cells(c, get_place(last_of(&model.state, STATE)));
 }

@@ -18,16 +18,6 @@ static uint8_t any_command(uint32_t chip)
     return chip == 3 && (command == 0x60 || command == 0xC7) && chance(&dice, 80) ? 0x52 : command;
 }
 
-static void choose_array(struct call *c)
-{
-    static const size_t lengths[] = {0, 1, 65535, 65536, 65537, 262143, 262144, 262145, 327680,
-                                     16777215, 16777216, 16777217};
-
-    c->array_len = gwo_array_length(c->record.model);
-    if (c->array_len == 0 || chance(&dice, 1))
-        c->array_len = ONE_OF(lengths);
-}
-
 /* Beside an end of an area that model 3 can protect: 1, 2, 4 .. 128 blocks from the top or the bottom. */
 static uint32_t beside_a_protected_area(void)
 {
@@ -37,7 +27,7 @@ static uint32_t beside_a_protected_area(void)
 }
 
 /* Around the ends of pages, sectors, blocks and arrays, mostly in the first image of the two smaller arrays. */
-static uint32_t any_address(uint32_t chip)
+uint32_t any_address(uint32_t chip)
 {
     static const uint32_t units[] = {256, 4096, 32768, 65536, 65536, 262144};
     uint32_t unit = ONE_OF(units), space = chip != 3 && chance(&dice, 70) ? 0x40000 : 0x1000000;
@@ -126,6 +116,7 @@ static void choose_output(struct call *c)
 
 void fill_cells(size_t at, size_t n)
 {
+    guard_lift(&over_array);
     scatter(&dice, model.array.start + at, n);
     memcpy(ours.array.start + at, model.array.start + at, n);
 }
@@ -137,11 +128,7 @@ uint32_t addressed(const struct call *c)
     return c->frame_len < 4 ? 0 : (uint32_t)frame[1] << 16 | (uint32_t)frame[2] << 8 | frame[3];
 }
 
-/*
- * New content in both arrays, so that programs and erases find bits to clear and to set: mostly in the addressed
- * page, at times in three blocks around it.
- */
-static void refresh_cells(const struct call *c)
+void refresh_cells(const struct call *c, uint32_t address)
 {
     size_t around = chance(&dice, 2) ? BLOCK : 0, n = around > 0 ? 3 * BLOCK : PAGE, at;
 
@@ -149,7 +136,7 @@ static void refresh_cells(const struct call *c)
         n = c->array_len;
     if (n == 0)
         return;
-    at = addressed(c) % c->array_len / PAGE * PAGE;
+    at = address % c->array_len / PAGE * PAGE;
     at -= at < around ? at : around;
     if (at > c->array_len - n)
         at = c->array_len - n;
@@ -158,10 +145,9 @@ static void refresh_cells(const struct call *c)
 
 void choose_frame(struct call *c)
 {
-    choose_array(c);
     choose_bytes(c);
     choose_pins(c);
     choose_output(c);
-    if (chance(&dice, 30))
-        refresh_cells(c);
+    if (chance(&dice, 5))
+        refresh_cells(c, addressed(c));
 }

@@ -4,8 +4,23 @@
 #include <stdio.h>
 #include <string.h>
 
-/* How often each number was answered and each command accepted, by model. */
-static unsigned long answered[MODELS + 1][32], accepted[MODELS + 1][256];
+/* How often each number was answered to each kind of call, and each command accepted, by model. */
+static unsigned long answered[MODELS + 1][KINDS][32], accepted[MODELS + 1][256];
+
+/* How often each operation was brought to its end by a wait, and cut; of two data bytes 01 counts as TWO. */
+enum { TWO = 0x00 };
+static unsigned long completed[MODELS + 1][256], cut_short[MODELS + 1][256];
+
+static void note_operation(const struct call *c, const uint8_t *state, uint32_t number)
+{
+    uint32_t busy = get_us(state + BUSY_AT);
+    uint8_t command = state[COMMAND_AT] == 0x01 && get_place(state) == 2 ? TWO : state[COMMAND_AT];
+
+    if (number != 0 || busy == 0)
+        return;
+    completed[c->record.model][command] += c->kind == WAIT && c->us >= busy;
+    cut_short[c->record.model][command] += c->kind == CUT;
+}
 
 /* Where accepted programs ended, seen from their page's end, by model. */
 enum ending { BEFORE, AT, ONE_PAST, FURTHER_PAST, ENDINGS };
@@ -83,8 +98,9 @@ void note(const struct call *c, const uint8_t *state, uint32_t number)
 {
     uint32_t chip = c->record.model <= MODELS ? c->record.model : 0;
 
-    answered[chip][number % 32]++;
+    answered[chip][c->kind][number % 32]++;
     note_sleep(c, state, number);
+    note_operation(c, state, number);
     if (c->kind != FRAME || (number != 0 && number != 17))
         return;
     if (number == 0)
@@ -93,16 +109,43 @@ void note(const struct call *c, const uint8_t *state, uint32_t number)
         note_rare(c, state, number);
 }
 
-static void numbers_met(uint32_t chip)
+/* The numbers that a kind of call can be answered. */
+static void numbers_met(uint32_t chip, enum kind kind, const uint8_t *numbers, size_t n)
 {
-    static const uint8_t numbers[] = {0, 1, 2, 3, 4, 5, 10, 22, 11, 12, 13, 14, 15, 16, 17};
+    static const char *const names[KINDS] = {"frames", "waits", "power cycles", "cuts"};
     size_t i;
 
-    printf("  model %lu, answers:", (unsigned long)chip);
-    for (i = 0; i < sizeof numbers; i++) {
-        printf(" %u:%lu", numbers[i], answered[chip][numbers[i]]);
-        if (answered[chip][numbers[i]] == 0)
-            fail("model %lu: number %u was never answered", (unsigned long)chip, numbers[i]);
+    printf("  model %lu, %s:", (unsigned long)chip, names[kind]);
+    for (i = 0; i < n; i++) {
+        printf(" %u:%lu", numbers[i], answered[chip][kind][numbers[i]]);
+        if (answered[chip][kind][numbers[i]] == 0)
+            fail("model %lu: number %u was never answered to %s", (unsigned long)chip, numbers[i], names[kind]);
+    }
+    printf("\n");
+}
+
+static void all_numbers_met(uint32_t chip)
+{
+    static const uint8_t frames[] = {0, 1, 2, 3, 4, 5, 10, 22, 11, 12, 13, 14, 15, 16, 17}, waits[] = {0, 1, 2, 3},
+                         power_cycles[] = {0, 1, 3, 11}, cuts[] = {0, 1, 2, 3, 23};
+
+    numbers_met(chip, FRAME, frames, sizeof frames);
+    numbers_met(chip, WAIT, waits, sizeof waits);
+    numbers_met(chip, POWER_CYCLE, power_cycles, sizeof power_cycles);
+    numbers_met(chip, CUT, cuts, sizeof cuts);
+}
+
+/* The last operation is model 3's. */
+static void operations_met(uint32_t chip)
+{
+    static const uint8_t commands[] = {0x01, 0x02, 0x20, 0x52, 0x60, 0xC7, 0xD8, TWO};
+    size_t i;
+
+    printf("  completed, cut:");
+    for (i = 0; i < sizeof commands - (chip == 3 ? 0 : 1); i++) {
+        printf(" %02X:%lu,%lu", commands[i], completed[chip][commands[i]], cut_short[chip][commands[i]]);
+        if (completed[chip][commands[i]] == 0 || cut_short[chip][commands[i]] == 0)
+            fail("model %lu: %02X was never completed, or never cut", (unsigned long)chip, commands[i]);
     }
     printf("\n");
 }
@@ -159,8 +202,9 @@ void check_variety(void)
     int i;
 
     for (chip = 1; chip <= MODELS; chip++) {
-        numbers_met(chip);
+        all_numbers_met(chip);
         commands_met(chip);
+        operations_met(chip);
         endings_met(chip);
     }
     for (i = 0; i < RARE; i++) {

@@ -7,7 +7,7 @@
 
 static int failed;
 static const char *program = "header";
-static uint8_t array[GWO_MODEL_3_LENGTH];
+static uint8_t array[GWO_MODEL_3_LENGTH], state[GWO_STATE_LENGTH];
 
 static void check(int ok, const char *what)
 {
@@ -20,7 +20,7 @@ static void check(int ok, const char *what)
 /* Each number has a text of its own; any other has the one for no number. */
 static void texts(void)
 {
-    static const uint32_t numbers[] = {0, 1, 2, 3, 4, 5, 10, 22, 11, 12, 13, 14, 15, 16, 17, 20, 6};
+    static const uint32_t numbers[] = {0, 1, 2, 3, 4, 5, 10, 22, 11, 12, 13, 14, 15, 16, 17, 23, 20, 6};
     const size_t n = sizeof numbers / sizeof numbers[0];
     size_t i, k;
 
@@ -31,6 +31,7 @@ static void texts(void)
     }
     check(strcmp(gwo_text(6), gwo_text(0xFFFFFFFFu)) == 0, "two texts for no number");
     check(GWO_SETTLING == 22, "the number of a chip that settles");
+    check(GWO_BAD_PATTERN == 23, "the number of a pattern of another length");
 }
 
 static void lengths(void)
@@ -63,36 +64,90 @@ static void benches(void)
     check(settles_for(&gwo_bench_model_3, 10, 30, 30), "the settling times of model 3");
 }
 
-/* 06, 01 00, a wait and a power cycle under each bench record: the calls are taken, the state is packed as said. */
-static void calls(const struct gwo_record *r, uint8_t busy_low, uint8_t busy_high)
+/* Whether the state begins so, and from byte 12 on all is FF but as many bytes as are given. */
+static int state_is(const uint8_t *first, const uint8_t *operation, size_t n)
 {
-    static const uint8_t write_enable[] = {0x06}, write_status[] = {0x01, 0x00};
-    const uint8_t zero[12] = {0, 0, 0, 0, 0, 0, 0, 0, 0, 0, 0, 0};
-    const uint8_t busy[12] = {3, 0, 0, 0, busy_low, busy_high, 0, 0, 0, 0, 0, 0};
-    uint8_t state[GWO_STATE_LENGTH] = {0, 0, 0, 0, 0, 0, 0, 0, 0, 0, 0, 0}, out[2];
-    uint32_t from, count;
+    uint8_t want[GWO_STATE_LENGTH];
 
-    check(gwo_record_frame(r, state, sizeof state, array, gwo_array_length(r->model), write_enable, 1, 0, 1, out, 1,
-                           &from, &count) == GWO_DONE, "06");
-    check(gwo_record_frame(r, state, sizeof state, array, gwo_array_length(r->model), write_status, 2, 0, 1, out, 2,
-                           &from, &count) == GWO_DONE, "01 00");
-    check(memcmp(state, busy, sizeof state) == 0, "the state after 01 00");
-    check(gwo_record_frame(r, state, sizeof state, array, gwo_array_length(r->model), write_enable, 1, 0, 1, out, 1,
-                           &from, &count) == GWO_BUSY, "06 while busy");
-    check(gwo_record_wait(r, state, sizeof state, r->status_us) == GWO_DONE, "wait");
-    check(memcmp(state, zero, sizeof state) == 0, "the state after the wait");
-    check(gwo_record_power_cycle(r, state, sizeof state - 1) == GWO_BAD_STATE, "power cycle with a short state");
-    check(gwo_record_power_cycle(r, state, sizeof state) == GWO_DONE, "power cycle");
+    memset(want, 0xFF, sizeof want);
+    memcpy(want, first, 12);
+    if (n > 0)
+        memcpy(want + 12, operation, n);
+    return memcmp(state, want, sizeof want) == 0;
+}
+
+/* A chip from the factory at power-on: 272 bytes, and it answers. */
+static void factory(void)
+{
+    static const uint8_t zero[12] = {0, 0, 0, 0, 0, 0, 0, 0, 0, 0, 0, 0};
+
+    check(GWO_STATE_LENGTH == 272 && sizeof state == 272, "the length of a state");
+    memset(state, 0x5A, sizeof state);
+    gwo_factory_state(state);
+    check(state_is(zero, NULL, 0), "a state from the factory");
+    check(gwo_record_power_cycle(&gwo_bench_model_1, state, sizeof state) == GWO_DONE, "its first power cycle");
+    check(state_is(zero, NULL, 0), "the state after it");
+    memset(state, 0, sizeof state);
+    check(gwo_record_power_cycle(&gwo_bench_model_1, state, sizeof state) == GWO_BAD_STATE, "a state of zeros");
 }
 
 /* A frame of up to 5 bytes. */
-static uint32_t frame_on(const struct gwo_record *r, uint8_t *state, const uint8_t *frame, size_t n)
+static uint32_t frame_on(const struct gwo_record *r, const uint8_t *frame, size_t n)
 {
     uint8_t out[5];
     uint32_t from, count;
 
-    return gwo_record_frame(r, state, GWO_STATE_LENGTH, array, gwo_array_length(r->model), frame, n, 0, 1, out, n,
+    return gwo_record_frame(r, state, sizeof state, array, gwo_array_length(r->model), frame, n, 0, 1, out, n,
                             &from, &count);
+}
+
+static uint32_t wait_on(const struct gwo_record *r, uint32_t us)
+{
+    return gwo_record_wait(r, state, sizeof state, array, gwo_array_length(r->model), us);
+}
+
+/* 06, 01 00, a wait and a power cycle under each bench record: the calls are taken, the state is packed as said. */
+static void calls(const struct gwo_record *r, uint8_t busy_low, uint8_t busy_high)
+{
+    static const uint8_t write_enable[] = {0x06}, write_status[] = {0x01, 0x00}, running[5] = {0x01, 0, 0, 1, 0x00};
+    const uint8_t zero[12] = {0, 0, 0, 0, 0, 0, 0, 0, 0, 0, 0, 0};
+    const uint8_t busy[12] = {3, 0, 0, 0, busy_low, busy_high, 0, 0, 0, 0, 0, 0};
+
+    gwo_factory_state(state);
+    check(frame_on(r, write_enable, 1) == GWO_DONE, "06");
+    check(frame_on(r, write_status, 2) == GWO_DONE, "01 00");
+    check(state_is(busy, running, 5), "the state after 01 00");
+    check(frame_on(r, write_enable, 1) == GWO_BUSY, "06 while busy");
+    check(gwo_record_power_cycle(r, state, sizeof state) == GWO_BUSY, "a power cycle while busy");
+    check(gwo_record_wait(r, state, sizeof state, array, 1, 1) == GWO_BAD_ARRAY, "a wait with another array");
+    check(state_is(busy, running, 5), "the state after refused calls");
+    check(wait_on(r, r->status_us) == GWO_DONE, "wait");
+    check(state_is(zero, NULL, 0), "the state after the wait");
+    check(gwo_record_power_cycle(r, state, sizeof state - 1) == GWO_BAD_STATE, "power cycle with a short state");
+    check(gwo_record_power_cycle(r, state, sizeof state) == GWO_DONE, "power cycle");
+}
+
+/* 20, and the power is cut: the pattern is in the sector and nowhere else, and the chip is idle. */
+static void cuts(const struct gwo_record *r)
+{
+    static const uint8_t write_enable[] = {0x06}, sector_erase[] = {0x20, 0x00, 0x20, 0x00};
+    static const uint8_t running[4] = {0x20, 0x00, 0x20, 0x00}, zero[12] = {0, 0, 0, 0, 0, 0, 0, 0, 0, 0, 0, 0};
+    static uint8_t pattern[GWO_SECTOR_LENGTH + 1];
+    const size_t n = gwo_array_length(r->model), s = sizeof state;
+
+    gwo_factory_state(state);
+    memset(array, 0x3C, 0x4000);
+    memset(pattern, 0xA7, sizeof pattern);
+    check(frame_on(r, write_enable, 1) == GWO_DONE && frame_on(r, sector_erase, 4) == GWO_DONE, "20");
+    check(memcmp(state + 12, running, 4) == 0 && array[0x2000] == 0x3C, "an erase that has only begun");
+    check(gwo_record_cut(r, state, s, array, n, pattern, sizeof pattern) == GWO_BAD_PATTERN, "a pattern too long");
+    check(gwo_record_cut(r, state, s, array, n - 1, pattern, 4096) == GWO_BAD_ARRAY, "a cut with another array");
+    check(memcmp(state + 12, running, 4) == 0 && array[0x2000] == 0x3C, "what refused cuts leave");
+    check(gwo_record_cut(r, state, s, array, n, pattern, 4096) == GWO_DONE, "a cut");
+    check(state_is(zero, NULL, 0), "the state after the cut");
+    check(memcmp(array + 0x2000, pattern, 4096) == 0, "the pattern in the sector");
+    check(array[0x1FFF] == 0x3C && array[0x3000] == 0x3C, "the cells beside the sector");
+    check(gwo_record_cut(r, state, s, array, n, NULL, 0) == GWO_DONE, "a cut of an idle chip");
 }
 
 /* B9 and both ABs, with times up to 255: asleep or awake at once, and 22 until the time is over. */
@@ -103,34 +158,38 @@ static void sleeps(const struct gwo_record *r, uint8_t sleep, uint8_t wake, uint
     const uint8_t dozing[12] = {0, 1, 0, 0, 0, 0, 0, 0, sleep, 0, 0, 0};
     const uint8_t waking[12] = {0, 0, 0, 0, 0, 0, 0, 0, wake, 0, 0, 0};
     const uint8_t signing[12] = {0, 0, 0, 0, 0, 0, 0, 0, sign, 0, 0, 0};
-    uint8_t state[GWO_STATE_LENGTH] = {0, 0, 0, 0, 0, 0, 0, 0, 0, 0, 0, 0};
 
-    check(frame_on(r, state, power_down, 1) == GWO_DONE && memcmp(state, dozing, 12) == 0, "B9");
-    check(gwo_record_wait(r, state, sizeof state, sleep - 1u) == GWO_DONE, "a wait");
-    check(frame_on(r, state, status, 1) == GWO_SETTLING, "05 one microsecond early");
-    check(gwo_record_wait(r, state, sizeof state, 1) == GWO_DONE, "the last microsecond");
-    check(memcmp(state, asleep, 12) == 0, "the state in deep power-down");
-    check(frame_on(r, state, status, 1) == GWO_ASLEEP, "05 in deep power-down");
-    check(frame_on(r, state, release, 1) == GWO_DONE && memcmp(state, waking, 12) == 0, "AB of 1 byte");
-    check(frame_on(r, state, release, 5) == GWO_SETTLING, "AB while settling");
+    gwo_factory_state(state);
+    check(frame_on(r, power_down, 1) == GWO_DONE && state_is(dozing, NULL, 0), "B9");
+    check(wait_on(r, sleep - 1u) == GWO_DONE, "a wait");
+    check(frame_on(r, status, 1) == GWO_SETTLING, "05 one microsecond early");
+    check(wait_on(r, 1) == GWO_DONE, "the last microsecond");
+    check(state_is(asleep, NULL, 0), "the state in deep power-down");
+    check(frame_on(r, status, 1) == GWO_ASLEEP, "05 in deep power-down");
+    check(frame_on(r, release, 1) == GWO_DONE && state_is(waking, NULL, 0), "AB of 1 byte");
+    check(frame_on(r, release, 5) == GWO_SETTLING, "AB while settling");
     memcpy(state, asleep, 12);
-    check(frame_on(r, state, release, 5) == GWO_DONE && memcmp(state, signing, 12) == 0, "AB of 5 bytes");
+    check(frame_on(r, release, 5) == GWO_DONE && state_is(signing, NULL, 0), "AB of 5 bytes");
     check(gwo_record_power_cycle(r, state, sizeof state) == GWO_DONE && state[8] == 0, "a power cycle while settling");
 }
 
-/* The three calls themselves with these three times. */
+/* The four calls themselves with these three times. */
 static uint32_t calls_give(const struct gwo_record *r, uint32_t sleep, uint32_t wake, uint32_t sign)
 {
-    uint8_t state[GWO_STATE_LENGTH] = {0, 0, 0, 0, 0, 0, 0, 0, 0, 0, 0, 0}, out[1];
     const uint8_t write_enable[] = {0x06};
+    const size_t n = gwo_array_length(r->model);
+    uint8_t out[1];
     uint32_t from, count, fold, number;
 
+    gwo_factory_state(state);
     number = gwo_wait(r->model, r->status_us, r->page_us, r->sector_us, r->block_us, r->chip_us, r->half_us,
-                      sleep, wake, sign, state, sizeof state, 1);
+                      sleep, wake, sign, state, sizeof state, array, n, 1);
+    check(gwo_cut(r->model, r->status_us, r->page_us, r->sector_us, r->block_us, r->chip_us, r->half_us,
+                  sleep, wake, sign, state, sizeof state, array, n, NULL, 0) == number, "a cut is answered as a wait");
     check(gwo_power_cycle(r->model, r->status_us, r->page_us, r->sector_us, r->block_us, r->chip_us, r->half_us,
                           sleep, wake, sign, state, sizeof state) == number, "a power cycle is answered as a wait");
     check(gwo_frame(r->model, r->status_us, r->page_us, r->sector_us, r->block_us, r->chip_us, r->half_us,
-                    sleep, wake, sign, state, sizeof state, array, gwo_array_length(r->model), write_enable, 1, 0, 1,
+                    sleep, wake, sign, state, sizeof state, array, n, write_enable, 1, 0, 1,
                     out, 1, &from, &count, &fold) == number, "a frame is answered as a wait");
     return number;
 }
@@ -139,7 +198,6 @@ static uint32_t calls_give(const struct gwo_record *r, uint32_t sleep, uint32_t 
 static void unnamed_times(const struct gwo_record *bench)
 {
     struct gwo_record r = *bench;
-    uint8_t state[GWO_STATE_LENGTH] = {0, 0, 0, 0, 0, 0, 0, 0, 0, 0, 0, 0};
 
     check(calls_give(bench, 1, 2, 3) == GWO_DONE, "the calls with times");
     check(calls_give(bench, 0, 2, 3) == GWO_BAD_RECORD, "the calls with a sleep_us of 0");
@@ -152,7 +210,9 @@ static void unnamed_times(const struct gwo_record *bench)
     r.sleep_us = 55, r.wake_us = 0, r.sign_us = 99;
     sleeps(&r, 55, (uint8_t)bench->wake_us, 99);
     r.sign_us = 1000000001;
-    check(gwo_record_wait(&r, state, sizeof state, 1) == GWO_BAD_RECORD, "a named time that is too long");
+    check(wait_on(&r, 1) == GWO_BAD_RECORD, "a named time that is too long");
+    check(gwo_record_cut(&r, state, sizeof state, array, gwo_array_length(r.model), NULL, 0) == GWO_BAD_RECORD,
+          "the same in a cut");
 }
 
 /* Two bytes from the page's last place fold; a refused program does not, nor does one that ends there. */
@@ -160,15 +220,17 @@ static void fold(const struct gwo_record *r)
 {
     static const uint8_t two[] = {0x02, 0x00, 0x00, 0xFF, 0xA5, 0x5A};
     const size_t n = gwo_array_length(r->model), s = GWO_STATE_LENGTH;
-    uint8_t state[GWO_STATE_LENGTH] = {2, 0, 0, 0, 0, 0, 0, 0, 0, 0, 0, 0}, out[6];
+    uint8_t out[6];
     uint32_t from, count, said = 2;
 
+    gwo_factory_state(state);
+    state[0] = 2;
     check(gwo_record_frame_fold(r, state, s, array, n, two, 6, 0, 1, out, 6, &from, &count, &said) == GWO_DONE, "02");
     check(said == 1, "a program past its page's end");
     check(gwo_record_frame_fold(r, state, s, array, n, two, 6, 0, 1, out, 6, &from, &count, &said) == GWO_BUSY, "busy");
     check(said == 0, "a refused program");
+    check(wait_on(r, r->page_us) == GWO_DONE, "its wait");
     state[0] = 2;
-    memset(state + 4, 0, 4);
     check(gwo_record_frame_fold(r, state, s, array, n, two, 5, 0, 1, out, 5, &from, &count, &said) == GWO_DONE, "02");
     check(said == 0, "a program to its page's end");
 }
@@ -178,16 +240,20 @@ static void nulls(const struct gwo_record *r)
 {
     static const uint8_t status[] = {0x05, 0x00};
     const size_t n = gwo_array_length(r->model), s = GWO_STATE_LENGTH;
-    uint8_t state[GWO_STATE_LENGTH] = {0, 0, 0, 0, 0, 0, 0, 0, 0, 0, 0, 0}, out[2];
+    uint8_t out[2];
     uint32_t from, count;
 
+    gwo_factory_state(state);
     check(gwo_record_frame(r, NULL, 0, array, n, status, 2, 0, 1, out, 2, &from, &count) == GWO_BAD_STATE, "no state");
     check(gwo_record_frame(r, state, s, NULL, 0, status, 2, 0, 1, out, 2, &from, &count) == GWO_BAD_ARRAY, "no array");
     check(gwo_record_frame(r, state, s, array, n, NULL, 0, 0, 1, out, 2, &from, &count) == GWO_NO_COMMAND, "no frame");
     check(gwo_record_frame(r, state, s, array, n, status, 2, 0, 1, NULL, 0, &from, &count) == GWO_SHORT_OUTPUT, "no output");
     check(gwo_record_frame(r, state, s, array, n, NULL, 0, 0, 1, NULL, 0, &from, &count) == GWO_NO_COMMAND, "neither");
-    check(gwo_record_wait(r, NULL, 0, 1) == GWO_BAD_STATE, "a wait without a state");
+    check(gwo_record_wait(r, NULL, 0, array, n, 1) == GWO_BAD_STATE, "a wait without a state");
+    check(gwo_record_wait(r, state, s, NULL, 0, 1) == GWO_BAD_ARRAY, "a wait without an array");
     check(gwo_record_power_cycle(r, NULL, 0) == GWO_BAD_STATE, "a power cycle without a state");
+    check(gwo_record_cut(r, NULL, 0, array, n, NULL, 0) == GWO_BAD_STATE, "a cut without a state");
+    check(gwo_record_cut(r, state, s, NULL, 0, NULL, 0) == GWO_BAD_ARRAY, "a cut without an array");
 }
 
 int main(int argc, char **argv)
@@ -197,9 +263,13 @@ int main(int argc, char **argv)
     texts();
     lengths();
     benches();
+    factory();
     calls(&gwo_bench_model_1, 15000 & 255, 15000 >> 8);
     calls(&gwo_bench_model_2, 40000 & 255, 40000 >> 8);
     calls(&gwo_bench_model_3, 40000 & 255, 40000 >> 8);
+    cuts(&gwo_bench_model_1);
+    cuts(&gwo_bench_model_2);
+    cuts(&gwo_bench_model_3);
     sleeps(&gwo_bench_model_1, 10, 10, 10);
     sleeps(&gwo_bench_model_2, 10, 9, 9);
     sleeps(&gwo_bench_model_3, 10, 30, 30);

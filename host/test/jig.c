@@ -17,7 +17,8 @@ struct given given;
 static uint32_t wanted_from, wanted_count, wanted_fold;
 static uint8_t wanted_state[STATE_ROOM], wanted_out[OUT_ROOM];
 
-static struct lent lent_state, lent_frame, lent_out, lent_numbers;
+static struct lent lent_state, lent_frame, lent_out, lent_numbers, lent_pattern;
+static struct guard over_pattern;
 
 /* What every output position holds before a call. */
 static uint8_t rest[OUT_ROOM];
@@ -67,6 +68,7 @@ static void make_buffers(void)
     lent_frame = lend(FRAME_ROOM + MARGIN);
     lent_out = lend(OUT_ROOM + MARGIN);
     lent_numbers = lend(NUMBERS + MARGIN);
+    lent_pattern = lend(PATTERN_ROOM);
     for (i = 0; i < OUT_ROOM; i++)
         rest[i] = (uint8_t)(i * 11 + (i >> 8) + 0x33);
     memcpy(wanted_out, rest, OUT_ROOM);
@@ -87,6 +89,7 @@ static void empty_frame(void)
     given.out_len = 0;
     given.tail = 0;
     given.wp = 1;
+    given.pattern_len = 0;
 }
 
 void jig_model(uint32_t model)
@@ -108,7 +111,7 @@ void jig_next(void)
     nothing_wanted();
 }
 
-/* The status byte, the flag, the configuration register, a zero, the busy time and the settling time. */
+/* The status byte, the flag, the configuration register, a zero, the two times, and the operation. */
 static void pack(struct condition c, uint8_t *p)
 {
     memset(p, 0, STATE_ROOM);
@@ -117,12 +120,21 @@ static void pack(struct condition c, uint8_t *p)
     p[2] = (uint8_t)c.config;
     put_us(p + BUSY_AT, c.busy_us);
     put_us(p + SETTLING_AT, c.settling_us);
+    put_operation(p, c.busy_us > 0 ? 0xC7 : NO_COMMAND, NOWHERE);
 }
 
 void jig_state(struct condition c)
 {
     pack(c, given.state);
     given.state_len = GWO_STATE_LENGTH;
+    memcpy(wanted_state, given.state, STATE_ROOM);
+}
+
+void jig_runs(uint8_t command, uint32_t place, const uint8_t *data, size_t n)
+{
+    put_operation(given.state, command, place);
+    if (n > 0)
+        memcpy(given.state + DATA_AT, data, n);
     memcpy(wanted_state, given.state, STATE_ROOM);
 }
 
@@ -173,9 +185,56 @@ void jig_cells(uint32_t at, uint32_t n, uint8_t value)
     cells_set(cells_of(given.array_len), at, n, value);
 }
 
+uint8_t *jig_pattern(size_t n)
+{
+    guard_lift(&over_pattern);
+    given.pattern_len = n;
+    return last_of(&lent_pattern, n);
+}
+
+/* The address in the given frame; 0 where it has none. */
+static uint32_t addressed(void)
+{
+    const uint8_t *f = given.frame;
+
+    return given.frame_len < 4 ? 0 : (uint32_t)f[1] << 16 | (uint32_t)f[2] << 8 | f[3];
+}
+
+/* The data bytes of a program are laid one by one, so that of those for one offset the last stays. */
+static void want_started(void)
+{
+    uint32_t at = addressed() % size_of(given.record.model);
+    uint8_t command = given.frame[0], *data = wanted_state + DATA_AT;
+    size_t i;
+
+    switch (command) {
+    case 0x01:
+        put_operation(wanted_state, command, (uint32_t)given.frame_len - 1);
+        memcpy(data, given.frame + 1, given.frame_len - 1);
+        break;
+    case 0x02:
+        put_operation(wanted_state, command, at);
+        for (i = 4; i < given.frame_len; i++)
+            data[(at + i - 4) % PAGE] = given.frame[i];
+        break;
+    case 0x20: case 0x52: case 0xD8:
+        put_operation(wanted_state, command, at);
+        break;
+    default:
+        put_operation(wanted_state, command, NOWHERE);
+        break;
+    }
+}
+
 void want_state(struct condition c)
 {
     pack(c, wanted_state);
+    if (c.busy_us == 0)
+        return;
+    if (get_us(given.state + BUSY_AT) > 0)
+        memcpy(wanted_state + COMMAND_AT, given.state + COMMAND_AT, GWO_STATE_LENGTH - COMMAND_AT);
+    else
+        want_started();
 }
 
 void want_hex(uint32_t from, const char *hex)
@@ -187,6 +246,16 @@ void want_hex(uint32_t from, const char *hex)
 void want_cells(uint32_t at, uint32_t n, uint8_t value)
 {
     cells_want(cells_of(given.array_len), at, n, value);
+}
+
+void want_bytes(uint32_t at, const uint8_t *bytes, uint32_t n)
+{
+    cells_want_bytes(cells_of(given.array_len), at, bytes, n);
+}
+
+uint8_t wanted_cell(uint32_t address)
+{
+    return cells_wanted(cells_of(given.array_len), address);
 }
 
 void want_fold(int folded)
@@ -243,19 +312,27 @@ static void same_placed(const uint8_t *got, const uint8_t *want, size_t n, const
             fail("%s: a byte that was not lent, %d before the %s, became %02X", label, i, what, got[-i]);
 }
 
-/* The address in the given frame; 0 where it has none. */
-static uint32_t addressed(void)
+/* Compares the array after a call that could write to it. */
+static void same_cells(struct cells *c, int could_write, const char *label)
 {
-    const uint8_t *f = given.frame;
+    if (could_write)
+        cells_same(c, get_place(given.state), label);
+}
 
-    return given.frame_len < 4 ? 0 : (uint32_t)f[1] << 16 | (uint32_t)f[2] << 8 | f[3];
+/* The array for a call: that of a frame is guarded where the frame aims, that of the others where the operation is. */
+static uint8_t *lend_cells(struct cells *c, uint32_t address, int may_write)
+{
+    if (may_write)
+        cells_open(c);
+    else
+        cells_guard(c, address);
+    return cells_lent(c, given.array_len);
 }
 
 void frame_gives(uint32_t number, const char *label)
 {
     const struct gwo_record *r = &given.record;
     const uint32_t unset[3] = {UNSET, UNSET, UNSET};
-    struct cells *c = cells_of(given.array_len);
     uint8_t *state = place(&lent_state, given.state, given.state_len);
     uint8_t *frame = place(&lent_frame, given.frame, given.frame_len);
     uint8_t *out = place(&lent_out, rest, given.out_len);
@@ -265,7 +342,7 @@ void frame_gives(uint32_t number, const char *label)
     rig_calls++;
     got = gwo_frame(r->model, r->status_us, r->page_us, r->sector_us, r->block_us, r->chip_us, r->half_us,
                     r->sleep_us, r->wake_us, r->sign_us, state, given.state_len,
-                    cells_lent(c, given.array_len), given.array_len,
+                    lend_cells(cells_of(given.array_len), addressed(), 0), given.array_len,
                     frame, given.frame_len, given.tail, given.wp, out, given.out_len,
                     &numbers[0], &numbers[1], &numbers[2]);
     same_number(got, number, "the answer", label);
@@ -275,20 +352,23 @@ void frame_gives(uint32_t number, const char *label)
     same_placed(state, wanted_state, given.state_len, "state", label);
     same_placed(frame, given.frame, given.frame_len, "frame", label);
     same_placed(out, wanted_out, given.out_len, "output", label);
-    cells_same(c, addressed(), label);
 }
 
 void wait_gives(uint32_t us, uint32_t number, const char *label)
 {
     const struct gwo_record *r = &given.record;
+    struct cells *c = cells_of(given.array_len);
     uint8_t *state = place(&lent_state, given.state, given.state_len);
+    int may_write = number == 0 && ends_by_wait(given.state, us);
     uint32_t got;
 
     rig_calls++;
     got = gwo_wait(r->model, r->status_us, r->page_us, r->sector_us, r->block_us, r->chip_us, r->half_us,
-                   r->sleep_us, r->wake_us, r->sign_us, state, given.state_len, us);
+                   r->sleep_us, r->wake_us, r->sign_us, state, given.state_len,
+                   lend_cells(c, get_place(given.state), may_write), given.array_len, us);
     same_number(got, number, "the answer to a wait", label);
     same_placed(state, wanted_state, given.state_len, "state", label);
+    same_cells(c, may_write, label);
 }
 
 void power_cycle_gives(uint32_t number, const char *label)
@@ -302,6 +382,25 @@ void power_cycle_gives(uint32_t number, const char *label)
                           r->sleep_us, r->wake_us, r->sign_us, state, given.state_len);
     same_number(got, number, "the answer to a power cycle", label);
     same_placed(state, wanted_state, given.state_len, "state", label);
+}
+
+void cut_gives(uint32_t number, const char *label)
+{
+    const struct gwo_record *r = &given.record;
+    struct cells *c = cells_of(given.array_len);
+    uint8_t *state = place(&lent_state, given.state, given.state_len);
+    uint8_t *pattern = last_of(&lent_pattern, given.pattern_len);
+    int may_write = number == 0 && ends_by_cut(given.state);
+    uint32_t got;
+
+    guard_over(&over_pattern, pattern, pattern + given.pattern_len);
+    rig_calls++;
+    got = gwo_cut(r->model, r->status_us, r->page_us, r->sector_us, r->block_us, r->chip_us, r->half_us,
+                  r->sleep_us, r->wake_us, r->sign_us, state, given.state_len,
+                  lend_cells(c, get_place(given.state), may_write), given.array_len, pattern, given.pattern_len);
+    same_number(got, number, "the answer to a cut", label);
+    same_placed(state, wanted_state, given.state_len, "state", label);
+    same_cells(c, may_write, label);
 }
 
 void jig_whole(const char *label)

@@ -16,7 +16,7 @@ __attribute__((format(printf, 1, 2)))
 const char *named(const char *form, ...);
 
 enum { PAGE = 256, SECTOR = 4096, HALF_BLOCK = 32768, BLOCK = 65536, LONGEST_FRAME = 65541 };
-enum { FRAME_ROOM = 65600, OUT_ROOM = 65664, STATE_ROOM = 280 };
+enum { FRAME_ROOM = 65600, OUT_ROOM = 65664, STATE_ROOM = 280, PATTERN_ROOM = 16777216 + BLOCK };
 
 /* What differs between the models. */
 struct part {
@@ -43,7 +43,7 @@ struct condition {
 /* Bit 3 of the configuration register: the protected blocks are the lowest. */
 enum { TB = 0x08 };
 
-/* All zero; and the same with WEL 1. */
+/* From the factory; and the same with WEL 1. */
 extern const struct condition power_on, enabled;
 
 /* What the next call is given. */
@@ -55,22 +55,27 @@ struct given {
     uint8_t frame[FRAME_ROOM];
     size_t frame_len;
     uint32_t tail, wp;
-    size_t out_len;
+    size_t out_len, pattern_len;
 };
 extern struct given given;
 
-/* The content of a cell before a call. */
+/* The content of a cell before the first call; and what is wanted of it so far. */
 uint8_t cell(uint32_t address);
+uint8_t wanted_cell(uint32_t address);
 
-/* A fresh call: bench record, power-on state, every cell as above, an empty frame, WP# high. */
+/* A fresh call: bench record, power-on state, every cell as above, an empty frame, WP# high, no pattern. */
 void jig_model(uint32_t model);
 
-/* The next call of the same chip: state and cells as the last one left them, an empty frame. */
+/* The next call of the same chip: state and cells as the last one left them, an empty frame, no pattern. */
 void jig_next(void);
 
+/* A chip that is busy runs C7, if jig_runs does not say after it what it runs. */
 void jig_state(struct condition c);
 
-/* The same by bytes, valid or not; n is at most STATE_ROOM. */
+/* The place is an address in the array, the count of a status write, or NOWHERE; n data bytes, the rest FF. */
+void jig_runs(uint8_t command, uint32_t place, const uint8_t *data, size_t n);
+
+/* The state by bytes, valid or not; n is at most STATE_ROOM. */
 void jig_packed(const uint8_t *bytes, size_t n);
 
 /* The frame, by capital hex digits; the output gets its length. */
@@ -82,13 +87,20 @@ void jig_addressed(uint8_t command, uint32_t address, size_t n, uint8_t fill);
 /* A frame of n bytes: the command, the others fill. */
 void jig_filled(uint8_t command, size_t n, uint8_t fill);
 
+/* The pattern of a cut: n bytes, for the caller to fill; what a former one left is in them. */
+uint8_t *jig_pattern(size_t n);
+
 /* Sets n cells before the call, in what is given and in what is wanted alike. */
 void jig_cells(uint32_t at, uint32_t n, uint8_t value);
 
-/* What is wanted, where it differs from a call that changes nothing. */
+/*
+ * What is wanted, where it differs from a call that changes nothing. A chip that was busy and is wanted so goes on with
+ * what it runs; one that was not runs what the given frame starts.
+ */
 void want_state(struct condition c);
 void want_hex(uint32_t from, const char *hex);
 void want_cells(uint32_t at, uint32_t n, uint8_t value);
+void want_bytes(uint32_t at, const uint8_t *bytes, uint32_t n);
 void want_fold(int folded);
 
 /* Driven from a position to the frame's end: the bytes given, repeated. */
@@ -98,13 +110,15 @@ void want_repeated(uint32_t from, const char *hex);
 void want_cells_driven(uint32_t from, uint32_t address);
 
 /*
- * Make the call, and compare the answer and every lent byte; but of 16 MiB only the cells around the address
- * (rig.h) and those that are wanted otherwise. jig_whole compares all of them. It is the call itself, for the
- * functions on a record (gwo.h) put a bench value where a time is 0.
+ * Make the call, and compare the answer and every lent byte. Only a call that ends a program or an erase can write to
+ * the array, and then it is compared; none can write to a pattern. Of 16 MiB only the cells around the address (rig.h)
+ * are guarded, and compared with those that are wanted otherwise: jig_whole compares all of them. It is the call
+ * itself, for the functions on a record (gwo.h) put a bench value where a time is 0.
  */
 void frame_gives(uint32_t number, const char *label);
 void wait_gives(uint32_t us, uint32_t number, const char *label);
 void power_cycle_gives(uint32_t number, const char *label);
+void cut_gives(uint32_t number, const char *label);
 void jig_whole(const char *label);
 
 #endif

@@ -9,6 +9,7 @@ enum { KINDS = 5, SHORT = 3, LONG = 4 };
 struct cells {
     size_t length;
     struct lent lent;
+    struct guard guard;
     uint8_t *wanted;
     size_t low, high; /* outside of these they hold the pattern */
 };
@@ -36,6 +37,7 @@ static const uint8_t *pattern(size_t n)
 static void freshen(struct cells *c)
 {
     if (c->low < c->high) {
+        cells_open(c);
         memcpy(c->wanted + c->low, pattern(c->length) + c->low, c->high - c->low);
         memcpy(c->lent.start + c->low, c->wanted + c->low, c->high - c->low);
     }
@@ -79,6 +81,18 @@ uint8_t *cells_lent(const struct cells *c, size_t length)
     return last_of(&c->lent, length);
 }
 
+void cells_guard(struct cells *c, size_t address)
+{
+    struct stretch s = around(address, c->length);
+
+    guard_over(&c->guard, c->lent.start + s.low, c->lent.start + s.high);
+}
+
+void cells_open(struct cells *c)
+{
+    guard_lift(&c->guard);
+}
+
 uint8_t cells_wanted(const struct cells *c, size_t address)
 {
     return c->wanted[address % c->length];
@@ -100,17 +114,30 @@ static void changes(struct cells *c, size_t low, size_t high)
     c->high = larger(c->high, high);
 }
 
-void cells_want(struct cells *c, size_t at, size_t n, uint8_t value)
+/* Of n cells; before all of 16 MiB change, what is there is compared: after it nothing would be seen. */
+static void will_change(struct cells *c, size_t at, size_t n)
 {
     if (c == large && n == c->length)
-        cells_same_everywhere("all cells, before a chip erase"); /* after it nothing would be seen */
+        cells_same_everywhere("all cells, before a chip erase");
     changes(c, at, at + n);
+}
+
+void cells_want(struct cells *c, size_t at, size_t n, uint8_t value)
+{
+    will_change(c, at, n);
     memset(c->wanted + at, value, n);
+}
+
+void cells_want_bytes(struct cells *c, size_t at, const uint8_t *bytes, size_t n)
+{
+    will_change(c, at, n);
+    memcpy(c->wanted + at, bytes, n);
 }
 
 void cells_set(struct cells *c, size_t at, size_t n, uint8_t value)
 {
     cells_want(c, at, n, value);
+    cells_open(c);
     memset(c->lent.start + at, value, n);
 }
 

@@ -12,7 +12,7 @@
 /* No machine in use has larger pages; an emulator protects by the host's. */
 enum { STRETCH = 65536 };
 
-enum { SECTOR = 4096, BLOCK = 65536, SMALL = 5 * BLOCK };
+enum { PAGE = 256, SECTOR = 4096, BLOCK = 65536, SMALL = 5 * BLOCK };
 
 unsigned long rig_calls;
 
@@ -37,6 +37,34 @@ struct lent lend(size_t room)
         exit(1);
     }
     return l;
+}
+
+static void protect(const struct guard *g, int protection)
+{
+    if (g->low < g->high && mprotect(g->low, (size_t)(g->high - g->low), protection) != 0) {
+        printf("%s: a lent buffer can't be guarded\n", program);
+        exit(1);
+    }
+}
+
+/* By stretches: a lent buffer begins and ends with one. */
+void guard_over(struct guard *g, uint8_t *low, uint8_t *high)
+{
+    struct guard new;
+
+    new.low = (uint8_t *)((uintptr_t)low / STRETCH * STRETCH);
+    new.high = (uint8_t *)(((uintptr_t)high + STRETCH - 1) / STRETCH * STRETCH);
+    if (new.low == g->low && new.high == g->high)
+        return;
+    protect(g, PROT_READ | PROT_WRITE);
+    *g = new;
+    protect(g, PROT_READ);
+}
+
+void guard_lift(struct guard *g)
+{
+    protect(g, PROT_READ | PROT_WRITE);
+    g->low = g->high = NULL;
 }
 
 static uint32_t largest(const uint32_t *us, int n)
@@ -81,6 +109,64 @@ void put_us(uint8_t *p, uint32_t us)
 uint32_t get_us(const uint8_t *p)
 {
     return (uint32_t)p[0] | (uint32_t)p[1] << 8 | (uint32_t)p[2] << 16 | (uint32_t)p[3] << 24;
+}
+
+void put_operation(uint8_t *state, uint8_t command, uint32_t place)
+{
+    state[COMMAND_AT] = command;
+    state[PLACE_AT] = (uint8_t)(place >> 16);
+    state[PLACE_AT + 1] = (uint8_t)(place >> 8);
+    state[PLACE_AT + 2] = (uint8_t)place;
+    memset(state + DATA_AT, 0xFF, PAGE);
+}
+
+uint32_t get_place(const uint8_t *state)
+{
+    const uint8_t *p = state + PLACE_AT;
+
+    return (uint32_t)p[0] << 16 | (uint32_t)p[1] << 8 | p[2];
+}
+
+uint32_t us_of(const struct gwo_record *r, uint8_t command)
+{
+    switch (command) {
+    case 0x01: return r->status_us;
+    case 0x02: return r->page_us;
+    case 0x20: return r->sector_us;
+    case 0x52: return r->model == 3 ? r->half_us : r->block_us; /* 003 L1227-1231 */
+    case 0xD8: return r->block_us;
+    case 0x60: case 0xC7: return r->chip_us;
+    default: return 0;
+    }
+}
+
+uint32_t unit_of(uint32_t model, uint8_t command)
+{
+    switch (command) {
+    case 0x02: return PAGE;
+    case 0x20: return SECTOR;
+    case 0x52: return model == 3 ? BLOCK / 2 : BLOCK;
+    case 0xD8: return BLOCK;
+    case 0x60: case 0xC7: return (uint32_t)gwo_array_length(model);
+    default: return 0;
+    }
+}
+
+int ends_by_cut(const uint8_t *state)
+{
+    return get_us(state + BUSY_AT) > 0 && state[COMMAND_AT] != 0x01;
+}
+
+int ends_by_wait(const uint8_t *state, uint32_t us)
+{
+    return ends_by_cut(state) && us >= get_us(state + BUSY_AT);
+}
+
+uint32_t unit_start(uint32_t model, uint8_t command, uint32_t address)
+{
+    uint32_t unit = unit_of(model, command);
+
+    return unit == 0 ? 0 : address % (uint32_t)gwo_array_length(model) / unit * unit;
 }
 
 struct stretch around(size_t address, size_t length)
@@ -130,7 +216,7 @@ static void touched(int signal_number)
 {
     char text[160];
     int n = snprintf(text, sizeof text,
-                     "%s: FAIL: call %lu touched memory that was not lent to it (signal %d)\n",
+                     "%s: FAIL: call %lu touched memory that was not lent to it, or not to be written (signal %d)\n",
                      program, rig_calls, signal_number);
 
     if (write(STDOUT_FILENO, text, (size_t)n) != n)

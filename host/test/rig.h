@@ -15,6 +15,15 @@ struct lent {
 /* At least room bytes; .end is the first unmapped one. */
 struct lent lend(size_t room);
 
+/* A part of a lent buffer where to write a byte is a fault for a while; both null: none. */
+struct guard {
+    uint8_t *low, *high;
+};
+
+/* Moves it over the bytes from low to before high, and over some around them; or takes it away. */
+void guard_over(struct guard *g, uint8_t *low, uint8_t *high);
+void guard_lift(struct guard *g);
+
 /* The last n bytes, so that they end at the unmapped stretch. */
 static inline uint8_t *last_of(const struct lent *l, size_t n)
 {
@@ -22,8 +31,9 @@ static inline uint8_t *last_of(const struct lent *l, size_t n)
 }
 
 /*
- * What is compared of a lent array after each call: all of a small one; of 16 MiB the block that holds an address
- * and a sector on each side of it. The programs compare the whole now and then, and at their end.
+ * What of a lent array is guarded, or compared after a call that may write to it: all of a small one; of 16 MiB the
+ * block that holds an address and a sector on each side of it. The programs compare the whole now and then, and at
+ * their end.
  */
 struct stretch {
     size_t low, high;
@@ -36,10 +46,28 @@ uint32_t longest_busy(const struct gwo_record *r);
 uint32_t longest_settling(const struct gwo_record *r);
 uint32_t longest(const struct gwo_record *r);
 
-/* A time in a packed state, busy from byte 4 and settling from byte 8 on: four bytes, the low one first. */
-enum { BUSY_AT = 4, SETTLING_AT = 8 };
+/* The parts of a packed state after its first four bytes. */
+enum { BUSY_AT = 4, SETTLING_AT = 8, COMMAND_AT = 12, PLACE_AT = 13, DATA_AT = 16 };
+
+/* A time in it: four bytes, the low one first. */
 void put_us(uint8_t *p, uint32_t us);
 uint32_t get_us(const uint8_t *p);
+
+/* The running operation in it: the command, the place (an address, or the count of a status write), no data: FF. */
+void put_operation(uint8_t *state, uint8_t command, uint32_t place);
+uint32_t get_place(const uint8_t *state);
+
+/* No operation: what an idle chip has in place of a command and of an address; a chip erase has no address either. */
+enum { NO_COMMAND = 0xFF, NOWHERE = 0xFFFFFF };
+
+/* Whether a call that is done may write to the array: it ends a program or an erase, by so long a wait or by a cut. */
+int ends_by_wait(const uint8_t *state, uint32_t us);
+int ends_by_cut(const uint8_t *state);
+
+/* Of an operation: how long it takes, 0 for a byte that starts none; how many cells it may change; where they begin. */
+uint32_t us_of(const struct gwo_record *r, uint8_t command);
+uint32_t unit_of(uint32_t model, uint8_t command);
+uint32_t unit_start(uint32_t model, uint8_t command, uint32_t address);
 
 /* The bytes of the three numbers that are lent with a frame: the first driven position, the count, the fold. */
 enum { NUMBERS = 12 };

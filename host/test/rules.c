@@ -28,6 +28,8 @@ static const struct {
     {"programming", programming},
     {"folds", folds},
     {"time and power", time_and_power},
+    {"operations", operations},
+    {"cuts", cuts},
     {"bench sheet", bench_sheet},
 };
 enum { GROUPS = sizeof groups / sizeof groups[0] };

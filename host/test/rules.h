@@ -18,6 +18,8 @@ void protected_areas(void);            /* what BP and TB protect */
 void programming(void);                /* 02: fold, AND, the last byte counts */
 void folds(void);                      /* a program that ran past its page's end is said so */
 void time_and_power(void);             /* wait and power cycle */
+void operations(void);                 /* 01, 02, 20, 52, D8, 60, C7: remembered, and done when the time has run out */
+void cuts(void);                       /* what a cut leaves of each of them, and of a chip that runs none */
 void bench_sheet(void);                /* 01's cases, and model 3's */
 
 /* The given record's times by number: six of a busy chip, the sixth on model 3 alone, and three of one that settles. */
@@ -25,9 +27,21 @@ enum { HALF = 5, SLEEP, WAKE, SIGN, TIMES };
 uint32_t *time_field(int which);
 int time_counts(uint32_t model, int which);
 
-/* How many cells of its unit a command changes (02 with one data byte), and how long the chip is busy then. */
-uint32_t unit_of(uint32_t model, uint8_t command);
-uint32_t us_of(const struct gwo_record *r, uint8_t command);
+/* The operations by number; the last, 01 with two data bytes, is model 3's. */
+enum { OPERATIONS = 8 };
+unsigned operations_of(uint32_t model);
+
+/* Whether it is 16 MiB that it changes: these take their time, so there are few of them. */
+int takes_long(uint32_t model, unsigned operation);
+
+/* A chip that is busy with one of them, at an address of the array: the time left is the condition's. */
+void jig_busy(struct condition c, unsigned operation, uint32_t address);
+
+/* The wait that ends what the last frame has started, not a microsecond longer; the cells are wanted before it. */
+void completes(struct condition after, const char *label);
+
+/* Wants what the running operation leads to: in the cells, and in the condition, which is the one after it. */
+struct condition want_finished(uint32_t model, struct condition c);
 
 int is_protected(uint32_t model, struct condition c, uint32_t block);
 

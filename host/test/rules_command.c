@@ -40,7 +40,7 @@ static void number_22(uint32_t model)
     }
 }
 
-/* Busy: every command but 05, and on model 3 15, known or not, whatever its length and tail. */
+/* Busy: every command but 05, and on model 3 15, known or not, whatever its length and tail and whatever is running. */
 static void number_11(uint32_t model)
 {
     const struct condition busy = {0, 0, 1, 0, 1, 0, 0}, locked = {1, 3, 1, 0, longest_busy(&given.record), 0, 0};
@@ -52,7 +52,10 @@ static void number_11(uint32_t model)
             continue;
         for (length = 1; length <= 6; length++) {
             jig_model(model);
-            jig_state(length % 2 == 0 ? busy : locked);
+            if (length % 2 == 0)
+                jig_busy(busy, (command + (unsigned)length / 2) % operations_of(model), command * 257);
+            else
+                jig_state(locked);
             jig_filled((uint8_t)command, length, 0);
             given.tail = (uint32_t)(command + length) % 8;
             given.wp = command % 2;
@@ -64,13 +67,16 @@ static void number_11(uint32_t model)
 static void status_while_busy(uint32_t model)
 {
     static const struct condition c = {1, 2, 1, 0, 77, 0, 0};
+    unsigned operation;
 
-    jig_model(model);
-    jig_state(c);
-    jig_frame("0500FF");
-    given.tail = 3;
-    want_hex(1, "8B8B");
-    frame_gives(0, "05 while busy");
+    for (operation = 0; operation < operations_of(model); operation++) {
+        jig_model(model);
+        jig_busy(c, operation, 0x1234);
+        jig_frame("0500FF");
+        given.tail = 3;
+        want_hex(1, "8B8B");
+        frame_gives(0, named("05 while busy with operation %u", operation));
+    }
 }
 
 /* Asleep: every command but AB, 15 among them; an unknown one too, and it wakes nothing. */
@@ -130,30 +136,34 @@ static void number_15(uint32_t model)
 }
 
 /* 16 exactly when SRWD is 1 and WP# is low: WP# low alone blocks nothing. */
+static void number_16_at(uint32_t model, const char *frame, struct condition c, uint32_t level, struct condition after)
+{
+    int locked = c.srwd == 1 && level == 0;
+    struct condition busy = c;
+    const char *label = named("%s with SRWD %u, BP %u, WP# level %lu", frame, c.srwd, c.bp, (unsigned long)level);
+
+    jig_model(model);
+    jig_state(c);
+    jig_frame(frame);
+    given.wp = level;
+    busy.busy_us = bench(model).status_us;
+    if (!locked)
+        want_state(busy);
+    frame_gives(locked ? 16 : 0, label);
+    if (!locked)
+        completes(after, label);
+}
+
 static void number_16(uint32_t model, const char *frame, struct condition after)
 {
     static const uint32_t levels[] = {0, 1, 2, 256, 0x80000000, 0xFFFFFFFF};
-    unsigned srwd, bp;
+    struct condition c = enabled;
     size_t i;
 
-    after.busy_us = bench(model).status_us;
-    for (srwd = 0; srwd < 2; srwd++) {
-        for (bp = 0; bp <= part_of(model)->highest_bp; bp++) {
-            for (i = 0; i < sizeof levels / sizeof levels[0]; i++) {
-                const struct condition before = {srwd, bp, 1, 0, 0, 0, 0};
-                int locked = srwd == 1 && levels[i] == 0;
-
-                jig_model(model);
-                jig_state(before);
-                jig_frame(frame);
-                given.wp = levels[i];
-                if (!locked)
-                    want_state(after);
-                frame_gives(locked ? 16 : 0, named("%s with SRWD %u, BP %u, WP# level %lu", frame, srwd, bp,
-                                                   (unsigned long)levels[i]));
-            }
-        }
-    }
+    for (c.srwd = 0; c.srwd < 2; c.srwd++)
+        for (c.bp = 0; c.bp <= part_of(model)->highest_bp; c.bp++)
+            for (i = 0; i < sizeof levels / sizeof levels[0]; i++)
+                number_16_at(model, frame, c, levels[i], after);
 }
 
 /* 17 does not depend on WP# or SRWD. It leaves WEL 1 on models 1 and 2, and clears it on model 3. */
@@ -185,7 +195,7 @@ static const char *const at_the_bottom[8] = {"0200000000", "0200FFFF0102", "2000
 
 void refused_by_command(void)
 {
-    static const struct condition bp_1 = {0, 1, 1, 0, 0, 0, 0}, bp_1_config_53 = {0, 1, 1, 0, 0, 0x53, 0};
+    static const struct condition bp_1 = {0, 1, 0, 0, 0, 0, 0}, bp_1_config_53 = {0, 1, 0, 0, 0, 0x53, 0};
     uint32_t model;
 
     for (model = 1; model <= MODELS; model++) {

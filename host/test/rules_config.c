@@ -1,6 +1,6 @@
 /*
- * 003: the configuration register of model 3. 15 reads it, the second data byte of 01 writes it, a power cycle
- * clears all of it but TB, and nothing clears TB. Models 1 and 2 have none of this.
+ * 003: the configuration register of model 3. 15 reads it, the second data byte of 01 writes it when its time has run
+ * out, a power cycle clears all of it but TB, and nothing clears TB. Models 1 and 2 have none of this.
  */
 #include "jig.h"
 #include "rules.h"
@@ -102,7 +102,9 @@ static void reads_refused(uint32_t model)
 /* 01 with so many data bytes, accepted by model 3. */
 static void write_gives(struct condition before, size_t n, unsigned status, unsigned config)
 {
-    struct condition after = {status >> 7, status >> 2 & 15, 1, 0, bench(3).status_us, before.config, 0};
+    struct condition busy = before, after = {status >> 7, status >> 2 & 15, 0, 0, 0, before.config, 0};
+    const char *label = named("01 %02X with %lu data bytes, the second %02X, register %02X", status, (unsigned long)n,
+                              config, before.config);
 
     if (n == 2)
         after.config = written(before.config, config);
@@ -111,9 +113,10 @@ static void write_gives(struct condition before, size_t n, unsigned status, unsi
     jig_filled(0x01, 1 + n, (uint8_t)status);
     if (n == 2)
         given.frame[2] = (uint8_t)config;
-    want_state(after);
-    frame_gives(0, named("01 %02X with %lu data bytes, the second %02X, register %02X", status, (unsigned long)n,
-                         config, before.config));
+    busy.busy_us = bench(3).status_us;
+    want_state(busy);
+    frame_gives(0, label);
+    completes(after, label);
 }
 
 /* Every other byte on every register: alone, which leaves the register, and as the second data byte. */
@@ -152,7 +155,7 @@ static void write_lengths(uint32_t model)
     }
 }
 
-/* SRWD, BP and TB stay. */
+/* SRWD, BP and TB stay; while busy all of it. */
 static void power_cycles(void)
 {
     unsigned k, busy;
@@ -167,8 +170,10 @@ static void power_cycles(void)
             after.config = c.config & TB;
             jig_model(3);
             jig_state(c);
-            want_state(after);
-            power_cycle_gives(0, named("power cycle, register %02X, busy %lu", c.config, (unsigned long)c.busy_us));
+            if (!busy)
+                want_state(after);
+            power_cycle_gives(busy ? 11 : 0, named("power cycle, register %02X, busy %lu", c.config,
+                                                   (unsigned long)c.busy_us));
         }
     }
 }
@@ -183,12 +188,12 @@ static void next_write(struct condition *c, const char *frame, unsigned bp, unsi
     frame_gives(0, named("06 before %s", frame));
     jig_next();
     jig_frame(frame);
-    c->bp = bp;
-    c->config = config;
     c->busy_us = 40000;
     want_state(*c);
     frame_gives(0, frame);
     jig_next();
+    c->bp = bp;
+    c->config = config;
     c->wel = 0;
     c->busy_us = 0;
     want_state(*c);
@@ -199,7 +204,7 @@ static void next_write(struct condition *c, const char *frame, unsigned bp, unsi
     frame_gives(0, named("15 after %s", frame));
 }
 
-/* TB is set once; writes of either length, power cycles and waits leave it. */
+/* TB is set once; writes of either length, power cycles, waits and cuts leave it. */
 static void never_cleared(void)
 {
     struct condition c = power_on;
@@ -217,6 +222,9 @@ static void never_cleared(void)
     want_state(c);
     power_cycle_gives(0, "a power cycle leaves TB");
     next_write(&c, "013C00", 15, 0x08, "08");
+    jig_next();
+    cut_gives(0, "a cut leaves TB");
+    next_write(&c, "010041", 0, 0x49, "49");
 }
 
 void configuration(void)

@@ -2,36 +2,13 @@
 #include "jig.h"
 #include "rules.h"
 
-uint32_t unit_of(uint32_t model, uint8_t command)
-{
-    switch (command) {
-    case 0x02: return 1;
-    case 0x20: return SECTOR;
-    case 0x52: return model == 3 ? HALF_BLOCK : BLOCK; /* 003 L1227-1231 */
-    case 0xD8: return BLOCK;
-    case 0x60: case 0xC7: return size_of(model);
-    default: return 0;
-    }
-}
-
-uint32_t us_of(const struct gwo_record *r, uint8_t command)
-{
-    switch (command) {
-    case 0x01: return r->status_us;
-    case 0x02: return r->page_us;
-    case 0x20: return r->sector_us;
-    case 0x52: return r->model == 3 ? r->half_us : r->block_us;
-    case 0xD8: return r->block_us;
-    case 0x60: case 0xC7: return r->chip_us;
-    default: return 0;
-    }
-}
-
 void write_at(uint32_t model, struct condition c, uint8_t command, uint32_t address)
 {
-    uint32_t inside = address % size_of(model), unit = unit_of(model, command);
+    uint32_t inside = address % size_of(model);
     int refused = is_protected(model, c, inside / BLOCK);
     struct condition busy = c;
+    const char *label = named("model %lu, BP %u, register %02X: %02X at %06lX", (unsigned long)model, c.bp, c.config,
+                              command, (unsigned long)address);
 
     jig_model(model);
     jig_state(c);
@@ -39,10 +16,15 @@ void write_at(uint32_t model, struct condition c, uint8_t command, uint32_t addr
     jig_addressed(command, address, command == 0x02 ? 1 : 0, 0x00);
     given.wp = address % 2;
     want_state(refused ? after_17(model, c) : busy);
-    if (!refused)
-        want_cells(inside / unit * unit, unit, command == 0x02 ? 0x00 : 0xFF);
-    frame_gives(refused ? 17 : 0, named("model %lu, BP %u, register %02X: %02X at %06lX", (unsigned long)model, c.bp,
-                                        c.config, command, (unsigned long)address));
+    frame_gives(refused ? 17 : 0, label);
+    if (refused)
+        return;
+    if (command == 0x02)
+        want_cells(inside, 1, 0x00);
+    else
+        want_cells(unit_start(model, command, inside), unit_of(model, command), 0xFF);
+    c.wel = 0;
+    completes(c, label);
 }
 
 /* Both ends of every sector, in the array and in its images above it. */
@@ -83,16 +65,19 @@ static void every_unit_of_model_3(void)
 /* Only with BP 0, wherever TB puts the protected blocks. */
 static void whole_chip(uint32_t model, unsigned bp, unsigned config, const char *frame)
 {
-    const struct condition c = {0, bp, 1, 0, 0, config, 0}, busy = {0, bp, 1, 0, bench(model).chip_us, config, 0};
+    const struct condition c = {0, bp, 1, 0, 0, config, 0}, busy = {0, bp, 1, 0, bench(model).chip_us, config, 0},
+                           after = {0, bp, 0, 0, 0, config, 0};
+    const char *label = named("model %lu, BP %u, register %02X: %s", (unsigned long)model, bp, config, frame);
 
     jig_model(model);
     jig_state(c);
     jig_frame(frame);
     want_state(bp == 0 ? busy : after_17(model, c));
-    if (bp == 0)
-        want_cells(0, size_of(model), 0xFF);
-    frame_gives(bp == 0 ? 0 : 17, named("model %lu, BP %u, register %02X: %s", (unsigned long)model, bp, config,
-                                        frame));
+    frame_gives(bp == 0 ? 0 : 17, label);
+    if (bp != 0)
+        return;
+    want_cells(0, size_of(model), 0xFF);
+    completes(after, label);
 }
 
 void erasing(void)

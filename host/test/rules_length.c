@@ -66,17 +66,16 @@ static const struct row *row_for(uint32_t model, uint8_t command, size_t length,
     return NULL;
 }
 
-/* Erased cells are FF; as many as there are data bytes, to a page's end, are 00. */
-static void want_changed(uint32_t model, uint8_t command)
+/* When the time has run out: erased cells are FF; as many as there are data bytes, to a page's end, are 00. */
+static void changes(uint32_t model, uint8_t command, const char *label)
 {
     uint32_t data = (uint32_t)given.frame_len - 4;
 
-    if (command != 0x02) {
+    if (command == 0x02)
+        want_cells(0, data < PAGE ? data : PAGE, 0x00);
+    else
         want_cells(0, unit_of(model, command), 0xFF);
-        return;
-    }
-    want_cells(0, data < PAGE ? data : PAGE, 0x00);
-    want_fold(data > PAGE);
+    completes(power_on, label);
 }
 
 static void want_driven(const struct row *r, uint32_t model)
@@ -101,7 +100,7 @@ static void want_row(const struct row *r, uint32_t model)
     after.busy_us = us_of(&given.record, r->command);
     after.settling_us = r->asleep ? given.record.sleep_us : 0;
     want_state(after);
-    want_changed(model, r->command);
+    want_fold(r->command == 0x02 && given.frame_len > 4 + PAGE);
     if (given.frame_len > r->first)
         want_driven(r, model);
 }
@@ -120,6 +119,8 @@ static void length_and_tail(uint32_t model, uint8_t command, size_t length, uint
     if (r != NULL)
         want_row(r, model);
     frame_gives(number, label);
+    if (number == 0 && us_of(&given.record, command) > 0)
+        changes(model, command, label);
 }
 
 /* Lengths around every limit, each with the eight tails. */

@@ -2,15 +2,25 @@
 #include "jig.h"
 #include "rules.h"
 
+#include <string.h>
+
 /* What makes a number apply, one bit each; a call is refused by the first that applies. */
 enum {
     RECORD = 1, ARRAY = 2, STATE = 4, FRAME = 8, OUTPUT = 16, EMPTY = 32, SETTLING = 64, BUSY = 128, ASLEEP = 256,
     UNKNOWN = 512, LENGTH = 1024, NOT_ENABLED = 2048, LOCKED = 4096, EVERY = 8191
 };
 
-static const struct { unsigned fault; uint32_t number; } ladder[] = {
+/* What a cut looks at besides: its pattern's length. */
+enum { PATTERN = 8192 };
+
+static const struct rung { unsigned fault; uint32_t number; } ladder[] = {
     {RECORD, 1}, {ARRAY, 2}, {STATE, 3}, {FRAME, 4}, {OUTPUT, 5}, {EMPTY, 10}, {SETTLING, 22}, {BUSY, 11},
-    {ASLEEP, 12}, {UNKNOWN, 13}, {LENGTH, 14}, {NOT_ENABLED, 15}, {LOCKED, 0}};
+    {ASLEEP, 12}, {UNKNOWN, 13}, {LENGTH, 14}, {NOT_ENABLED, 15}, {LOCKED, 0}, {0, 0}};
+
+/* The same for the calls without a frame. */
+static const struct rung of_waits[] = {{RECORD, 1}, {ARRAY, 2}, {STATE, 3}, {0, 0}},
+                         of_cuts[] = {{RECORD, 1}, {ARRAY, 2}, {STATE, 3}, {PATTERN, 23}, {0, 0}},
+                         of_power_cycles[] = {{RECORD, 1}, {STATE, 3}, {BUSY, 11}, {0, 0}};
 
 /* Faults that no call has together: a busy chip is enabled, awake and settled, or else the state is no valid one. */
 static int together(unsigned faults)
@@ -19,13 +29,11 @@ static int together(unsigned faults)
 }
 
 /* The number: of the first fault; 16 or 17, by the command, when LOCKED is the only one. */
-static uint32_t first_of(unsigned faults, uint32_t when_locked)
+static uint32_t first_of(const struct rung *rung, unsigned faults, uint32_t when_locked)
 {
-    size_t i;
-
-    for (i = 0; i < sizeof ladder / sizeof ladder[0]; i++)
-        if (faults & ladder[i].fault)
-            return ladder[i].fault == LOCKED ? when_locked : ladder[i].number;
+    for (; rung->fault != 0; rung++)
+        if (faults & rung->fault)
+            return rung->fault == LOCKED ? when_locked : rung->number;
     return 0;
 }
 
@@ -94,7 +102,7 @@ static const struct { const char *frame; uint32_t when_locked; } lockable[] = {
 
 static void refused(uint32_t model, size_t command, unsigned faults, unsigned variant)
 {
-    uint32_t number = first_of(faults, lockable[command].when_locked);
+    uint32_t number = first_of(ladder, faults, lockable[command].when_locked);
 
     jig_model(model);
     jig_frame(lockable[command].frame);
@@ -105,6 +113,66 @@ static void refused(uint32_t model, size_t command, unsigned faults, unsigned va
     frame_gives(number, named("model %lu: %s with faults %04X", (unsigned long)model, lockable[command].frame, faults));
 }
 
+/* The last microsecond of a chip erase, or an idle chip. */
+static void wait_refused(uint32_t model, unsigned faults, unsigned variant)
+{
+    uint32_t number = first_of(of_waits, faults, 0);
+
+    jig_model(model);
+    spoil_lent(model, faults, variant);
+    if (number == 0 && (faults & BUSY)) {
+        want_cells(0, size_of(model), 0xFF);
+        want_state(power_on);
+    }
+    wait_gives(1, number, named("model %lu: a wait with faults %04X", (unsigned long)model, faults));
+}
+
+static void cut_refused(uint32_t model, unsigned faults, unsigned variant)
+{
+    uint32_t number = first_of(of_cuts, faults, 0);
+    size_t n = (faults & BUSY ? size_of(model) : 0) + (faults & PATTERN ? 1 + variant : 0);
+    uint8_t *pattern;
+
+    jig_model(model);
+    spoil_lent(model, faults, variant);
+    pattern = jig_pattern(n);
+    if (number == 0) {
+        memset(pattern, 0x5B, n);
+        want_bytes(0, pattern, (uint32_t)n);
+        want_state(power_on);
+    }
+    cut_gives(number, named("model %lu: a cut with faults %04X", (unsigned long)model, faults));
+}
+
+static void power_cycle_refused(uint32_t model, unsigned faults, unsigned variant)
+{
+    uint32_t number = first_of(of_power_cycles, faults, 0);
+
+    jig_model(model);
+    spoil_lent(model, faults, variant);
+    if (number == 0)
+        want_state(power_on);
+    power_cycle_gives(number, named("model %lu: a power cycle with faults %04X", (unsigned long)model, faults));
+}
+
+/* Every set of the faults that a call without a frame can have. */
+static void without_a_frame(uint32_t model)
+{
+    static const unsigned kinds[] = {RECORD, ARRAY, STATE, BUSY, PATTERN};
+    unsigned set, variant, i;
+
+    for (set = 0; set < 32; set++)
+        for (variant = 0; variant < 2; variant++) {
+            unsigned faults = 0;
+
+            for (i = 0; i < 5; i++)
+                faults |= set >> i & 1 ? kinds[i] : 0;
+            wait_refused(model, faults, variant);
+            cut_refused(model, faults, variant);
+            power_cycle_refused(model, faults, variant);
+        }
+}
+
 /* Every set of faults that a call can have, on each of the seven commands, the models by turns. */
 void refused_in_order(void)
 {
@@ -112,6 +180,8 @@ void refused_in_order(void)
     uint32_t model;
     size_t i;
 
+    for (model = 1; model <= MODELS; model++)
+        without_a_frame(model);
     for (i = 0; i < sizeof lockable / sizeof lockable[0]; i++) {
         for (faults = 1; faults <= EVERY; faults++)
             if (possible(faults, (unsigned)i % 2))

@@ -1,4 +1,4 @@
-/* 01, Commands: 02. Byte i goes to offset (a + i) mod 256 of the page; the last one there counts. */
+/* 01, Commands: 02. Byte i goes to offset (a + i) mod 256 of the page; at the end the last one there counts. */
 #include "jig.h"
 #include "rules.h"
 
@@ -34,6 +34,8 @@ static void program_at(uint32_t model, uint32_t address, size_t n, int erased)
 {
     struct condition busy = enabled;
     uint32_t inside = address % size_of(model);
+    const char *label = named("model %lu: 02 at %06lX, %lu data bytes, %s page", (unsigned long)model,
+                              (unsigned long)address, (unsigned long)n, erased ? "erased" : "written");
     size_t i;
 
     busy.busy_us = bench(model).page_us;
@@ -46,8 +48,8 @@ static void program_at(uint32_t model, uint32_t address, size_t n, int erased)
         jig_cells(inside / PAGE * PAGE, PAGE, 0xFF);
     want_program(inside, given.frame + 4, n, erased);
     want_state(busy);
-    frame_gives(0, named("model %lu: 02 at %06lX, %lu data bytes, %s page", (unsigned long)model,
-                         (unsigned long)address, (unsigned long)n, erased ? "erased" : "written"));
+    frame_gives(0, label);
+    completes(power_on, label);
 }
 
 /* Up to the page's end, one byte past it, once and twice around, and the longest. */
@@ -108,6 +110,7 @@ static void every_pair(uint32_t model)
         }
         want_state(busy);
         frame_gives(0, named("02 on cells %02lX", (unsigned long)old));
+        completes(power_on, named("the end of 02 on cells %02lX", (unsigned long)old));
     }
 }
 

@@ -14,11 +14,12 @@ static void want_enabled(uint32_t number)
         want_state(enabled);
 }
 
-/* The same record for frame, wait and power cycle. */
+/* The same record for frame, wait, power cycle and cut. */
 static void record_gives(uint32_t number, const char *label)
 {
     power_cycle_gives(number, label);
     wait_gives(1, number, label);
+    cut_gives(number, label);
     write_enable();
     want_enabled(number);
     frame_gives(number, label);
@@ -97,6 +98,25 @@ static void number_1(void)
     }
 }
 
+/* The same array for wait, cut and frame; a chip that is busy would change some of it. */
+static void array_gives(uint32_t number, const char *label)
+{
+    static const struct condition busy = {0, 0, 1, 0, 1, 0, 0};
+
+    wait_gives(1, number, label);
+    cut_gives(number, label);
+    if (number == 2) {
+        jig_busy(busy, 2, 0);
+        wait_gives(1, 2, label);
+        jig_pattern(SECTOR);
+        cut_gives(2, label);
+        jig_state(power_on);
+    }
+    write_enable();
+    want_enabled(number);
+    frame_gives(number, label);
+}
+
 static void number_2(void)
 {
     static const size_t lengths[] = {0, 1, 4096, 65535, 65536, 65537, 131072, 262143, 262144, 262145, 327680,
@@ -110,9 +130,7 @@ static void number_2(void)
 
             jig_model(model);
             given.array_len = lengths[i];
-            write_enable();
-            want_enabled(number);
-            frame_gives(number, named("model %lu, array of %lu", (unsigned long)model, (unsigned long)lengths[i]));
+            array_gives(number, named("model %lu, array of %lu", (unsigned long)model, (unsigned long)lengths[i]));
         }
     }
 }

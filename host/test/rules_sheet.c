@@ -69,9 +69,10 @@ static void refused_programs_and_erases(void)
     given_frame(1, state(0, 1, 1, 0, 0), "20000000");
     frame_gives(17, "WEL 1, BP 1, 20 at 0: WEL still 1");
     given_frame(2, state(0, 1, 1, 0, 0), "2002FFFF");
-    want_cells(0x2F000, SECTOR, 0xFF);
     want_state(state(0, 1, 1, 0, bench(2).sector_us));
     frame_gives(0, "model 2, WEL 1, BP 1: 20 at 02FFFF");
+    want_cells(0x2F000, SECTOR, 0xFF);
+    completes(state(0, 1, 0, 0, 0), "model 2, BP 1: the end of 20 at 02FFFF");
     given_frame(2, state(0, 1, 1, 0, 0), "20030000");
     frame_gives(17, "model 2, WEL 1, BP 1: 20 at 030000");
 }
@@ -83,15 +84,17 @@ static void folding(void)
     jig_cells(0, PAGE, 0xFF);
     jig_addressed(0x02, 0, 257, 0x22);
     given.frame[4] = 0x11;
-    want_cells(0, PAGE, 0x22);
     want_fold(1);
     want_state(state(0, 0, 1, 0, 5000));
-    frame_gives(0, "fresh page, 257 data bytes at 0: all 256 hold 22");
+    frame_gives(0, "fresh page, 257 data bytes at 0");
+    want_cells(0, PAGE, 0x22);
+    completes(power_on, "after the wait all 256 hold 22");
     given_frame(1, enabled, "020000003C");
     jig_cells(0, 1, 0xF0);
-    want_cells(0, 1, 0x30);
     want_state(state(0, 0, 1, 0, 5000));
-    frame_gives(0, "cell F0, data 3C: 30");
+    frame_gives(0, "cell F0, data 3C");
+    want_cells(0, 1, 0x30);
+    completes(power_on, "after the wait 30");
 }
 
 static void status_lock(void)
@@ -100,21 +103,26 @@ static void status_lock(void)
     given.wp = 0;
     frame_gives(16, "SRWD 1, WEL 1, 01 00, WP# low");
     given_frame(1, state(1, 0, 1, 0, 0), "0100");
-    want_state(state(0, 0, 1, 0, 15000));
+    want_state(state(1, 0, 1, 0, 15000));
     frame_gives(0, "SRWD 1, WEL 1, 01 00, WP# high");
+    completes(power_on, "after the wait SRWD 0");
 }
 
-static void status_8F_then_8C(void)
+static void status_03_then_8C(void)
 {
     given_frame(1, enabled, "01FF");
-    want_state(state(1, 3, 1, 0, 15000));
+    want_state(state(0, 0, 1, 0, 15000));
     frame_gives(0, "01 FF");
     next_frame("0500");
-    want_hex(1, "8F");
+    want_hex(1, "03");
     frame_gives(0, "status after 01 FF");
     jig_next();
+    want_state(state(0, 0, 1, 0, 1));
+    wait_gives(14999, 0, "14,999 us after 01 FF");
+    next_drives("0500", "03", "status 14,999 us after 01 FF");
+    jig_next();
     want_state(state(1, 3, 0, 0, 0));
-    wait_gives(15000, 0, "the wait after 01 FF");
+    wait_gives(1, 0, "the wait after 01 FF");
     next_frame("0500");
     want_hex(1, "8C");
     frame_gives(0, "status after the wait");
@@ -163,7 +171,6 @@ static void last_cell_then_first(void)
 static void sector_erase_time(void)
 {
     given_frame(1, enabled, "20000000");
-    want_cells(0, SECTOR, 0xFF);
     want_state(state(0, 0, 1, 0, 120000));
     frame_gives(0, "20");
     jig_next();
@@ -173,6 +180,7 @@ static void sector_erase_time(void)
     want_hex(1, "03");
     frame_gives(0, "status 119,999 us after 20");
     jig_next();
+    want_cells(0, SECTOR, 0xFF);
     want_state(power_on);
     wait_gives(1, 0, "one more");
     next_frame("0500");
@@ -201,12 +209,12 @@ static void folded_program_of_the_log(void)
     want_state(enabled);
     frame_gives(0, "log line 1");
     next_frame("020000FFA55A");
-    want_cells(0xFF, 1, 0xA5);
-    want_cells(0x00, 1, 0x5A);
     want_fold(1);
     want_state(state(0, 0, 1, 0, 5000));
     frame_gives(0, "log line 3");
     jig_next();
+    want_cells(0xFF, 1, 0xA5);
+    want_cells(0x00, 1, 0x5A);
     want_state(power_on);
     wait_gives(5000, 0, "log line 5");
     next_frame("0300000000");
@@ -223,10 +231,11 @@ static void model_3_top_and_bottom(void)
     struct condition c = state(0, 1, 1, 0, 0), after = c;
 
     given_frame(3, c, "20FEFFFF");
-    want_cells(0xFEF000, SECTOR, 0xFF);
     after.busy_us = 400000;
     want_state(after);
     frame_gives(0, "model 3, TB 0, BP 1: 20 at FEFFFF");
+    want_cells(0xFEF000, SECTOR, 0xFF);
+    completes(state(0, 1, 0, 0, 0), "model 3, TB 0, BP 1: the end of 20 at FEFFFF");
     given_frame(3, c, "20FF0000");
     want_state(state(0, 1, 0, 0, 0));
     frame_gives(17, "model 3, TB 0, BP 1: 20 at FF0000, WEL 0");
@@ -240,22 +249,22 @@ static void model_3_top_and_bottom(void)
 
 static void model_3_status_and_register(void)
 {
-    struct condition c = state(1, 15, 1, 0, 40000);
+    struct condition c = state(1, 15, 0, 0, 0);
 
     given_frame(3, power_on, "06");
     want_state(enabled);
     frame_gives(0, "model 3, power-on, 06");
     next_frame("01FFFF");
-    c.config = 0xDB;
-    want_state(c);
+    want_state(state(0, 0, 1, 0, 40000));
     frame_gives(0, "model 3, 01 FF FF");
-    next_drives("0500", "BF", "model 3, status after 01 FF FF");
-    next_drives("1500", "DB", "model 3, register after 01 FF FF");
+    next_drives("0500", "03", "model 3, status after 01 FF FF");
+    next_drives("1500", "00", "model 3, register after 01 FF FF");
     jig_next();
-    c.wel = c.busy_us = 0;
+    c.config = 0xDB;
     want_state(c);
     wait_gives(40000, 0, "model 3, the wait after 01 FF FF");
     next_drives("0500", "BC", "model 3, status after the wait");
+    next_drives("1500", "DB", "model 3, register after the wait");
     jig_next();
     c.config = TB;
     want_state(c);
@@ -270,7 +279,7 @@ void bench_sheet(void)
     refused_programs_and_erases();
     folding();
     status_lock();
-    status_8F_then_8C();
+    status_03_then_8C();
     sleeping();
     sleeping_with_waits();
     last_cell_then_first();

@@ -1,6 +1,6 @@
 /*
  * B9 and AB take effect at once, and then the chip settles: how long, to the microsecond, and what it answers
- * until then and from then on. Only time and a power cycle end it.
+ * until then and from then on. Only time, a power cycle and a cut end it.
  */
 #include "jig.h"
 #include "rules.h"
@@ -161,22 +161,27 @@ static void malformed(uint32_t model)
     }
 }
 
-/* A power cycle while it settles: awake and settled, so that 05 is answered. */
+/* A power cycle or a cut while it settles: awake and settled, so that 05 is answered. */
 static void power_cycled(uint32_t model)
 {
     struct condition c;
     size_t i;
 
-    for (i = 0; i < STARTS; i++) {
+    for (i = 0; i < 2 * STARTS; i++) {
+        const struct start *from = &starts[i / 2];
+
         c = enabled;
-        begin(model, &starts[i], long_times, &c);
+        begin(model, from, long_times, &c);
         jig_next();
         want_state(power_on);
-        power_cycle_gives(0, named("a power cycle after %s", starts[i].frame));
+        if (i % 2 == 0)
+            power_cycle_gives(0, named("a power cycle after %s", from->frame));
+        else
+            cut_gives(0, named("a cut after %s", from->frame));
         jig_next();
         jig_frame("0500");
         want_hex(1, "00");
-        frame_gives(0, named("05 after %s and a power cycle", starts[i].frame));
+        frame_gives(0, named("05 after %s and a power cycle or a cut", from->frame));
     }
 }
 

@@ -119,18 +119,23 @@ static void status_reads(uint32_t model)
     }
 }
 
-/* 01 takes SRWD and BP from bits 7, 3 and 2, on model 3 from 7 and 5 to 2, ignores the rest, and leaves WEL 1. */
+/*
+ * 01 takes SRWD and BP from bits 7, 3 and 2, on model 3 from 7 and 5 to 2, and ignores the rest: they change, and WEL
+ * clears, when its time has run out.
+ */
 static void status_write(uint32_t model, unsigned value)
 {
     const struct condition before = {value % 2, value / 2 % 4, 1, 0, 0, 0, 0};
-    const struct condition after = {value >> 7, (value & (model == 3 ? 0x3C : 0x0C)) / 4, 1, 0, bench(model).status_us,
-                                    0, 0};
+    const struct condition after = {value >> 7, (value & (model == 3 ? 0x3C : 0x0C)) / 4, 0, 0, 0, 0, 0};
+    struct condition busy = before;
 
     jig_model(model);
     jig_state(before);
     jig_filled(0x01, 2, (uint8_t)value);
-    want_state(after);
+    busy.busy_us = bench(model).status_us;
+    want_state(busy);
     frame_gives(0, named("01 %02X", value));
+    completes(after, named("the end of 01 %02X", value));
 }
 
 void state_commands(void)

@@ -1,4 +1,7 @@
-/* 01: a wait lowers the time left, never below 0; a power cycle keeps SRWD and BP, on model 3 TB too. */
+/*
+ * 01: a wait lowers the time left, never below 0; a power cycle keeps SRWD and BP, on model 3 TB too, and is refused
+ * while busy.
+ */
 #include "jig.h"
 #include "rules.h"
 
@@ -15,29 +18,53 @@ static void waits_of_idle(uint32_t model, struct condition c)
     }
 }
 
-/* A busy one: less by the wait; at 0 WEL clears, and not before. */
-static void wait_of_busy(uint32_t model, struct condition c, uint32_t us)
+/* A chip that is busy with an operation, under a record of times that are as long as those below. */
+static void busy_chip(uint32_t model, struct condition c, unsigned operation)
+{
+    int which;
+
+    jig_model(model);
+    for (which = 0; which <= HALF; which++)
+        if (time_counts(model, which))
+            *time_field(which) = 2000000;
+    jig_busy(c, operation, c.busy_us * 513);
+}
+
+/* Less by the wait; at 0 the operation is done and WEL clears, and not before. */
+static void wait_of_busy(uint32_t model, struct condition c, unsigned operation, uint32_t us)
 {
     struct condition after = c;
 
-    jig_model(model);
-    jig_state(c);
-    after.busy_us = us < c.busy_us ? c.busy_us - us : 0;
-    after.wel = after.busy_us > 0 ? 1 : 0;
-    want_state(after);
-    wait_gives(us, 0, named("wait %lu with %lu left", (unsigned long)us, (unsigned long)c.busy_us));
+    busy_chip(model, c, operation);
+    if (us < c.busy_us) {
+        after.busy_us -= us;
+        want_state(after);
+    } else {
+        want_finished(model, c);
+    }
+    wait_gives(us, 0, named("operation %u: wait %lu with %lu left", operation, (unsigned long)us,
+                            (unsigned long)c.busy_us));
 }
 
-static void waits_of_busy(uint32_t model, struct condition c)
+static void waits_of_busy(uint32_t model, struct condition c, unsigned operation)
 {
-    wait_of_busy(model, c, 0);
-    wait_of_busy(model, c, 1);
-    wait_of_busy(model, c, c.busy_us / 2);
-    wait_of_busy(model, c, c.busy_us - 1);
-    wait_of_busy(model, c, c.busy_us);
-    wait_of_busy(model, c, c.busy_us + 1);
-    wait_of_busy(model, c, 1000000000);
-    wait_of_busy(model, c, 0xFFFFFFFF);
+    wait_of_busy(model, c, operation, 0);
+    wait_of_busy(model, c, operation, c.busy_us > 1 ? 1 : 0);
+    wait_of_busy(model, c, operation, c.busy_us / 2);
+    wait_of_busy(model, c, operation, c.busy_us - 1);
+    if (takes_long(model, operation))
+        return;
+    wait_of_busy(model, c, operation, c.busy_us);
+    wait_of_busy(model, c, operation, c.busy_us + 1);
+    wait_of_busy(model, c, operation, 1000000000);
+    wait_of_busy(model, c, operation, 0xFFFFFFFF);
+}
+
+/* Nothing changes, and the operation goes on. */
+static void power_cycle_of_busy(uint32_t model, struct condition c, unsigned operation)
+{
+    busy_chip(model, c, operation);
+    power_cycle_gives(11, named("power cycle, busy with operation %u, %lu left", operation, (unsigned long)c.busy_us));
 }
 
 /* A settling one: less by the wait; WEL and deep power-down stay. */
@@ -76,9 +103,8 @@ static void power_cycle_of(uint32_t model, struct condition c)
     after.bp = c.bp;
     after.config = c.config & TB;
     want_state(after);
-    power_cycle_gives(0, named("power cycle from SRWD %u BP %u WEL %u asleep %u busy %lu register %02X settling %lu",
-                               c.srwd, c.bp, c.wel, c.asleep, (unsigned long)c.busy_us, c.config,
-                               (unsigned long)c.settling_us));
+    power_cycle_gives(0, named("power cycle from SRWD %u BP %u WEL %u asleep %u register %02X settling %lu",
+                               c.srwd, c.bp, c.wel, c.asleep, c.config, (unsigned long)c.settling_us));
 }
 
 /* A register for model 3, by turns. */
@@ -111,9 +137,10 @@ static void of_busy(uint32_t model)
         for (i = 0; i < sizeof left / sizeof left[0]; i++) {
             unsigned bp = model == 3 ? (k + (unsigned)i) % 16 : k % 4;
             const struct condition c = {k / 4, bp, 1, 0, left[i], any_register(model, k), 0};
+            unsigned operation = (k + (unsigned)i) % operations_of(model);
 
-            waits_of_busy(model, c);
-            power_cycle_of(model, c);
+            waits_of_busy(model, c, operation);
+            power_cycle_of_busy(model, c, operation);
         }
     }
 }
@@ -145,12 +172,15 @@ static void longest_time(uint32_t model)
         struct condition c = enabled;
 
         jig_model(model);
-        given.record.chip_us = 1000000000;
+        given.record.sector_us = 1000000000;
         c.busy_us = 1000000000;
-        jig_state(c);
-        c.busy_us = waits[i] < 1000000000 ? 1 : 0;
-        c.wel = waits[i] < 1000000000 ? 1 : 0;
-        want_state(c);
+        jig_busy(c, 2, 0x3000);
+        if (waits[i] < 1000000000) {
+            c.busy_us = 1;
+            want_state(c);
+        } else {
+            want_finished(model, c);
+        }
         wait_gives(waits[i], 0, named("wait %lu of 1,000,000,000", (unsigned long)waits[i]));
     }
 }
@@ -172,14 +202,13 @@ static void each_time(uint32_t model)
         jig_frame(frames[i]);
         busy.busy_us = us_of(&r, given.frame[0]);
         want_state(busy);
-        want_cells(0, unit_of(model, given.frame[0]), given.frame[0] == 0x02 ? 0x00 : 0xFF);
         frame_gives(0, named("model %lu: %s under a record of long times", (unsigned long)model, frames[i]));
         jig_next();
         busy.busy_us -= 0x01020304;
         want_state(busy);
         wait_gives(0x01020304, 0, named("a wait after %s", frames[i]));
         jig_next();
-        want_state(power_on);
+        want_finished(model, busy);
         wait_gives(busy.busy_us, 0, named("the rest of the time after %s", frames[i]));
     }
 }

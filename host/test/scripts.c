@@ -126,7 +126,7 @@ static struct reply take_step(const struct step *s)
         break;
     case WAIT:
         to.answer = ref_wait(r->model, r->status_us, r->page_us, r->sector_us, r->block_us, r->chip_us, r->half_us,
-                             r->sleep_us, r->wake_us, r->sign_us, packed, sizeof packed, s->us);
+                             r->sleep_us, r->wake_us, r->sign_us, packed, sizeof packed, cells, CELLS, s->us);
         break;
     case POWER_CYCLE:
         to.answer = ref_power_cycle(r->model, r->status_us, r->page_us, r->sector_us, r->block_us, r->chip_us,
@@ -158,6 +158,7 @@ static void expect(void)
     static struct step s;
     unsigned long number = 0;
 
+    gwo_factory_state(packed);
     memset(cells, 0xFF, sizeof cells);
     printf("line\tanswer\tfrom\tbytes\tnote\n");
     while (next_line(&l)) {

@@ -85,16 +85,18 @@ static void any_frame_scene(void)
     put_frame(below(&dice, 2), chance(&dice, 60) ? 0 : below(&dice, 8), bytes, n);
 }
 
-/* Waits for a time, or one beside it; or tries something while the chip is busy or settles. */
+/* Waits for a time, or one beside it; or tries something while the chip is busy or settles, a power cycle among it. */
 static void put_wait_near(unsigned long us)
 {
     if (chance(&dice, 25)) {
         put_wait(us - 1);
-        put_text("F\t1\t0\t0500");
+        put_text(chance(&dice, 20) ? "P" : "F\t1\t0\t0500");
         any_frame_scene();
         put_wait(1);
         return;
     }
+    if (chance(&dice, 10))
+        put_text("P");
     if (chance(&dice, 20))
         any_frame_scene();
     put_wait(us + below(&dice, 2));

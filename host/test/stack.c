@@ -1,7 +1,7 @@
 /*
- * The deepest stack of gwo_frame, gwo_wait and gwo_power_cycle, over frames of every kind on each model.
- *   stack [FRAME WAIT POWER_CYCLE]
- * A call that takes more bytes than its limit is a failure. The limits are the archive's, or the three numbers.
+ * The deepest stack of gwo_frame, gwo_wait, gwo_power_cycle and gwo_cut, over calls of every kind on each model.
+ *   stack [FRAME WAIT POWER_CYCLE CUT]
+ * A call that takes more bytes than its limit is a failure. The limits are the archive's, or the four numbers.
  */
 #include "stack.h"
 
@@ -11,25 +11,35 @@
 #include <stdlib.h>
 #include <string.h>
 
-static const char *const names[KINDS] = {"gwo_frame", "gwo_wait", "gwo_power_cycle"};
+static const char *const names[KINDS] = {"gwo_frame", "gwo_wait", "gwo_power_cycle", "gwo_cut"};
 
 /* What the archive was measured to take, in bytes; it may take SPARE more. */
-static const size_t measured[KINDS] = {288, 160, 160};
+static const size_t measured[KINDS] = {384, 344, 184, 360};
 enum { SPARE = 16 };
 
 static size_t limits[KINDS], most[KINDS];
 
-static uint8_t array[GWO_MODEL_3_LENGTH], frame[GWO_FRAME_LIMIT], out[GWO_FRAME_LIMIT];
+static uint8_t array[GWO_MODEL_3_LENGTH], frame[GWO_FRAME_LIMIT], out[GWO_FRAME_LIMIT], pattern[GWO_MODEL_3_LENGTH];
 
 /* On an idle chip with WEL 1 and no other bit set. */
 static struct call call_on(uint32_t model, enum kind kind)
 {
     static const struct gwo_record *const records[] = {&gwo_bench_model_1, &gwo_bench_model_2, &gwo_bench_model_3};
-    struct call c = {.kind = kind, .state = {2}, .array = array, .out = out, .frame = frame, .wp = 1};
+    struct call c = {.kind = kind, .array = array, .out = out, .frame = frame, .pattern = pattern, .wp = 1};
 
+    gwo_factory_state(c.state);
+    c.state[0] = 2;
     c.record = *records[model - 1];
     c.array_len = gwo_array_length(model);
     return c;
+}
+
+/* Two microseconds before the end of an operation. */
+static void works(struct call *c, uint8_t command, uint32_t place)
+{
+    c->state[0] = 3;
+    put_us(c->state + BUSY_AT, 2);
+    put_operation(c->state, command, place);
 }
 
 /* What makes a call be answered by a number. */
@@ -42,7 +52,7 @@ static void spoil(struct call *c, uint32_t number)
     case 4: c->tail = 8; break;
     case 5: c->out_len -= 1; break;
     case 22: c->state[8] = 2; break; /* settling for two microseconds */
-    case 11: c->state[0] = 3, c->state[4] = 2; break; /* busy for two microseconds */
+    case 11: works(c, 0xC7, NOWHERE); break;
     case 12: c->state[1] = 1; break;
     case 14: c->tail = 1; break;
     case 15: c->state[0] = 0; break;
@@ -126,22 +136,56 @@ static void wakings(uint32_t model)
     }
 }
 
-/* Waits or power cycles of an idle, of a busy and of a settling chip: taken, and refused by 1 and 3. */
+/* No operation, the second of them of a chip that settles, and every operation; the last is model 3's. */
+static const struct { uint8_t command; uint32_t place; } chips[] = {
+    {NO_COMMAND, 0}, {NO_COMMAND, 1}, {0x01, 1}, {0x02, 0x1234}, {0x20, 0x1234}, {0x52, 0x1234}, {0xD8, 0x1234},
+    {0x60, NOWHERE}, {0xC7, NOWHERE}, {0x01, 2}};
+enum { CHIPS = sizeof chips / sizeof chips[0] };
+
+/* A call without a frame of such a chip; of a cut the pattern has the right length. */
+static struct call call_of(uint32_t model, enum kind kind, int chip)
+{
+    struct call c = call_on(model, kind);
+
+    if (chips[chip].command != NO_COMMAND)
+        works(&c, chips[chip].command, chips[chip].place);
+    else if (chips[chip].place > 0)
+        spoil(&c, 22);
+    if (kind == CUT)
+        c.pattern_len = chips[chip].command == 0x01 ? chips[chip].place : unit_of(model, chips[chip].command);
+    return c;
+}
+
+/* Whether a number can be the answer to the call. */
+static int can_be(enum kind kind, uint32_t number, int busy)
+{
+    switch (number) {
+    case 2: return kind != POWER_CYCLE;
+    case 11: return kind == POWER_CYCLE && busy;
+    case 23: return kind == CUT;
+    default: return number != 0 || kind != POWER_CYCLE || !busy;
+    }
+}
+
+/* Waits, power cycles or cuts: taken, a wait also to its operation's end and beyond it, and refused. */
 static void times(uint32_t model, enum kind kind)
 {
-    static const uint32_t numbers[] = {0, 1, 3}, chips[] = {0, 11, 22};
+    static const uint32_t numbers[] = {0, 1, 2, 3, 11, 23};
     int i, k;
 
-    for (i = 0; i < 3; i++) {
-        for (k = 0; k < 3; k++) {
-            struct call c = call_on(model, kind);
+    for (k = 0; k < CHIPS - (model == 3 ? 0 : 1); k++)
+        for (i = 0; i < 6; i++) {
+            struct call c = call_of(model, kind, k);
 
-            spoil(&c, chips[k]);
-            spoil(&c, numbers[i]);
-            for (c.us = 0; c.us <= 2; c.us++)
+            if (!can_be(kind, numbers[i], c.state[0] == 3))
+                continue;
+            if (numbers[i] == 23)
+                c.pattern_len += 1;
+            else if (numbers[i] != 11)
+                spoil(&c, numbers[i]);
+            for (c.us = 0; c.us <= (kind == WAIT ? 3 : 0); c.us++)
                 measure(&c, numbers[i]);
         }
-    }
 }
 
 int main(int argc, char **argv)
@@ -151,7 +195,7 @@ int main(int argc, char **argv)
 
     rig_begin("stack");
     if (argc != 1 && argc != 1 + KINDS) {
-        printf("usage: stack [FRAME WAIT POWER_CYCLE]\n");
+        printf("usage: stack [FRAME WAIT POWER_CYCLE CUT]\n");
         return 2;
     }
     for (k = 0; k < KINDS; k++)
@@ -161,10 +205,12 @@ int main(int argc, char **argv)
         wakings(model);
         times(model, WAIT);
         times(model, POWER_CYCLE);
+        times(model, CUT);
     }
     for (k = 0; k < KINDS; k++)
         printf("  %-15s %4lu bytes, at most %lu\n", names[k], (unsigned long)most[k], (unsigned long)limits[k]);
-    printf("stack: %lu calls, %lu failures; gwo_frame takes %lu bytes, gwo_wait %lu, gwo_power_cycle %lu\n", rig_calls,
-           failures(), (unsigned long)most[FRAME], (unsigned long)most[WAIT], (unsigned long)most[POWER_CYCLE]);
+    printf("stack: %lu calls, %lu failures; gwo_frame takes %lu bytes, gwo_wait %lu, gwo_power_cycle %lu, "
+           "gwo_cut %lu\n", rig_calls, failures(), (unsigned long)most[FRAME], (unsigned long)most[WAIT],
+           (unsigned long)most[POWER_CYCLE], (unsigned long)most[CUT]);
     return failures() == 0 ? 0 : 1;
 }

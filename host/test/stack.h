@@ -4,7 +4,7 @@
 
 #include "gwo.h"
 
-enum kind { FRAME, WAIT, POWER_CYCLE, KINDS };
+enum kind { FRAME, WAIT, POWER_CYCLE, CUT, KINDS };
 
 /* The arguments of a call. */
 struct call {
@@ -12,8 +12,8 @@ struct call {
     struct gwo_record record;
     uint8_t state[GWO_STATE_LENGTH];
     uint8_t *array, *out;
-    const uint8_t *frame;
-    size_t array_len, frame_len, out_len;
+    const uint8_t *frame, *pattern;
+    size_t array_len, frame_len, out_len, pattern_len;
     uint32_t tail, wp, us;
 };
 

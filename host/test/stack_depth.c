@@ -15,12 +15,14 @@ enum { ROOM = 65536 };
 frame_call empty_frame;
 wait_call empty_wait;
 power_cycle_call empty_power_cycle;
+cut_call empty_cut;
 
 /* What is called next: its arguments, who it is, and what it has answered. */
 static const struct call *now;
 static frame_call *called_frame;
 static wait_call *called_wait;
 static power_cycle_call *called_power_cycle;
+static cut_call *called_cut;
 static uint32_t answered;
 
 /* Lent to the call, which alters it. */
@@ -42,7 +44,8 @@ static void make_wait(void)
     const struct gwo_record *r = &now->record;
 
     answered = called_wait(r->model, r->status_us, r->page_us, r->sector_us, r->block_us, r->chip_us, r->half_us,
-                           r->sleep_us, r->wake_us, r->sign_us, state, sizeof state, now->us);
+                           r->sleep_us, r->wake_us, r->sign_us, state, sizeof state, now->array, now->array_len,
+                           now->us);
 }
 
 static void make_power_cycle(void)
@@ -53,10 +56,19 @@ static void make_power_cycle(void)
                                   r->half_us, r->sleep_us, r->wake_us, r->sign_us, state, sizeof state);
 }
 
+static void make_cut(void)
+{
+    const struct gwo_record *r = &now->record;
+
+    answered = called_cut(r->model, r->status_us, r->page_us, r->sector_us, r->block_us, r->chip_us, r->half_us,
+                          r->sleep_us, r->wake_us, r->sign_us, state, sizeof state, now->array, now->array_len,
+                          now->pattern, now->pattern_len);
+}
+
 /* From the top of the painted stack to the deepest byte that the call has written. */
 static size_t depth(uint8_t paint)
 {
-    static void (*const makes[KINDS])(void) = {make_frame, make_wait, make_power_cycle};
+    static void (*const makes[KINDS])(void) = {make_frame, make_wait, make_power_cycle, make_cut};
     static ucontext_t here, there;
     static struct lent stack;
     uint8_t *deepest;
@@ -95,10 +107,12 @@ size_t stack_of(const struct call *c, uint32_t *answer)
     called_frame = empty_frame;
     called_wait = empty_wait;
     called_power_cycle = empty_power_cycle;
+    called_cut = empty_cut;
     empty = deepest();
     called_frame = gwo_frame;
     called_wait = gwo_wait;
     called_power_cycle = gwo_power_cycle;
+    called_cut = gwo_cut;
     whole = deepest();
     *answer = answered;
     return whole - empty;

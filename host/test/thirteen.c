@@ -1,8 +1,9 @@
 /*
- * 01, "The twelve calls", and the wait after AB: on the three models, from every kind of valid state, at the
- * ends of pages, sectors, blocks and arrays. Every call is answered 0, the last drives the data, the rest of
- * the sector is FF and the rest of the array as it was. Then each of the five waits
- * is one microsecond shorter. With the argument `first` it stops at a failure.
+ * 01, "The twelve calls", and the wait after AB: on the three models, from every kind of valid state, with every
+ * operation running, at the ends of pages, sectors, blocks and arrays. Every call is answered 0, the last drives the
+ * data, the rest of the sector is FF and the rest of the array as it was after the first wait. Then each of the five
+ * waits is one microsecond shorter; and at last the power is cut before the calls. With the argument `first` it stops
+ * at a failure.
  */
 #include "thirteen.h"
 
@@ -29,15 +30,45 @@ static void place(struct run *r, unsigned turn)
 
 static unsigned turn;
 
-static void from_state(const struct gwo_record *record, unsigned status, unsigned asleep, uint32_t busy,
-                       uint32_t settling)
+/* A register for model 3, by turns. */
+static unsigned any_register(uint32_t model)
 {
     static const unsigned registers[] = {0x00, 0x08, 0xD3, 0xDB, 0x41};
+
+    return model == 3 ? registers[turn % 5] : 0;
+}
+
+static void from_state(const struct gwo_record *record, unsigned status, unsigned asleep, uint32_t settling)
+{
     struct run r;
 
     r.record = *record;
-    put_state(r.before, status, asleep, record->model == 3 ? registers[turn % 5] : 0, busy, settling);
+    put_state(r.before, status, asleep, any_register(record->model), 0, settling);
     place(&r, turn++);
+    run_all_ways(r);
+}
+
+/* Where an operation works, by turns: in the calls' page, in its sector or the next, anywhere. */
+static uint32_t near(const struct run *r, struct dice *dice)
+{
+    uint32_t at = turn % 3 == 0 ? r->address : turn % 3 == 1 ? r->address + 0x800 : below(dice, 0x1000000);
+
+    return at % (uint32_t)gwo_array_length(r->record.model);
+}
+
+/* Busy with an operation; of a status write the count of its data bytes is given. Its data are any. */
+static void from_work(const struct gwo_record *record, unsigned status, uint8_t command, uint32_t count, uint32_t busy)
+{
+    static struct dice dice = {13};
+    int whole = command == 0x60 || command == 0xC7;
+    struct run r;
+
+    r.record = *record;
+    place(&r, turn++);
+    put_state(r.before, status + 2, 0, any_register(record->model), busy, 0);
+    put_operation(r.before, command, count > 0 ? count : whole ? NOWHERE : near(&r, &dice));
+    if (command == 0x01 || command == 0x02)
+        scatter(&dice, r.before + DATA_AT, count > 0 ? count : 256);
     run_all_ways(r);
 }
 
@@ -49,17 +80,32 @@ static unsigned kept_bits(uint32_t model, unsigned kept)
     return kept / 4 * 128 + (model == 3 ? (5 * kept + step++ / 8) % 16 : kept % 4) * 4;
 }
 
-/* Busy with times around each of the record's. */
+/* 16 MiB at a time take theirs: of model 3's chip erases there are few, the first under the bench record. */
+static int too_many(const struct gwo_record *r, uint8_t command)
+{
+    static unsigned chip_erases;
+
+    return r->model == 3 && (command == 0x60 || command == 0xC7) && chip_erases++ % 113 != 0;
+}
+
+/* Busy with each of the operations: its last microsecond, and all of its time or one less. */
 static void busy_states(const struct gwo_record *r, unsigned status)
 {
-    const uint32_t most = longest_busy(r);
-    const uint32_t busy[] = {1, r->status_us, r->page_us, r->sector_us, r->block_us, r->chip_us, r->half_us,
-                             most - 1, most};
-    size_t i;
+    static const struct { uint8_t command; uint32_t count; } kinds[] = {
+        {0x01, 1}, {0x02, 0}, {0x20, 0}, {0x52, 0}, {0xD8, 0}, {0x60, 0}, {0xC7, 0}, {0x01, 2}};
+    size_t i, n = r->model == 3 ? 8 : 7;
 
-    for (i = 0; i < sizeof busy / sizeof busy[0]; i++)
-        if (busy[i] > 0)
-            from_state(r, status + 2, 0, busy[i], 0);
+    for (i = 0; i < n; i++) {
+        uint32_t us = us_of(r, kinds[i].command);
+
+        if (too_many(r, kinds[i].command))
+            continue;
+        from_work(r, status, kinds[i].command, kinds[i].count, us);
+        if (turn % 2 == 0)
+            from_work(r, status, kinds[i].command, kinds[i].count, us > 1 ? us - 1 : 1);
+        else
+            from_work(r, status, kinds[i].command, kinds[i].count, 1);
+    }
 }
 
 /* Settling with each of the record's three times and one less, awake and asleep, WEL 0 and 1. */
@@ -71,7 +117,7 @@ static void settling_states(const struct gwo_record *r, unsigned status)
 
     for (i = 0; i < sizeof settling / sizeof settling[0]; i++)
         for (asleep = 0; asleep < 2 && settling[i] > 0; asleep++)
-            from_state(r, status + turn / 2 % 2 * 2, asleep, 0, settling[i]);
+            from_state(r, status + turn / 2 % 2 * 2, asleep, settling[i]);
 }
 
 /* Every idle state, busy ones and settling ones. */
@@ -83,7 +129,7 @@ static void every_state(const struct gwo_record *r)
         unsigned status = kept_bits(r->model, kept);
 
         for (low = 0; low < 4; low++)
-            from_state(r, status + low / 2 * 2, low % 2, 0, 0);
+            from_state(r, status + low / 2 * 2, low % 2, 0);
         busy_states(r, status);
         settling_states(r, status);
     }

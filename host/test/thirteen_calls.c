@@ -1,20 +1,29 @@
-/* The thirteen calls: what each is answered, and what it leaves in the state, the output and the array. */
+/*
+ * The thirteen calls: what each is answered, and what it leaves in the state, the output and the array. The array that
+ * counts is the one after the first wait, which may end what the chip was doing.
+ */
 #include "thirteen.h"
 
 #include <string.h>
 
-enum { STATE = GWO_STATE_LENGTH, SECTOR = 4096, MOST_FRAME = 4 + 256, UNSET = 0x77777777 };
+enum { STATE = GWO_STATE_LENGTH, PAGE = 256, SECTOR = 4096, MOST_FRAME = 4 + PAGE, UNSET = 0x77777777 };
 
-/* SRWD and BP in the status byte. */
-enum { KEPT = 0xBC };
+/* SRWD and BP in the status byte; TB in the register. */
+enum { KEPT = 0xBC, TB = 0x08 };
 
 unsigned long runs;
 
-static struct lent lent_state, lent_frame, lent_out, lent_numbers;
+static struct lent lent_state, lent_frame, lent_out, lent_numbers, lent_pattern;
 static uint8_t *array;
 static uint8_t cells_before[GWO_MODEL_3_LENGTH], cells_wanted[GWO_MODEL_3_LENGTH];
 static const struct run *now;
 static int call_number;
+
+/* SRWD, BP and WEL, and the register, after the first wait. */
+static unsigned status_then, config_then;
+
+/* The operation that runs while the chip is busy, as the state has it. */
+static uint8_t running[STATE];
 
 void put_state(uint8_t *p, unsigned status, unsigned asleep, unsigned config, uint32_t busy, uint32_t settling)
 {
@@ -24,17 +33,18 @@ void put_state(uint8_t *p, unsigned status, unsigned asleep, unsigned config, ui
     p[2] = (uint8_t)config;
     put_us(p + BUSY_AT, busy);
     put_us(p + SETTLING_AT, settling);
+    put_operation(p, NO_COMMAND, NOWHERE);
 }
 
 static void wrong(const char *what, unsigned long got, unsigned long want)
 {
     const uint8_t *s = now->before;
 
-    fail("model %lu, state %02X %02X %02X busy %lu settling %lu, address %06lX, %lu bytes, wait %d shorter: "
-         "call %d: %s %lX, want %lX",
+    fail("model %lu, state %02X %02X %02X busy %lu settling %lu, %02X at %06lX, address %06lX, %lu bytes, "
+         "wait %d shorter, cut %d: call %d: %s %lX, want %lX",
          (unsigned long)now->record.model, s[0], s[1], s[2], (unsigned long)get_us(s + BUSY_AT),
-         (unsigned long)get_us(s + SETTLING_AT), (unsigned long)now->address, (unsigned long)now->n, now->shorter,
-         call_number, what, got, want);
+         (unsigned long)get_us(s + SETTLING_AT), s[COMMAND_AT], (unsigned long)get_place(s),
+         (unsigned long)now->address, (unsigned long)now->n, now->shorter, now->cut, call_number, what, got, want);
 }
 
 static void wrong_bytes(const char *what, const uint8_t *got, const uint8_t *want, size_t n)
@@ -48,13 +58,20 @@ static void wrong_bytes(const char *what, const uint8_t *got, const uint8_t *wan
     wrong(what, got[i], want[i]);
 }
 
-/* The register stays: a status write of one data byte does not touch it. */
-static void state_is(unsigned status, unsigned asleep, uint32_t busy, uint32_t settling)
+static void state_with(unsigned config, unsigned status, unsigned asleep, uint32_t busy, uint32_t settling)
 {
     uint8_t want[STATE];
 
-    put_state(want, status, asleep, now->before[2], busy, settling);
+    put_state(want, status, asleep, config, busy, settling);
+    if (busy > 0)
+        memcpy(want + COMMAND_AT, running + COMMAND_AT, STATE - COMMAND_AT);
     wrong_bytes("the state has", last_of(&lent_state, STATE), want, STATE);
+}
+
+/* The register stays: a status write of one data byte does not touch it. */
+static void state_is(unsigned status, unsigned asleep, uint32_t busy, uint32_t settling)
+{
+    state_with(config_then, status, asleep, busy, settling);
 }
 
 /* A frame with WP# high and no tail; it drives count bytes from position 4, or nothing, and never folds. */
@@ -89,7 +106,8 @@ static void wait_for(uint32_t us)
 
     call_number++;
     rig_calls++;
-    got = gwo_record_wait(&now->record, last_of(&lent_state, STATE), STATE, us - (now->shorter == call_number));
+    got = gwo_record_wait(&now->record, last_of(&lent_state, STATE), STATE, array,
+                          gwo_array_length(now->record.model), us - (now->shorter == call_number));
     if (got != 0)
         wrong("the answer is", got, 0);
 }
@@ -107,25 +125,17 @@ static size_t addressed(uint8_t *frame, uint8_t command, const uint8_t *bytes, s
 
 static const uint8_t write_enable[] = {0x06};
 
-/* 06, which a wait that was one short refuses with 11, the chip as it was. */
-static int enabled_after(int wait)
+/* 06, which a wait that was one short refuses with 11, the chip as it was: the status bits are the given ones. */
+static int enabled_after(int wait, unsigned kept)
 {
     int busy = now->shorter == wait;
 
     frame_answers(busy ? 11 : 0, write_enable, 1, NULL, 0);
     if (busy)
-        state_is(2, 0, 1, 0);
+        state_is(kept + 2, 0, 1, 0);
     else
         state_is(2, 0, 0, 0);
     return !busy;
-}
-
-/* SRWD, BP and WEL after the first wait. */
-static unsigned status_then(void)
-{
-    unsigned latch = get_us(now->before + BUSY_AT) > 0 ? 0 : now->before[0] & 2;
-
-    return (now->before[0] & (unsigned)KEPT) + latch;
 }
 
 /* What AB is answered after the first wait: one short, 11 or 22 where the chip had the whole of it left. */
@@ -138,12 +148,35 @@ static uint32_t refusal_then(void)
     return get_us(now->before + BUSY_AT) == most ? 11 : get_us(now->before + SETTLING_AT) == most ? 22 : 0;
 }
 
-/* The state between the first wait and AB, and after AB where that is refused. */
-static void state_is_waited(uint32_t refusal)
+/* The end of what the chip was doing: its cells, or its bits of the registers. */
+static void finish(void)
 {
-    unsigned status = refusal == 11 ? now->before[0] & ~1u : status_then();
+    const uint8_t *data = running + DATA_AT;
+    uint32_t model = now->record.model, place = get_place(running), k;
+    uint8_t command = running[COMMAND_AT], *unit = cells_wanted + unit_start(model, command, place);
 
-    state_is(status, now->before[1], refusal == 11, refusal == 22);
+    if (command == 0x01) {
+        status_then = data[0] & (model == 3 ? 0xBC : 0x8C);
+        if (place == 2)
+            config_then = (data[1] & 0xD3) | ((config_then | data[1]) & TB);
+    } else if (command == 0x02) {
+        for (k = 0; k < PAGE; k++)
+            unit[k] &= data[k];
+    } else {
+        memset(unit, 0xFF, unit_of(model, command));
+    }
+}
+
+/* The first wait, if it is long enough, ends the operation, and WEL clears. */
+static void expect_then(uint32_t refusal)
+{
+    memcpy(running, now->before, STATE);
+    status_then = now->before[0] & (unsigned)(KEPT + 2);
+    config_then = now->before[2];
+    if (get_us(now->before + BUSY_AT) == 0 || refusal == 11)
+        return;
+    status_then &= KEPT;
+    finish();
 }
 
 /* Calls 1 to 3: the longest wait, AB and its wait. */
@@ -152,14 +185,15 @@ static int wake_up(void)
     static const uint8_t wake[] = {0xAB};
     uint32_t refusal = refusal_then();
 
+    expect_then(refusal);
     wait_for(longest(&now->record));
-    state_is_waited(refusal);
+    state_is(status_then, now->before[1], refusal == 11, refusal == 22);
     frame_answers(refusal, wake, 1, NULL, 0);
     if (refusal != 0) {
-        state_is_waited(refusal);
+        state_is(status_then, now->before[1], refusal == 11, refusal == 22);
         return 0;
     }
-    state_is(status_then(), 0, 0, now->before[1] ? now->record.wake_us : 0);
+    state_is(status_then, 0, 0, now->before[1] ? now->record.wake_us : 0);
     wait_for(now->record.wake_us);
     return 1;
 }
@@ -171,50 +205,61 @@ static int enabled_first(void)
 
     frame_answers(settling ? 22 : 0, write_enable, 1, NULL, 0);
     if (settling)
-        state_is(status_then(), 0, 0, 1);
+        state_is(status_then, 0, 0, 1);
     else
-        state_is((now->before[0] & (unsigned)KEPT) + 2, 0, 0, 0);
+        state_is(status_then | 2, 0, 0, 0);
     return !settling;
 }
 
-/* Calls 5 and 6: 01 00 and its wait. */
+/* Calls 5 and 6: 01 00 and its wait, until which the old bits stay. */
 static void unprotect(void)
 {
     static const uint8_t status_00[] = {0x01, 0x00};
 
     frame_answers(0, status_00, 2, NULL, 0);
-    state_is(2, 0, now->record.status_us, 0);
+    put_operation(running, 0x01, 1);
+    running[DATA_AT] = 0x00;
+    state_is(status_then | 2, 0, now->record.status_us, 0);
     wait_for(now->record.status_us);
+}
+
+/* The address in the array. */
+static uint32_t inside(void)
+{
+    return now->address % (uint32_t)gwo_array_length(now->record.model);
 }
 
 /* Calls 8 and 9: the erase and its wait. */
 static void erase(void)
 {
-    uint32_t inside = now->address % (uint32_t)gwo_array_length(now->record.model);
     uint8_t frame[4];
 
     frame_answers(0, frame, addressed(frame, 0x20, NULL, 0), NULL, 0);
+    put_operation(running, 0x20, inside());
     state_is(2, 0, now->record.sector_us, 0);
-    memset(cells_wanted + inside / SECTOR * SECTOR, 0xFF, SECTOR);
     wait_for(now->record.sector_us);
+    if (now->shorter != 9)
+        memset(cells_wanted + inside() / SECTOR * SECTOR, 0xFF, SECTOR);
 }
 
 /* Calls 11 and 12: the program and its wait. */
 static void program(void)
 {
-    uint32_t inside = now->address % (uint32_t)gwo_array_length(now->record.model);
     uint8_t frame[MOST_FRAME];
 
     frame_answers(0, frame, addressed(frame, 0x02, now->bytes, now->n), NULL, 0);
+    put_operation(running, 0x02, inside());
+    memcpy(running + DATA_AT + inside() % PAGE, now->bytes, now->n);
     state_is(2, 0, now->record.page_us, 0);
-    memcpy(cells_wanted + inside, now->bytes, now->n);
     wait_for(now->record.page_us);
+    if (now->shorter != 12)
+        memcpy(cells_wanted + inside(), now->bytes, now->n);
 }
 
 /* Call 13: the data come back. */
 static void read_back(void)
 {
-    uint8_t frame[MOST_FRAME], zeros[256];
+    uint8_t frame[MOST_FRAME], zeros[PAGE];
     int busy = now->shorter == 12;
     size_t n;
 
@@ -232,13 +277,34 @@ static void thirteen_calls(void)
     if (!wake_up() || !enabled_first())
         return;
     unprotect();
-    if (!enabled_after(6))
+    if (!enabled_after(6, status_then & KEPT))
         return;
     erase();
-    if (!enabled_after(9))
+    if (!enabled_after(9, 0))
         return;
     program();
     read_back();
+}
+
+/*
+ * The power is cut, with any pattern: what it leaves in the unit is taken as it is, and outside of it nothing changes.
+ * The run goes on from the state that is left.
+ */
+static void cut(struct run *r)
+{
+    uint8_t command = r->before[COMMAND_AT], *state = last_of(&lent_state, STATE);
+    size_t unit = unit_of(r->record.model, command), n = command == 0x01 ? get_place(r->before) : unit;
+    size_t at = unit_start(r->record.model, command, get_place(r->before));
+    uint32_t got;
+
+    rig_calls++;
+    got = gwo_record_cut(&r->record, state, STATE, array, gwo_array_length(r->record.model),
+                         last_of(&lent_pattern, n), n);
+    if (got != 0)
+        wrong("the answer to a cut is", got, 0);
+    state_with(state[2] & TB, state[0] & (unsigned)KEPT, 0, 0, 0);
+    memcpy(r->before, state, STATE);
+    memcpy(cells_wanted + at, array + at, unit);
 }
 
 /* Puts back the cells that a run changed: its sector, or all when something went wrong. */
@@ -248,22 +314,37 @@ static void put_back(size_t at, size_t n)
     memcpy(cells_wanted + at, cells_before + at, n);
 }
 
-static void run_once(const struct run *r)
+/* Around the calls' address and, where that is not enough, around the unit of what was running. */
+static void same_cells(size_t at, size_t unit)
 {
-    size_t size = gwo_array_length(r->record.model), inside = r->address % size;
-    struct stretch s = around(inside, size);
+    size_t size = gwo_array_length(now->record.model);
+    struct stretch s = around(inside(), size), other = around(at, size);
+
+    if (unit == size)
+        s.low = 0, s.high = size;
+    wrong_bytes("a cell is", array + s.low, cells_wanted + s.low, s.high - s.low);
+    if (other.low < s.low || other.high > s.high)
+        wrong_bytes("a cell is", array + other.low, cells_wanted + other.low, other.high - other.low);
+}
+
+static void run_once(struct run r)
+{
+    size_t size = gwo_array_length(r.record.model), unit = unit_of(r.record.model, r.before[COMMAND_AT]);
+    size_t at = unit_start(r.record.model, r.before[COMMAND_AT], get_place(r.before));
     unsigned long before = failures();
 
-    now = r;
+    now = &r;
     call_number = 0;
     runs++;
-    memcpy(last_of(&lent_state, STATE), r->before, STATE);
+    memcpy(last_of(&lent_state, STATE), r.before, STATE);
+    if (r.cut)
+        cut(&r);
     thirteen_calls();
-    wrong_bytes("a cell is", array + s.low, cells_wanted + s.low, s.high - s.low);
-    if (failures() == before)
-        put_back(inside / SECTOR * SECTOR, SECTOR);
-    else
-        put_back(0, size);
+    same_cells(at, unit);
+    if (failures() != before)
+        at = 0, unit = size;
+    put_back(inside() / SECTOR * SECTOR, SECTOR);
+    put_back(at, unit);
 }
 
 void lend_array(uint32_t model)
@@ -276,6 +357,8 @@ void lend_array(uint32_t model)
         lent_frame = lend(MOST_FRAME);
         lent_out = lend(MOST_FRAME);
         lent_numbers = lend(NUMBERS);
+        lent_pattern = lend(GWO_MODEL_3_LENGTH);
+        scatter(&dice, lent_pattern.start, GWO_MODEL_3_LENGTH);
     }
     array = lend(size).start;
     scatter(&dice, cells_before, size);
@@ -292,10 +375,14 @@ void all_put_back(uint32_t model)
 void run_all_ways(struct run r)
 {
     static const int shorter[] = {0, 1, 3, 6, 9, 12};
-    size_t i;
+    size_t i, ways = unit_of(r.record.model, r.before[COMMAND_AT]) < GWO_MODEL_3_LENGTH ? 6 : 2;
 
-    for (i = 0; i < sizeof shorter / sizeof shorter[0]; i++) {
+    r.cut = 0;
+    for (i = 0; i < ways; i++) {
         r.shorter = shorter[i];
-        run_once(&r);
+        run_once(r);
     }
+    r.cut = 1;
+    r.shorter = 0;
+    run_once(r);
 }

@@ -3,7 +3,7 @@ use mathlib.Core.Bool.{Bool}
 use Prim.Native.Nat.{ℕ}
 use lib.Dec.{eqb}
 use Rattle.answers.specs.declared.Answer.{Answer}
-use Rattle.answers.specs.declared.Answer.the-variants.{Done, BadRecord, BadArray, BadState, BadFrame, ShortOut, Empty, Settling, Busy, Asleep, NoCommand, BadLength, NotEnabled, Locked, Protected}
+use Rattle.answers.specs.declared.Answer.the-variants.{Done, BadRecord, BadArray, BadState, BadFrame, ShortOut, Empty, Settling, Busy, Asleep, NoCommand, BadLength, NotEnabled, Locked, Protected, BadPattern}
 
 abbrev pub numberOf : Answer → ℕ
 numberOf Done = 0
@@ -21,6 +21,7 @@ numberOf NotEnabled = 15
 numberOf Locked = 16
 numberOf Protected = 17
 numberOf Settling = 22
+numberOf BadPattern = 23
 
 -- nothing was refused
 abbrev pub isDone : Answer → Bool

@@ -12,6 +12,7 @@ pub enum Answer {
     ShortOut,
     Empty,
     Settling,
+    BadPattern,
     Busy,
     Asleep,
     NoCommand,
@@ -41,6 +42,7 @@ pub fn number_of(a: Answer) -> u32
         Answer::Locked => 16,
         Answer::Protected => 17,
         Answer::Settling => 22,
+        Answer::BadPattern => 23,
     }
 }
 

@@ -5,7 +5,7 @@ use mathlib.Core.List.{List, [], _∷_, _++_}
 use mathlib.Core.Logic.{⊎-elim}
 use Prim.Native.Nat.{ℕ, suc, _+_, _-_, _≤_, _<_}
 use native.Mathlib.Omega.{arith}
-use lib.Dec.{leb, ltb, lit≤, eqb·suc-zero}
+use lib.Dec.{eqb, leb, ltb, lit≤, eqb·suc-zero}
 use lib.ListN.{length, getD, drop, replicate}
 use borrow.Author.Tests.{eq-eqb, ne-eqb, le-ltb, leb-true}
 use Rattle.units.specs.declared.Address.{Address}
@@ -19,7 +19,7 @@ use Rattle.commands.specs.Commands.{decodeOf, traitsOf, lengthOk}
 use Rattle.commands.specs.declared.Command.{Command}
 use Rattle.commands.specs.declared.Command.the-variants.{EraseHalf, Read, Program, WriteStatus}
 use Rattle.commands.proofs.Rows.{between, least-on, one-byte-write}
-use Rattle.states.specs.States.{recordOk, stateOk, tbOf}
+use Rattle.states.specs.States.{recordOk, stateOk, pageOk, noAddress, tbOf, Chip, chipOf}
 use Rattle.states.specs.declared.Record.{Record}
 use Rattle.states.specs.declared.State.{State}
 use Rattle.answers.specs.declared.Answer.{Answer}
@@ -28,16 +28,18 @@ use Rattle.states.proofs.States.{sound, valid}
 use Rattle.ladder.specs.Ladder.{ladder, refusalOf, asks}
 use Rattle.ladder.specs.declared.Head.{Head}
 use Rattle.ladder.proofs.Passed.{Clear, unrefused}
-use Rattle.time.specs.declared.After.{After}
-use Rattle.effects.specs.Effects.{Effect, stateOnly, changed, shown, drives, latched, dozing, written, writeEnable, writeStatus, eraseSector, eraseHalf, eraseBlock, eraseChip, programPage, readFrom, wake, configAfter, wakingTime, sleep}
-use Rattle.chip.specs.Frames.{Chip, Sent, chipOf, headFor, headOf, acceptedOf, refusedOf, frameOf}
-use Rattle.time.specs.Time.{later, ifValid, waitOf}
-use Rattle.calls.specs.Calls.{Call, sends, waits, cycles, ours, left, after, answer, run, answers, Bench, Roomy, frame}
-use Rattle.calls.proofs.Valid.{call-sound, call-length}
+use Rattle.commands.specs.declared.Operation.the-variants.{ErasesSector, ErasesHalf, ErasesBlock, ErasesChip}
+use Rattle.effects.specs.Effects.{Effect, stateOnly, turned, started, shown, drives, latched, dozing, writeEnable, writeStatus, eraseStarts, programPage, readFrom, wake, wakingTime, sleep}
+use Rattle.chip.specs.Frames.{Sent, headFor, headOf, acceptedOf, refusedOf, frameOf}
+use Rattle.time.specs.Time.{Aftermath, later, waited, waitOf}
+use Rattle.time.proofs.Time.{Fit, fit-taken}
+use Rattle.operations.specs.Operations.{finished}
+use Rattle.calls.specs.Calls.{Call, sends, waits, cycles, cuts, ours, left, after, answer, run, answers, Bench, Roomy, frame}
+use Rattle.calls.proofs.Valid.{call-fine, call-length}
 
 -- a busy chip does not settle
 busy-settled : (rec : Record) (x : Chip) → Bench rec x → 0 < x .state .busy → x .state .settle ≡ 0
-busy-settled rec x b busy = ⊎-elim (λ z. absurd (omega arith)) (λ q. q .1) (sound rec (x .state) (b .valid) .mood)
+busy-settled rec x b busy = ⊎-elim (λ z. absurd (omega (arith, z .idle))) (λ q. q .settled) (sound rec (x .state) (b .valid) .mood)
 
 -- ---- a frame on a bench
 module _ (rec : Record) (x : Chip) (b : Bench rec x) (f : Sent) where
@@ -50,8 +52,9 @@ module _ (rec : Record) (x : Chip) (b : Bench rec x) (f : Sent) where
   unfolding frameOf refusalOf headFor
   taken l t r c =
       let long : (ltb 65541 (length (f .bytes)) || ltb 7 (f .tail)) ≡ false = rw (le-ltb 65541 (length (f .bytes)) l, le-ltb 7 (f .tail) t) in
+      let valid-page : (stateOk rec (x .state) && pageOk (rec .model) (x .state) (x .page)) ≡ true = rw (b .valid, b .page) in
       rw (unrefused (ladder rec (x .state) h (asks rec h))
-      (ap not (b .right), (ap not (eq-eqb (length (x .cells)) (modelOf (rec .model) .length) (b .whole)), (ap not (b .valid), (long, (le-ltb (length (f .out)) (length (f .bytes)) r, c))))))
+      (ap not (b .right), (ap not (eq-eqb (length (x .cells)) (modelOf (rec .model) .length) (b .whole)), (ap not valid-page, (long, (le-ltb (length (f .out)) (length (f .bytes)) r, c))))))
 
   -- on a busy chip it is answered 11, unless its command is taken while busy
   busy-refusal : 0 < x .state .busy → 0 < length (f .bytes) → length (f .bytes) ≤ 65541 → f .tail ≤ 7 → Roomy f
@@ -62,6 +65,7 @@ module _ (rec : Record) (x : Chip) (b : Bench rec x) (f : Sent) where
         b .right,
         eq-eqb (length (x .cells)) (modelOf (rec .model) .length) (b .whole),
         b .valid,
+        b .page,
         le-ltb 65541 (length (f .bytes)) l,
         le-ltb 7 (f .tail) t,
         le-ltb (length (f .out)) (length (f .bytes)) r,
@@ -79,6 +83,7 @@ module _ (rec : Record) (x : Chip) (b : Bench rec x) (f : Sent) where
         b .right,
         eq-eqb (length (x .cells)) (modelOf (rec .model) .length) (b .whole),
         b .valid,
+        b .page,
         le-ltb 65541 (length (f .bytes)) l,
         le-ltb 7 (f .tail) t,
         le-ltb (length (f .out)) (length (f .bytes)) r,
@@ -128,7 +133,7 @@ tests a q b c d e f g h = (a, (q, (b, (c, (d, (e, (f, (g, (h, tt)))))))))
 
 -- ---- the frames of the list
 module _ (rec : Record) (x : Chip) (b : Bench rec x) (z : x .state .busy ≡ 0) (q : x .state .settle ≡ 0) (out : List ℕ) where
-  pub wake-taken : 1 ≤ length out → frameOf rec x (frame (0xAB ∷ []) out) ≡ stateOnly Done (dozing (x .state) false (cond (x .state .asleep) (rec .wake) 0)) (x .cells) out
+  pub wake-taken : 1 ≤ length out → frameOf rec x (frame (0xAB ∷ []) out) ≡ stateOnly Done (dozing (x .state) false (cond (x .state .asleep) (rec .wake) 0)) (x .page) out
   unfolding acceptedOf decodeOf traitsOf headFor lengthOk wake wakingTime drives
   wake-taken r =
       taken rec x b (frame (0xAB ∷ []) out) (lit≤ tt) (lit≤ tt) r
@@ -136,41 +141,40 @@ module _ (rec : Record) (x : Chip) (b : Bench rec x) (z : x .state .busy ≡ 0) 
       ∙ rw (lay-none out 4)
 
   pub sign-taken : 5 ≤ length out → frameOf rec x (frame (0xAB ∷ 0 ∷ 0 ∷ 0 ∷ 0 ∷ []) out)
-      ≡ shown (x .cells) (wake rec (x .state) (0xAB ∷ 0 ∷ 0 ∷ 0 ∷ 0 ∷ []) out)
+      ≡ shown (x .page) (wake rec (x .state) (0xAB ∷ 0 ∷ 0 ∷ 0 ∷ 0 ∷ []) out)
   unfolding acceptedOf decodeOf traitsOf headFor lengthOk
   sign-taken r =
       taken rec x b (frame (0xAB ∷ 0 ∷ 0 ∷ 0 ∷ 0 ∷ []) out) (lit≤ tt) (lit≤ tt) r
       (tests refl (rw (eq-eqb (x .state .settle) 0 q)) (rw (eq-eqb (x .state .busy) 0 z)) (and-false (x .state .asleep)) refl refl refl refl refl)
 
   pub sleep-taken : x .state .asleep ≡ false → 1 ≤ length out
-      → frameOf rec x (frame (0xB9 ∷ []) out) ≡ stateOnly Done (dozing (x .state) true (rec .sleep)) (x .cells) out
+      → frameOf rec x (frame (0xB9 ∷ []) out) ≡ stateOnly Done (dozing (x .state) true (rec .sleep)) (x .page) out
   unfolding acceptedOf sleep decodeOf traitsOf headFor lengthOk
   sleep-taken a r =
       taken rec x b (frame (0xB9 ∷ []) out) (lit≤ tt) (lit≤ tt) r
       (tests refl (rw (eq-eqb (x .state .settle) 0 q)) (rw (eq-eqb (x .state .busy) 0 z)) (rw a) refl refl refl refl refl)
 
   pub enable-taken : x .state .asleep ≡ false → 1 ≤ length out
-      → frameOf rec x (frame (0x06 ∷ []) out) ≡ stateOnly Done (latched (x .state) true) (x .cells) out
+      → frameOf rec x (frame (0x06 ∷ []) out) ≡ stateOnly Done (latched (x .state) true) (x .page) out
   unfolding acceptedOf writeEnable decodeOf traitsOf headFor lengthOk
   enable-taken a r =
       taken rec x b (frame (0x06 ∷ []) out) (lit≤ tt) (lit≤ tt) r
       (tests refl (rw (eq-eqb (x .state .settle) 0 q)) (rw (eq-eqb (x .state .busy) 0 z)) (rw a) refl refl refl refl refl)
 
   pub write-taken : (v : ℕ) → x .state .asleep ≡ false → x .state .wel ≡ true → 2 ≤ length out
-      → frameOf rec x (frame (0x01 ∷ v ∷ []) out) ≡ stateOnly Done (written (rec .model) (x .state) v (x .state .config) (rec .«status_write»)) (x .cells) out
-  unfolding acceptedOf writeStatus configAfter decodeOf traitsOf headFor
+      → frameOf rec x (frame (0x01 ∷ v ∷ []) out) ≡ started out (writeStatus rec (x .state) (x .page) (0x01 ∷ v ∷ []))
+  unfolding acceptedOf decodeOf traitsOf headFor
   write-taken v a w r =
       let has = modelOf (rec .model) .register in
       taken rec x b (frame (0x01 ∷ v ∷ []) out) (lit≤ tt) (lit≤ tt) r
       (tests refl (rw (eq-eqb (x .state .settle) 0 q)) (rw (eq-eqb (x .state .busy) 0 z)) (rw a) refl (ap not (between (traitsOf has WriteStatus) 2 (lit≤ tt) (one-byte-write has))) (rw w) (and-false (x .state .srwd)) refl)
-      ∙ rw (and-false has)
 
   module _ (high middle low : ℕ) where
     abbrev pub to : Address
     to = addressOf (rec .model) high middle low
 
     pub erase-taken : x .state .asleep ≡ false → x .state .wel ≡ true → x .state .bp ≡ 0 → 4 ≤ length out
-        → frameOf rec x (frame (0x20 ∷ high ∷ middle ∷ low ∷ []) out) ≡ changed out (eraseSector rec (x .state) (x .cells) to)
+        → frameOf rec x (frame (0x20 ∷ high ∷ middle ∷ low ∷ []) out) ≡ turned (x .page) out (eraseStarts rec (x .state) ErasesSector (to .0) (0x20 ∷ high ∷ middle ∷ low ∷ []))
     unfolding acceptedOf decodeOf traitsOf headFor lengthOk tbOf
     erase-taken a w p r =
         taken rec x b (frame (0x20 ∷ high ∷ middle ∷ low ∷ []) out) (lit≤ tt) (lit≤ tt) r
@@ -179,7 +183,7 @@ module _ (rec : Record) (x : Chip) (b : Bench rec x) (z : x .state .busy ≡ 0) 
     pub program-taken : (sent : List ℕ) → x .state .asleep ≡ false → x .state .wel ≡ true → x .state .bp ≡ 0
         → 1 ≤ length sent → 4 + length sent ≤ 65541 → Roomy (frame (0x02 ∷ high ∷ middle ∷ low ∷ sent) out)
         → frameOf rec x (frame (0x02 ∷ high ∷ middle ∷ low ∷ sent) out)
-        ≡ changed out (programPage rec (x .state) (x .cells) to (0x02 ∷ high ∷ middle ∷ low ∷ sent))
+        ≡ started out (programPage rec (x .state) (x .page) to (0x02 ∷ high ∷ middle ∷ low ∷ sent))
     unfolding acceptedOf decodeOf traitsOf headFor lengthOk tbOf
     program-taken sent a w p n l r =
         taken rec x b (frame (0x02 ∷ high ∷ middle ∷ low ∷ sent) out) (omega arith) (lit≤ tt) r
@@ -188,7 +192,7 @@ module _ (rec : Record) (x : Chip) (b : Bench rec x) (z : x .state .busy ≡ 0) 
 
     pub read-taken : (more : List ℕ) → x .state .asleep ≡ false → 4 + length more ≤ 65541 → Roomy (frame (0x03 ∷ high ∷ middle ∷ low ∷ more) out)
         → frameOf rec x (frame (0x03 ∷ high ∷ middle ∷ low ∷ more) out)
-        ≡ shown (x .cells) (readFrom 4 (x .state) (x .cells) to (0x03 ∷ high ∷ middle ∷ low ∷ more) out)
+        ≡ shown (x .page) (readFrom 4 (x .state) (x .cells) to (0x03 ∷ high ∷ middle ∷ low ∷ more) out)
     unfolding acceptedOf decodeOf traitsOf headFor lengthOk
     read-taken more a l r =
         taken rec x b (frame (0x03 ∷ high ∷ middle ∷ low ∷ more) out) (omega arith) (lit≤ tt) r
@@ -196,7 +200,7 @@ module _ (rec : Record) (x : Chip) (b : Bench rec x) (z : x .state .busy ≡ 0) 
 
     -- the other operations, for a chip that waits too short a time after them
     pub half-taken : modelOf (rec .model) .«half_erase» ≡ true → x .state .asleep ≡ false → x .state .wel ≡ true → x .state .bp ≡ 0 → 4 ≤ length out
-        → frameOf rec x (frame (0x52 ∷ high ∷ middle ∷ low ∷ []) out) ≡ changed out (eraseHalf rec (x .state) (x .cells) to)
+        → frameOf rec x (frame (0x52 ∷ high ∷ middle ∷ low ∷ []) out) ≡ turned (x .page) out (eraseStarts rec (x .state) ErasesHalf (to .0) (0x52 ∷ high ∷ middle ∷ low ∷ []))
     unfolding acceptedOf traitsOf headFor lengthOk tbOf
     half-taken m a w p r =
         let sent : Sent = frame (0x52 ∷ high ∷ middle ∷ low ∷ []) out in
@@ -207,14 +211,14 @@ module _ (rec : Record) (x : Chip) (b : Bench rec x) (z : x .state .busy ≡ 0) 
         ∙ ap (λ (c : Command). acceptedOf rec x c to (sent .bytes) out) k
 
     pub block-taken : x .state .asleep ≡ false → x .state .wel ≡ true → x .state .bp ≡ 0 → 4 ≤ length out
-        → frameOf rec x (frame (0xD8 ∷ high ∷ middle ∷ low ∷ []) out) ≡ changed out (eraseBlock rec (x .state) (x .cells) to)
+        → frameOf rec x (frame (0xD8 ∷ high ∷ middle ∷ low ∷ []) out) ≡ turned (x .page) out (eraseStarts rec (x .state) ErasesBlock (to .0) (0xD8 ∷ high ∷ middle ∷ low ∷ []))
     unfolding acceptedOf decodeOf traitsOf headFor lengthOk tbOf
     block-taken a w p r =
         taken rec x b (frame (0xD8 ∷ high ∷ middle ∷ low ∷ []) out) (lit≤ tt) (lit≤ tt) r
         (tests refl (rw (eq-eqb (x .state .settle) 0 q)) (rw (eq-eqb (x .state .busy) 0 z)) (rw a) refl refl (rw w) refl (rw (p, unprotected (rec .model) (tbOf (x .state)) (blockOf to))))
 
   pub chip-taken : x .state .asleep ≡ false → x .state .wel ≡ true → x .state .bp ≡ 0 → 1 ≤ length out
-      → frameOf rec x (frame (0xC7 ∷ []) out) ≡ changed out (eraseChip rec (x .state) (x .cells))
+      → frameOf rec x (frame (0xC7 ∷ []) out) ≡ turned (x .page) out (eraseStarts rec (x .state) ErasesChip noAddress (0xC7 ∷ []))
   unfolding acceptedOf decodeOf traitsOf headFor lengthOk
   chip-taken a w p r =
       taken rec x b (frame (0xC7 ∷ []) out) (lit≤ tt) (lit≤ tt) r
@@ -227,12 +231,14 @@ unfolding answer
 answer-any rec seen (sends f) x = refl
 answer-any rec seen (waits us) x = refl
 answer-any rec seen cycles x = refl
+answer-any rec seen (cuts pattern) x = refl
 
 pub after-any : (rec : Record) (seen : List Call) (c : Call) (x : Chip) → after ours rec seen c x ≡ after ours rec [] c x
 unfolding after
 after-any rec seen (sends f) x = refl
 after-any rec seen (waits us) x = refl
 after-any rec seen cycles x = refl
+after-any rec seen (cuts pattern) x = refl
 
 -- a call on a bench, answered 0, that leaves a bench
 pub record Step (rec : Record) (c : Call) (x y : Chip) : Type 0 where
@@ -240,38 +246,50 @@ pub record Step (rec : Record) (c : Call) (x y : Chip) : Type 0 where
   pub leads : after ours rec [] c x ≡ y
   pub bench : Bench rec y
 
-pub wait-taken : (rec : Record) (s : State) (us : ℕ) → recordOk rec ≡ true → stateOk rec s ≡ true
-    → waitOf rec s us ≡ record { answer = Done; state = later s us }
-unfolding waitOf ifValid
-wait-taken rec s us a b = rw (a, b)
+fit : {rec : Record} {x : Chip} → Bench rec x → Fit rec x
+fit b = record { right = b .right; whole = b .whole; valid = b .valid; page = b .page }
+
+pub wait-taken : (rec : Record) (x : Chip) (us : ℕ) → Bench rec x → waitOf rec x us ≡ record { answer = Done; chip = waited (rec .model) x us }
+unfolding waitOf
+wait-taken rec x us b = rw (fit-taken rec x (fit b))
 
 module _ (rec : Record) (x : Chip) (b : Bench rec x) where
   -- a bench stays one
   bench-next : (c : Call) (y : Chip) → after ours rec [] c x ≡ y → Bench rec y
   bench-next c y e =
+      let k = call-fine rec [] c x (record { sound = sound rec (x .state) (b .valid); page-data = b .page }) in
       subst (Bench rec) e
-      (record {
-        right = b .right;
-        whole = call-length rec [] c x ∙ b .whole;
-        valid = valid rec _ (call-sound rec [] c x (sound rec (x .state) (b .valid)));
-      })
+      (record { right = b .right; whole = call-length rec [] c x ∙ b .whole; valid = valid rec _ (k .sound); page = k .page-data })
 
   step : (c : Call) (y : Chip) → answer ours rec [] c x ≡ Done → after ours rec [] c x ≡ y → Step rec c x y
   step c y d e = record { done = d; leads = e; bench = bench-next c y e }
 
-  pub sends-to : (f : Sent) (e : Effect) → frameOf rec x f ≡ e → e .reply .answer ≡ Done → Step rec (sends f) x (left e)
+  pub sends-to : (f : Sent) (e : Effect) → frameOf rec x f ≡ e → e .reply .answer ≡ Done → Step rec (sends f) x (left x e)
   unfolding answer after
-  sends-to f e p d = step (sends f) (left e) (ap (λ (g : Effect). g .reply .answer) p ∙ d) (ap left p)
+  sends-to f e p d = step (sends f) (left x e) (ap (λ (g : Effect). g .reply .answer) p ∙ d) (ap (left x) p)
 
-  -- to a state that the wait is known to lead to
-  pub waits-to : (us : ℕ) (s : State) → later (x .state) us ≡ s → Step rec (waits us) x (chipOf s (x .cells))
+  -- to a chip that the wait is known to lead to
+  pub waits-to : (us : ℕ) (y : Chip) → waited (rec .model) x us ≡ y → Step rec (waits us) x y
   unfolding answer after
-  waits-to us s e =
-      let k = wait-taken rec (x .state) us (b .right) (b .valid) in
-      step (waits us) (chipOf s (x .cells)) (ap (λ (f : After). f .answer) k)
-      (ap (λ (f : After). chipOf (f .state) (x .cells)) k ∙ ap (λ (t : State). chipOf t (x .cells)) e)
+  waits-to us y e =
+      let k = wait-taken rec x us b in
+      step (waits us) y (ap (λ (f : Aftermath). f .answer) k) (ap (λ (f : Aftermath). f .chip) k ∙ e)
+
+  -- a wait that does not run the time out, and one that does
+  pub waits-on : (us : ℕ) → (eqb (x .state .busy) 0 || ltb us (x .state .busy)) ≡ true → Step rec (waits us) x (chipOf (later (x .state) us) (x .page) (x .cells))
+  unfolding waited
+  waits-on us t = waits-to us _ (rw t)
+
+  pub waits-out : (us : ℕ) → (eqb (x .state .busy) 0 || ltb us (x .state .busy)) ≡ false → Step rec (waits us) x (finished (rec .model) x)
+  unfolding waited
+  waits-out us t = waits-to us _ (rw t)
 
 -- ---- calls one after the other
+-- whatever is answered, a bench stays one
+pub run-bench : (rec : Record) (seen cs : List Call) (x : Chip) → Bench rec x → Bench rec (run ours rec seen cs x)
+run-bench rec seen [] x b = b
+run-bench rec seen (c ∷ cs) x b = run-bench rec (c ∷ seen) cs (after ours rec seen c x) (bench-next rec x b c _ (sym (after-any rec seen c x)))
+
 -- a list of calls, each answered 0, and where it leads
 pub data Goes (rec : Record) : List Call → Chip → Chip → Type 0 where
   ends : {x : Chip} → Goes rec [] x x

@@ -1,12 +1,15 @@
 -- Laws of one cell: AND and FF. They know nothing of how a chip is spoken to. Assumes nothing.
 -- `lib.Bits` has more: and-self (x AND x is x), and-le-l and and-le-r (the result is at most each operand), and-comm.
 use mathlib.Core.Path.{_≡_, refl, sym, ap, ap₂, _∙_}
-use Prim.Native.Nat.{ℕ, _+_, _*_, _/_, _%_, _^_, _≤_, _<_, min}
+use mathlib.Core.Bool.{Bool, true, false, cond}
+use Prim.Native.Nat.{ℕ, zero, suc, _+_, _*_, _/_, _%_, _^_, _≤_, _<_, min}
 use native.Mathlib.Nat.{mod-eq-of-lt}
 use native.Mathlib.Omega.{arith}
 use lib.Arith.{bin-ind}
-use lib.Bits.{bitAnd, and-step, and-mask, and-comm, and-self, and-le-l, and-shr, and-mod}
-use Rattle.cells.specs.Cell.{FF, bit}
+use lib.Dec.{eqb}
+use borrow.Author.Tests.{eqb-true, eqb-false}
+use lib.Bits.{bitAnd, bitOr, bitXor, or-shr, xor-shr, or-mod, xor-mod, and-zero-l, and-zero-r, or-lt, xor-lt, and-lt, and-step, and-mask, and-comm, and-self, and-le-l, and-shr, and-mod}
+use Rattle.cells.specs.Cell.{FF, bit, torn}
 
 -- FF clears no bit
 pub and-ff : (x : ℕ) → x < 256 → bitAnd x FF ≡ x
@@ -42,3 +45,80 @@ and-byte x y l = omega (arith, and-le-l x y)
 -- a bit that was 0 stays 0
 pub and-falls : (b x y : ℕ) → bit b (bitAnd x y) ≤ bit b x
 and-falls b x y = rw (and-shr x y b, and-mod (x / 2 ^ b) (y / 2 ^ b) 1) (and-le-l _ _)
+
+-- ---- a byte that was cut
+-- bit by bit
+torn-shr : (o n p b : ℕ) → torn o n p / 2 ^ b ≡ torn (o / 2 ^ b) (n / 2 ^ b) (p / 2 ^ b)
+torn-shr o n p b =
+    or-shr (bitAnd p (bitXor o n)) (bitAnd o n) b
+    ∙ ap₂ bitOr (and-shr p (bitXor o n) b ∙ ap (bitAnd (p / 2 ^ b)) (xor-shr o n b)) (and-shr o n b)
+
+torn-mod : (o n p k : ℕ) → torn o n p % 2 ^ k ≡ torn (o % 2 ^ k) (n % 2 ^ k) (p % 2 ^ k)
+torn-mod o n p k =
+    or-mod (bitAnd p (bitXor o n)) (bitAnd o n) k
+    ∙ ap₂ bitOr (and-mod p (bitXor o n) k ∙ ap (bitAnd (p % 2 ^ k)) (xor-mod o n k)) (and-mod o n k)
+
+one-bit : (o n p : ℕ) → o < 2 → n < 2 → p < 2 → torn o n p ≡ cond (eqb o n) o p
+one-bit zero zero zero a b c = refl
+one-bit zero zero (suc zero) a b c = refl
+one-bit zero zero (suc (suc p)) a b c = absurd (omega arith)
+one-bit zero (suc zero) zero a b c = refl
+one-bit zero (suc zero) (suc zero) a b c = refl
+one-bit zero (suc zero) (suc (suc p)) a b c = absurd (omega arith)
+one-bit zero (suc (suc n)) p a b c = absurd (omega arith)
+one-bit (suc zero) zero zero a b c = refl
+one-bit (suc zero) zero (suc zero) a b c = refl
+one-bit (suc zero) zero (suc (suc p)) a b c = absurd (omega arith)
+one-bit (suc zero) (suc zero) zero a b c = refl
+one-bit (suc zero) (suc zero) (suc zero) a b c = refl
+one-bit (suc zero) (suc zero) (suc (suc p)) a b c = absurd (omega arith)
+one-bit (suc zero) (suc (suc n)) p a b c = absurd (omega arith)
+one-bit (suc (suc o)) n p a b c = absurd (omega arith)
+
+-- a bit that was to change takes its pattern bit, every other bit stays
+pub torn-bit : (b o n p : ℕ) → bit b (torn o n p) ≡ cond (eqb (bit b o) (bit b n)) (bit b o) (bit b p)
+torn-bit b o n p =
+    ap (λ (x : ℕ). x % 2) (torn-shr o n p b) ∙ torn-mod (o / 2 ^ b) (n / 2 ^ b) (p / 2 ^ b) 1
+    ∙ one-bit (bit b o) (bit b n) (bit b p) (omega arith) (omega arith) (omega arith)
+
+same : (t : Bool) (x : ℕ) → cond t x x ≡ x
+same true x = refl
+same false x = refl
+
+-- so no bit of a cut program's cell rises
+pub torn-falls : (b o byte p : ℕ) → bit b (torn o (bitAnd o byte) p) ≤ bit b o
+torn-falls b o byte p = rw (torn-bit b o (bitAnd o byte) p) (go (eqb (bit b o) (bit b (bitAnd o byte))) refl)
+  where
+    go : (t : Bool) → eqb (bit b o) (bit b (bitAnd o byte)) ≡ t → cond t (bit b o) (bit b p) ≤ bit b o
+    go true e = omega arith
+    go false e = omega (arith, eqb-false (bit b o) (bit b (bitAnd o byte)) e, and-falls b o byte)
+
+halves : (o n p : ℕ) → torn o n p ≡ torn (o / 2) (n / 2) (p / 2) * 2 + torn (o % 2) (n % 2) (p % 2)
+halves o n p = omega (arith, torn-shr o n p 1, torn-mod o n p 1)
+
+-- with the pattern of what was there nothing has happened, with that of what was to come it has finished
+pub torn-old : (o n : ℕ) → torn o n o ≡ o
+torn-old = bin-ind (λ (o : ℕ). (n : ℕ) → torn o n o ≡ o) (λ n. ap₂ bitOr (and-zero-l (bitXor 0 n)) (and-zero-l n)) step
+  where
+    step : (o : ℕ) → ((n : ℕ) → torn (o / 2) n (o / 2) ≡ o / 2) → (n : ℕ) → torn o n o ≡ o
+    step o ih n = halves o n o ∙ ap₂ (λ (a b : ℕ). a * 2 + b) (ih (n / 2)) low ∙ omega arith
+      where
+        low : torn (o % 2) (n % 2) (o % 2) ≡ o % 2
+        low = one-bit (o % 2) (n % 2) (o % 2) (omega arith) (omega arith) (omega arith) ∙ same (eqb (o % 2) (n % 2)) (o % 2)
+
+pub torn-new : (o n : ℕ) → torn o n n ≡ n
+torn-new o n = bin-ind (λ (n : ℕ). (o : ℕ) → torn o n n ≡ n) (λ o. ap₂ bitOr (and-zero-l (bitXor o 0)) (and-zero-r o)) step n o
+  where
+    step : (n : ℕ) → ((o : ℕ) → torn o (n / 2) (n / 2) ≡ n / 2) → (o : ℕ) → torn o n n ≡ n
+    step n ih o = halves o n n ∙ ap₂ (λ (a b : ℕ). a * 2 + b) (ih (o / 2)) low ∙ omega arith
+      where
+        low : torn (o % 2) (n % 2) (n % 2) ≡ n % 2
+        low = one-bit (o % 2) (n % 2) (n % 2) (omega arith) (omega arith) (omega arith) ∙ either (eqb (o % 2) (n % 2)) refl
+          where
+            either : (t : Bool) → eqb (o % 2) (n % 2) ≡ t → cond t (o % 2) (n % 2) ≡ n % 2
+            either true e = eqb-true (o % 2) (n % 2) e
+            either false e = refl
+
+-- a cut byte is a byte
+pub torn-byte : (o n p : ℕ) → o < 256 → n < 256 → p < 256 → torn o n p < 256
+torn-byte o n p a b c = or-lt 8 (bitAnd p (bitXor o n)) (bitAnd o n) (and-lt 8 p (bitXor o n) c (xor-lt 8 o n a b)) (and-lt 8 o n a b)

@@ -2,7 +2,7 @@
 -- Nothing here knows how a chip is spoken to. Assumes nothing.
 use mathlib.Core.List.{List}
 use Prim.Native.Nat.{ℕ, _/_, _%_, _^_}
-use lib.Bits.{bitAnd}
+use lib.Bits.{bitAnd, bitOr, bitXor}
 use lib.ListN.{getD, replicate}
 use Rattle.parts.specs.Parts.{byIndex}
 
@@ -21,6 +21,14 @@ programmedCell old byte = bitAnd old byte
 -- cells after each had the byte at its index programmed into it
 unfoldable pub anded : List ℕ → List ℕ → List ℕ
 anded bytes cells = byIndex (λ (k old : ℕ). programmedCell old (getD bytes k 0)) cells
+
+-- a byte on its way from old to new when the power was cut: each bit that was to change has its pattern bit, and every other bit is as it was
+abbrev pub torn : ℕ → ℕ → ℕ → ℕ
+torn old new pattern = bitOr (bitAnd pattern (bitXor old new)) (bitAnd old new)
+
+-- cells after a cut, while each had the byte at its index programmed into it
+unfoldable pub tornCells : List ℕ → List ℕ → List ℕ → List ℕ
+tornCells bytes pattern cells = byIndex (λ (k old : ℕ). torn old (programmedCell old (getD bytes k 0)) (getD pattern k 0)) cells
 
 -- bit b of x, 0 or 1
 abbrev pub bit : ℕ → ℕ → ℕ

@@ -1,5 +1,5 @@
 -- What holds of an accepted frame and of a refused one holds of every frame. Assumes nothing.
-use mathlib.Core.Path.{_≡_, refl}
+use mathlib.Core.Path.{_≡_, refl, subst}
 use mathlib.Core.Bool.{Bool, true, false, cond}
 use Prim.Native.Nat.{_+_, _≤_}
 use native.Mathlib.Omega.{arith}
@@ -11,8 +11,13 @@ use Rattle.ladder.specs.Ladder.{refusalOf}
 use Rattle.ladder.specs.declared.Head.{Head}
 use Rattle.ladder.proofs.Passed.{passed, stopped}
 use Rattle.effects.specs.Effects.{Effect, refusalLeaves}
-use Rattle.chip.specs.Frames.{Chip, Sent, Ready, headOf, acceptedOf, refusedOf, frameOf}
-use Rattle.chip.specs.Units.{unitOf, drivenBytes, foldOf}
+use Rattle.chip.specs.Frames.{Sent, Ready, headFor, headOf, acceptedOf, refusedOf, frameOf}
+use Rattle.chip.specs.Driven.{drivenBytes, foldOf}
+use Rattle.models.specs.Models.{modelOf}
+use Rattle.commands.specs.Commands.{traitsOf, lengthOk}
+use Rattle.commands.specs.declared.Command.{Command}
+use Rattle.commands.proofs.Rows.{write-length}
+use Rattle.states.specs.States.{Chip}
 use Rattle.chip.proofs.Ready.{arrived}
 use Rattle.chip.proofs.Sorts.{Asked, Move, Kind, kind, leaves, within}
 
@@ -35,16 +40,26 @@ module _ (rec : Record) (x : Chip) (f : Sent) where
       go false e = stopped e
 
   -- the sort of an accepted frame, and what the refusals have shown of it
-  pub sort : Kind rec x (head .command) (head .address) (f .bytes) (f .out) (unitOf (head .command) (head .address) (length (x .cells))) (drivenBytes (head .command) (length (f .bytes))) (foldOf (head .command) (head .address) (length (f .bytes))) accepted
+  pub sort : Kind rec x (head .command) (head .address) (f .bytes) (f .out) (drivenBytes (head .command) (length (f .bytes))) (foldOf (head .command) (head .address) (length (f .bytes))) accepted
   sort = kind rec x (head .address) (f .bytes) (f .out) (head .command)
 
   pub shown-ready : isDone refusal ≡ true → Ready rec x (head .command) (head .address) (f .bytes) (f .out)
   shown-ready e = arrived rec x f (passed rec (x .state) head e)
 
-  pub shown-asked : isDone refusal ≡ true → Asked rec (x .state) (head .command)
+  pub shown-asked : isDone refusal ≡ true → Asked rec (x .state) (head .command) (head .address) (f .bytes)
+  unfolding headFor
   shown-asked e =
       let q = passed rec (x .state) head e in
-      record { settled = q .settled; listens = q .listens; awake = q .awake; enabled = q .enabled }
+      let r = shown-ready e in
+      record {
+        settled = q .settled;
+        listens = q .listens;
+        awake = q .awake;
+        enabled = q .enabled;
+        means = refl;
+        inside = omega (arith, r .inside, r .whole);
+        written = λ c. write-length (modelOf (rec .model) .register) (length (f .bytes)) (f .tail) (q .short) (subst (λ (k : Command). lengthOk (traitsOf (modelOf (rec .model) .register) k) (length (f .bytes)) (f .tail) ≡ true) c (q .fits));
+      }
 
   -- how a refused frame moves the state
   pub refused-moves : Move rec (x .state) (refusalLeaves (rec .model) refusal (x .state))

@@ -1,14 +1,16 @@
 -- What holds of every command's row, by one computed test, and which lengths are allowed. Assumes nothing.
-use mathlib.Core.Path.{_≡_, refl}
-use mathlib.Core.Bool.{Bool, true, false, not, _&&_, _||_, and-eq-true-iff, or-true, false≢true}
+use mathlib.Core.Path.{_≡_, refl, sym, ap, _∙_}
+use mathlib.Core.List.{List, [], _∷_, _++_}
+use mathlib.Core.Bool.{Bool, true, false, not, _&&_, _||_, cond, and-eq-true-iff, or-true, or-false, false≢true}
 use Prim.Native.Nat.{ℕ, _≤_, _<_}
 use native.Mathlib.Omega.{arith}
 use lib.Dec.{eqb, leb, lit≤}
-use borrow.Author.Tests.{leb-true, leb-false, le-leb, lt-leb, not-true}
+use borrow.Author.Tests.{eqb-true, leb-true, leb-false, le-leb, lt-leb, not-true}
+use Rattle.commands.specs.declared.Operation.the-variants.{Idle}
 use Rattle.commands.specs.declared.Traits.{Traits}
 use Rattle.commands.specs.declared.Command.{Command}
 use Rattle.commands.specs.declared.Command.the-variants.{WriteEnable, WriteDisable, ReadStatus, ReadConfig, WriteStatus, Read, FastRead, EraseSector, EraseHalf, EraseBlock, EraseChip, Program, ReadId, Wake, ReadMaker, Sleep, Unknown}
-use Rattle.commands.specs.Commands.{traitsOf, lengthOk, fewest}
+use Rattle.commands.specs.Commands.{Byte, _is_, common, own, lookUp, traitsOf, lengthOk, fewest, decodeOf, startedBy, mostWritten}
 
 -- ---- which lengths are allowed
 module _ (k : Traits) (n : ℕ) where
@@ -89,3 +91,70 @@ latch-waits r c e =
     let k : Traits = traitsOf r c in
     let t : not (k .latch && k .«while_busy») ≡ true = and-eq-true-iff (k .latch || (not (k .lock) && (not (k .unit) && not (k .whole)))) _ .0 (and-eq-true-iff (lengthOk k (fewest k) 0) _ .0 (row-test r c) .1) .1 in
     rw e at (not-true (k .latch && k .«while_busy») t)
+
+-- FF starts no operation
+pub none-started : (n : ℕ) → startedBy n 0xFF ≡ Idle
+unfolding decodeOf
+none-started n = go (eqb n 3) refl
+  where
+    go : (b : Bool) → eqb n 3 ≡ b → startedBy n 0xFF ≡ Idle
+    go true e = rw e
+    go false e = rw e
+
+-- a status write has one data byte, and with the register one or two
+pub write-length : (r : Bool) (n tail : ℕ) → n ≤ 65541 → lengthOk (traitsOf r WriteStatus) n tail ≡ true → (2 ≤ n) × (n ≤ mostWritten r)
+unfolding traitsOf lengthOk
+write-length r n tail s e = go (leb 65542 n) refl
+  where
+    go : (b : Bool) → leb 65542 n ≡ b → (2 ≤ n) × (n ≤ mostWritten r)
+    go true t = absurd (omega (arith, leb-true 65542 n t))
+    go false t =
+        let k = sym (or-false ((leb 2 n && leb n (mostWritten r)) && eqb tail 0)) ∙ (rw t at e) in
+        let q = and-eq-true-iff (leb 2 n) (leb n (mostWritten r)) .0 (and-eq-true-iff (leb 2 n && leb n (mostWritten r)) (eqb tail 0) .0 k .0) in
+        (leb-true 2 n (q .0), leb-true n (mostWritten r) (q .1))
+
+-- ---- only model 3 has the erase of a half block
+isHalf : Command → Bool
+isHalf WriteEnable = false
+isHalf WriteDisable = false
+isHalf ReadStatus = false
+isHalf ReadConfig = false
+isHalf WriteStatus = false
+isHalf Read = false
+isHalf FastRead = false
+isHalf EraseSector = false
+isHalf EraseHalf = true
+isHalf EraseBlock = false
+isHalf EraseChip = false
+isHalf Program = false
+isHalf ReadId = false
+isHalf Wake = false
+isHalf ReadMaker = false
+isHalf Sleep = false
+isHalf Unknown = false
+
+noHalf : List Byte → Bool
+unfolding isHalf
+noHalf [] = true
+noHalf (r ∷ rs) = not (isHalf (r .means)) && noHalf rs
+
+never-half : (b : ℕ) (rs : List Byte) → noHalf rs ≡ true → isHalf (lookUp b rs) ≡ false
+unfolding noHalf isHalf
+never-half b [] e = refl
+never-half b (r ∷ rs) e =
+    let k = and-eq-true-iff (not (isHalf (r .means))) (noHalf rs) .0 e in
+    go (eqb b (r .byte)) (not-true (isHalf (r .means)) (k .0)) (never-half b rs (k .1))
+  where
+    go : (t : Bool) → isHalf (r .means) ≡ false → isHalf (lookUp b rs) ≡ false → isHalf (cond t (r .means) (lookUp b rs)) ≡ false
+    go true p q = p
+    go false p q = q
+
+pub half-only-3 : (n b : ℕ) → decodeOf n b ≡ EraseHalf → n ≡ 3
+unfolding decodeOf isHalf noHalf
+half-only-3 n b e = go (eqb n 3) refl
+  where
+    go : (t : Bool) → eqb n 3 ≡ t → n ≡ 3
+    go true p = eqb-true n 3 p
+    go false p =
+        let no : isHalf (lookUp b (common ++ own n)) ≡ false = rw p (never-half b (common ++ ((0x52 is EraseBlock) ∷ [])) refl) in
+        absurd (false≢true (sym no ∙ ap isHalf e))

@@ -5,6 +5,8 @@ use Prim.Native.Nat.{ℕ, min}
 use lib.Dec.{eqb, leb}
 use Rattle.commands.specs.declared.Traits.{Traits}
 use Rattle.commands.specs.declared.Command.{Command}
+use Rattle.commands.specs.declared.Operation.{Operation}
+use Rattle.commands.specs.declared.Operation.the-variants.{Idle, WritesStatus, Programs, ErasesSector, ErasesHalf, ErasesBlock, ErasesChip}
 use Rattle.commands.specs.declared.Command.the-variants.{WriteEnable, WriteDisable, ReadStatus, ReadConfig, WriteStatus, Read, FastRead, EraseSector, EraseHalf, EraseBlock, EraseChip, Program, ReadId, Wake, ReadMaker, Sleep, Unknown}
 
 -- the command bytes
@@ -47,6 +49,30 @@ lookUp b (r ∷ rs) = cond (eqb b (r .byte)) (r .means) (lookUp b rs)
 -- what a byte means on the model of a number
 unfoldable pub decodeOf : ℕ → ℕ → Command
 decodeOf n b = lookUp b (common ++ own n)
+
+-- the operation that a command starts, which keeps the chip busy; Idle where it starts none
+abbrev pub operationOf : Command → Operation
+operationOf WriteEnable = Idle
+operationOf WriteDisable = Idle
+operationOf ReadStatus = Idle
+operationOf ReadConfig = Idle
+operationOf WriteStatus = WritesStatus
+operationOf Read = Idle
+operationOf FastRead = Idle
+operationOf EraseSector = ErasesSector
+operationOf EraseHalf = ErasesHalf
+operationOf EraseBlock = ErasesBlock
+operationOf EraseChip = ErasesChip
+operationOf Program = Programs
+operationOf ReadId = Idle
+operationOf Wake = Idle
+operationOf ReadMaker = Idle
+operationOf Sleep = Idle
+operationOf Unknown = Idle
+
+-- and the one of a command byte on the model of a number
+abbrev pub startedBy : ℕ → ℕ → Operation
+startedBy n b = operationOf (decodeOf n b)
 
 abbrev pub ■ : Bool
 ■ = true

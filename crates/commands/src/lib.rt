@@ -1,6 +1,6 @@
 // The commands: what a byte means, and what the refusals ask of each command.
 ghost use mathlib.Core.Path.{_≡_};
-ghost use Rattle.commands.specs.Commands.{lookUp, own as Commands·own, decodeOf, row as Commands·row, unknown as Commands·unknown, mostWritten, traitsOf, lengthOk};
+ghost use Rattle.commands.specs.Commands.{lookUp, own as Commands·own, decodeOf, row as Commands·row, unknown as Commands·unknown, mostWritten, traitsOf, lengthOk, operationOf, startedBy};
 
 pub enum Command {
     WriteEnable,
@@ -61,6 +61,49 @@ pub fn decode(model: u32, byte: u8) -> Command
         0xB9 => Command::Sleep,
         _ => own(model, byte),
     }
+}
+
+// What keeps a chip busy; Idle where nothing does.
+pub enum Operation {
+    Idle,
+    WritesStatus,
+    Programs,
+    ErasesSector,
+    ErasesHalf,
+    ErasesBlock,
+    ErasesChip,
+}
+
+// The operation that a command starts.
+pub fn operation_of(c: Command) -> Operation
+    ensures { λ r. ⌜ r ≡ operationOf c ⌝ }
+{
+    match c {
+        Command::WriteEnable => Operation::Idle,
+        Command::WriteDisable => Operation::Idle,
+        Command::ReadStatus => Operation::Idle,
+        Command::ReadConfig => Operation::Idle,
+        Command::WriteStatus => Operation::WritesStatus,
+        Command::Read => Operation::Idle,
+        Command::FastRead => Operation::Idle,
+        Command::EraseSector => Operation::ErasesSector,
+        Command::EraseHalf => Operation::ErasesHalf,
+        Command::EraseBlock => Operation::ErasesBlock,
+        Command::EraseChip => Operation::ErasesChip,
+        Command::Program => Operation::Programs,
+        Command::ReadId => Operation::Idle,
+        Command::Wake => Operation::Idle,
+        Command::ReadMaker => Operation::Idle,
+        Command::Sleep => Operation::Idle,
+        Command::Unknown => Operation::Idle,
+    }
+}
+
+// The operation that a command byte starts on the model of that number.
+pub fn started_by(model: u32, byte: u8) -> Operation
+    ensures { λ r. ⌜ r ≡ startedBy model byte ⌝ }
+{
+    operation_of(decode(model, byte))
 }
 
 // What the refusals ask of a command: whether it is taken while busy and while asleep; whether it needs WEL, heeds SRWD, and changes

@@ -1,3 +1,2 @@
--- `Replies`: laws of replies, of what is driven and of what a refusal leaves. `Register`: the configuration register after a status write.
+-- `Replies`: laws of replies, of what is driven and of what a refusal leaves.
 pub mod Replies
-pub mod Register

@@ -1,8 +1,9 @@
 // What each command does, apart from the frame that carries it (specs/Effects.antt); here replies, and the commands that turn the state.
 ghost use mathlib.Core.Path.{_≡_};
 ghost use Prim.Native.Nat.{_-_};
-ghost use Rattle.effects.specs.Effects.{quiet as Effects·quiet, drives, folding, latched, dozing, working, refusalLeaves, configWritten, configAfter, written, writeEnable, writeDisable, writeStatus, sleep as Effects·sleep};
+ghost use Rattle.effects.specs.Effects.{quiet as Effects·quiet, drives, folding, latched, dozing, starting, refusalLeaves, writeEnable, writeDisable, eraseStarts as Effects·erase, sleep as Effects·sleep};
 use answers::Answer;
+use commands::Operation;
 use states::Record;
 use states::State;
 
@@ -74,12 +75,14 @@ pub fn doze(st: State, on: bool, time: u32) -> State
     next
 }
 
-// An operation runs for a time; WEL stays set.
-pub fn work(st: State, time: u32) -> State
-    ensures { λ r. ⌜ r ≡ working st time ⌝ }
+// An operation starts: its command byte, its address or number of data bytes, and its time. WEL stays set.
+pub fn start(st: State, command: u8, place: u32, time: u32) -> State
+    ensures { λ r. ⌜ r ≡ starting st command place time ⌝ }
 {
     let mut next = st;
     next.busy = time;
+    next.command = command;
+    next.address = place;
     next
 }
 
@@ -90,41 +93,6 @@ pub fn refuse(model: u32, answer: Answer, st: State) -> Reply
     let row = models::model_of(model);
     let falls = row.latch_falls & answers::says_protected(answer);
     quiet(answer, latch(st, st.wel & !falls))
-}
-
-// The configuration register after a second data byte.
-fn config_written(old: u8, byte: u8) -> u8
-    ensures { λ r. ⌜ r ≡ configWritten old byte ⌝ }
-{
-    let tb = (old / 8 % 2 == 1) | (byte / 8 % 2 == 1);
-    byte / 64 * 64 + (states::flag(byte / 16 % 2 == 1, 16) + (states::flag(tb, 8) + byte % 4))
-}
-
-// The configuration register after a status write: without a second data byte, and on a model without the register, it stays.
-fn config_after(model: u32, st: State, bytes: &[u8]) -> u8
-    ensures { λ r. ⌜ r ≡ configAfter model st (now (bytes .entry)) ⌝ }
-{
-    let row = models::model_of(model);
-    if row.register & (3 <= bytes.len()) {
-        return config_written(st.config, parts::byte_at(bytes, 2));
-    }
-    st.config
-}
-
-// A status byte and the register are written, and the write runs for a time.
-fn write(model: u32, st: State, byte: u8, config: u8, time: u32) -> State
-    ensures { λ r. ⌜ r ≡ written model st byte config time ⌝ }
-{
-    let row = models::model_of(model);
-    State {
-        srwd: 128 <= byte,
-        bp: byte / 4 % (row.highest_bp + 1),
-        config,
-        wel: st.wel,
-        asleep: st.asleep,
-        busy: time,
-        settle: st.settle,
-    }
 }
 
 // ---- commands that turn the state
@@ -143,15 +111,14 @@ pub fn write_disable(st: State) -> Reply
     quiet(Answer::Done, latch(st, false))
 }
 
-// 01
-pub fn write_status(rec: Record, st: State, bytes: &[u8]) -> Reply
-    ensures { λ r. ⌜ r ≡ writeStatus rec st (now (bytes .entry)) ⌝ }
+// 20, 52, D8, 60 and C7
+pub fn erase(rec: Record, st: State, op: Operation, place: u32, bytes: &[u8]) -> Reply
+    ensures { λ r. ⌜ r ≡ Effects·erase rec st op place (now (bytes .entry)) ⌝ }
 {
-    let byte = parts::byte_at(bytes, 1);
-    let config = config_after(rec.model, st, bytes);
+    let time = states::operation_time(rec, op);
     quiet(
         Answer::Done,
-        write(rec.model, st, byte, config, rec.status_write),
+        start(st, parts::byte_at(bytes, 0), place, time),
     )
 }
 

@@ -16,7 +16,7 @@ use Rattle.lines.specs.Lines.{linesFrom, joinedUp}
 use Rattle.lines.specs.Cutting.{Holds, heldRoom}
 use Rattle.stepper.specs.Rows.{logFrom}
 use Rattle.log.specs.Row.{longestRow}
-use Rattle.feed.specs.Feed.{Stand, feedOf}
+use Rattle.feed.specs.Feed.{Stand, chipNow, feedOf}
 use Rattle.feed.specs.Fed.{Did, Fed}
 use Rattle.feed.specs.Script.{emptied, begun, filledPart, Wrote, blockFor, wholeBlock, WholeScript}
 use Rattle.feed.proofs.Feeds.{feed-feeds, last-finishes}
@@ -41,8 +41,8 @@ record Through (rec : Record) (block : List ℕ) (s : Stand) (line : List ℕ) (
   room : longestRow ≤ length (w .stand .log)
   holds : Holds rest (w .stand .held) (w .stand .run .used)
   same : (later : List ℕ)
-      → logFrom rec (s .run .chip) (s .cells) (s .run .number) (linesFrom line (drop (s .run .at) block ++ later))
-      ≡ w .text ++ logFrom rec (w .stand .run .chip) (w .stand .cells) (w .stand .run .number) (linesFrom rest later)
+      → logFrom rec (chipNow s) (s .run .number) (linesFrom line (drop (s .run .at) block ++ later))
+      ≡ w .text ++ logFrom rec (chipNow (w .stand)) (w .stand .run .number) (linesFrom rest later)
 
 used-up : (rec : Record) (block : List ℕ) (s : Stand) (line : List ℕ) → Within block s line → length block ≤ s .run .at → Through rec block s line (record { text = []; stand = emptied s })
 used-up rec block s line p l =
@@ -53,19 +53,19 @@ used-up rec block s line p l =
       hold = p .hold;
       room = p .room;
       holds = p .holds;
-      same = λ later. ap (λ (z : List ℕ). logFrom rec (s .run .chip) (s .cells) (s .run .number) (linesFrom line (z ++ later))) none;
+      same = λ later. ap (λ (z : List ℕ). logFrom rec (chipNow s) (s .run .number) (linesFrom line (z ++ later))) none;
     }
 
 module _ (rec : Record) (block : List ℕ) (s : Stand) (line : List ℕ) (p : Within block s line) where
   abbrev fed : Stand
   fed = feedOf rec block (emptied s)
 
-  feeds : Fed rec (emptied s .run) (s .held) block (s .cells) (s .log) (fed .run) (fed .held) (fed .cells) (fed .log)
+  feeds : Fed rec block (emptied s) fed
   feeds =
-      feed-feeds rec (emptied s .run) (s .held) block (s .cells) (s .log)
+      feed-feeds rec block (emptied s)
       (record { inside = p .inside; hold = p .hold; used = omega (arith, p .holds .count, p .hold, length-take (length (s .held)) line); within = omega arith })
 
-  did : Did rec (emptied s .run) block (s .cells) (s .log) (fed .run) (fed .held) (fed .cells) (fed .log) line
+  did : Did rec block (emptied s) fed line
   did = feeds .did line (p .holds)
 
   next-within : Within block fed (did .rest)
@@ -79,7 +79,7 @@ module _ (rec : Record) (block : List ℕ) (s : Stand) (line : List ℕ) (p : Wi
         room = t .room;
         holds = t .holds;
         same = λ later.
-            let end : List ℕ = logFrom rec (w .stand .run .chip) (w .stand .cells) (w .stand .run .number) (linesFrom (t .rest) later) in
+            let end : List ℕ = logFrom rec (chipNow (w .stand)) (w .stand .run .number) (linesFrom (t .rest) later) in
             did .same later ∙ ap (λ (z : List ℕ). did .text ++ z) (t .same later) ∙ sym (append-assoc (did .text) (w .text) end)
             ∙ ap (λ (z : List ℕ). z ++ w .text ++ end) (sym (put-filled (did .put)));
       }
@@ -99,7 +99,7 @@ through-for rec block (suc n) s line p l =
 
 -- ---- block after block
 pub whole-script : WholeScript
-whole-script rec s line [] l r h = put-filled (last-finishes rec (begun s .run) (s .held) (s .cells) (s .log) l r .did line h)
+whole-script rec s line [] l r h = put-filled (last-finishes rec (begun s) l r .did line h)
 whole-script rec s line (block ∷ blocks) l r h =
     let t = through-for rec block (length block) (begun s) line (record { inside = omega arith; hold = l; room = r; holds = h }) (omega arith) in
     let w : Wrote = wholeBlock rec block s in

@@ -10,6 +10,7 @@ use lib.Seq.{length-take-le, take-all, drop-length}
 use borrow.Author.Tests.{leb-true, leb-false}
 use Rattle.states.specs.declared.Record.{Record}
 use Rattle.states.specs.declared.State.{State}
+use Rattle.states.specs.States.{Chip}
 use Rattle.script.specs.declared.Line.the-variants.{Bad}
 use Rattle.script.specs.Reading.{lineOf}
 use Rattle.script.proofs.Agree.{clipped}
@@ -21,15 +22,14 @@ use Rattle.lines.specs.declared.Cut.the-variants.{Here, Joined, Open}
 use Rattle.lines.specs.Lines.{linesFrom}
 use Rattle.lines.specs.Cutting.{firstLine, cutOf, heldOf, Cuts, Holds, heldRoom}
 use Rattle.lines.proofs.Says.{holds-none, length-held, here-in, joined-in, open-in, says-here, says-joined, says-open}
-use Rattle.chip.specs.Frames.{Chip, chipOf}
 use Rattle.play.specs.Play.{Turn, turnOf, playOf}
 use Rattle.stepper.specs.declared.Logged.{Logged}
-use Rattle.stepper.specs.Rows.{lineTurn, rowText, Logs, next, logFrom}
+use Rattle.stepper.specs.Rows.{lineTurn, rowText, Logs, chipAfter, next, logFrom}
 use Rattle.stepper.proofs.Rows.{row-short}
 use Rattle.log.specs.Row.{longestRow}
 use Rattle.script.specs.Grammar.{longestLine}
 use Rattle.feed.specs.declared.Run.{Run}
-use Rattle.feed.specs.Feed.{TurnStart, Stand, standing, goesOn, lineDone, cutTurn, feedTurn, Stands}
+use Rattle.feed.specs.Feed.{TurnStart, Stand, standing, chipNow, goesOn, lineDone, cutTurn, feedTurn, Stands}
 use Rattle.feed.specs.Fed.{Did}
 
 -- ---- a line over 640 bytes is played as its first 641 are
@@ -43,9 +43,9 @@ clip-turn rec x shown m line l = go (leb (length line) m) refl
         let bad : lineOf line ≡ Bad = sym (too-long line (omega (arith, leb-false (length line) m e))) in
         ap (turnOf rec x shown (take m line)) (clipped m line l ∙ bad) ∙ ap (turnOf rec x shown line) (sym bad)
 
-pub clip-row : (rec : Record) (s : State) (cells : List ℕ) (number m : ℕ) (line : List ℕ) → longestLine < m → rowText rec s cells number (take m line) ≡ rowText rec s cells number line
+pub clip-row : (rec : Record) (x : Chip) (number m : ℕ) (line : List ℕ) → longestLine < m → rowText rec x number (take m line) ≡ rowText rec x number line
 unfolding rowText
-clip-row rec s cells number m line l = rw (clip-turn rec (chipOf s cells) (replicate 300 0) m line l)
+clip-row rec x number m line l = rw (clip-turn rec x (replicate 300 0) m line l)
 
 -- ---- the line in hand
 -- the first n bytes, as a part of a slice
@@ -55,58 +55,60 @@ front n xs =
     ap (λ (k : ℕ). take k xs) e
 
 -- the line handed over is the line `whole`, or as much of it as tells what it says
-pub record Same (rec : Record) (s : State) (cells : List ℕ) (number : ℕ) (handed whole : List ℕ) : Type 0 where
-  pub row : rowText rec s cells number handed ≡ rowText rec s cells number whole
-  pub turn : lineTurn rec s cells handed ≡ lineTurn rec s cells whole
+pub record Same (rec : Record) (x : Chip) (number : ℕ) (handed whole : List ℕ) : Type 0 where
+  pub row : rowText rec x number handed ≡ rowText rec x number whole
+  pub turn : lineTurn rec x handed ≡ lineTurn rec x whole
 
-pub same-line : (rec : Record) (s : State) (cells : List ℕ) (number : ℕ) (line : List ℕ) → Same rec s cells number line line
-same-line rec s cells number line = record { row = refl; turn = refl }
+pub same-line : (rec : Record) (x : Chip) (number : ℕ) (line : List ℕ) → Same rec x number line line
+same-line rec x number line = record { row = refl; turn = refl }
 
-pub same-clip : (rec : Record) (s : State) (cells : List ℕ) (number m : ℕ) {handed : List ℕ} (whole : List ℕ) → longestLine < m → handed ≡ take m whole → Same rec s cells number handed whole
-same-clip rec s cells number m {handed} whole l e =
-    subst (λ (z : List ℕ). Same rec s cells number z whole) (sym e)
-    (record { row = clip-row rec s cells number m whole l; turn = clip-turn rec (chipOf s cells) (replicate 300 0) m whole l })
+pub same-clip : (rec : Record) (x : Chip) (number m : ℕ) {handed : List ℕ} (whole : List ℕ) → longestLine < m → handed ≡ take m whole → Same rec x number handed whole
+same-clip rec x number m {handed} whole l e =
+    subst (λ (z : List ℕ). Same rec x number z whole) (sym e)
+    (record { row = clip-row rec x number m whole l; turn = clip-turn rec x (replicate 300 0) m whole l })
 
 -- ---- what the code does is the turn
-pub stands : {t : Stand} {r : Run} {held cells log : List ℕ} → Stands t r held cells log → standing r held cells log ≡ t
-stands {t} {r} {held} {cells} {log} e =
-    ap (λ (z : Run). standing z held cells log) (e .run′) ∙ ap (λ (z : List ℕ). standing (t .run) z cells log) (e .held′)
-    ∙ ap (λ (z : List ℕ). standing (t .run) (t .held) z log) (e .cells′) ∙ ap (λ (z : List ℕ). standing (t .run) (t .held) (t .cells) z) (e .log′)
+pub stands : {t : Stand} {r : Run} {held page cells log : List ℕ} → Stands t r held page cells log → standing r held page cells log ≡ t
+stands {t} {r} {held} {page} {cells} {log} e =
+    ap (λ (z : Run). standing z held page cells log) (e .run′) ∙ ap (λ (z : List ℕ). standing (t .run) z page cells log) (e .held′)
+    ∙ ap (λ (z : List ℕ). standing (t .run) (t .held) z cells log) (e .page′) ∙ ap (λ (z : List ℕ). standing (t .run) (t .held) (t .page) z log) (e .cells′)
+    ∙ ap (λ (z : List ℕ). standing (t .run) (t .held) (t .page) (t .cells) z) (e .log′)
 
 -- a line was logged
-pub line-done : (rec : Record) (run : Run) (held cells log : List ℕ) {handed held′ line kept : List ℕ} {to : ℕ} {done : Logged} {r : Run} {cells′ log′ : List ℕ} → handed ≡ line → held′ ≡ kept
-    → Logs rec (run .chip) cells (run .number) handed log (run .filled) done cells′ log′ → r ≡ goesOn done (run .number) to
-    → Stands (lineDone rec (standing run held cells log) kept line to) r held′ cells′ log′
+pub line-done : (rec : Record) (s : Stand) {handed held′ line kept : List ℕ} {to : ℕ} {done : Logged} {r : Run} {page′ cells′ log′ : List ℕ} → handed ≡ line → held′ ≡ kept
+    → Logs rec (chipNow s) (s .run .number) handed (s .log) (s .run .filled) done page′ cells′ log′ → r ≡ goesOn done (s .run .number) to
+    → Stands (lineDone rec s kept line to) r held′ page′ cells′ log′
 unfolding lineDone
-line-done rec run held cells log {handed} {held′} {line} {kept} {to} {done} {r} {cells′} {log′} e k l g =
-    let w = subst (λ (z : List ℕ). Logs rec (run .chip) cells (run .number) z log (run .filled) done cells′ log′) e l in
+line-done rec s {handed} {held′} {line} {kept} {to} {done} {r} {page′} {cells′} {log′} e k l g =
+    let w = subst (λ (z : List ℕ). Logs rec (chipNow s) (s .run .number) z (s .log) (s .run .filled) done page′ cells′ log′) e l in
     record {
       run′ =
-          g ∙ ap (λ (z : State). goesOn (record { next = done .next; state = z }) (run .number) to) (w .state)
-          ∙ ap (λ (z : ℕ). goesOn (record { next = z; state = lineTurn rec (run .chip) cells line .played .state }) (run .number) to) (w .row .next);
+          g ∙ ap (λ (z : State). goesOn (record { next = done .next; state = z }) (s .run .number) to) (w .state)
+          ∙ ap (λ (z : ℕ). goesOn (record { next = z; state = lineTurn rec (chipNow s) line .played .state }) (s .run .number) to) (w .row .next);
       held′ = k;
+      page′ = w .page′;
       cells′ = w .cells′;
       log′ = w .row .is;
     }
 
 -- the cut in hand
-pub at-cut : (rec : Record) (run : Run) (held block cells log : List ℕ) {cut k : Cut} {held′ : List ℕ} {r : Run} {cells′ log′ : List ℕ} → Cuts held (run .used) block (run .at) cut held′ → cut ≡ k
-    → Stands (cutTurn rec block (standing run held cells log) (heldOf held (run .used) block (run .at)) k) r held′ cells′ log′
-    → Stands (feedTurn rec block (standing run held cells log)) r held′ cells′ log′
+pub at-cut : (rec : Record) (block : List ℕ) (s : Stand) {cut k : Cut} {held′ page′ cells′ log′ : List ℕ} {r : Run} → Cuts (s .held) (s .run .used) block (s .run .at) cut held′ → cut ≡ k
+    → Stands (cutTurn rec block s (heldOf (s .held) (s .run .used) block (s .run .at)) k) r held′ page′ cells′ log′
+    → Stands (feedTurn rec block s) r held′ page′ cells′ log′
 unfolding feedTurn
-at-cut rec run held block cells log {cut} {k} {held′} {r} {cells′} {log′} c q e =
-    subst (λ (z : Cut). Stands (cutTurn rec block (standing run held cells log) (heldOf held (run .used) block (run .at)) z) r held′ cells′ log′) (sym q ∙ c .is) e
+at-cut rec block s {cut} {k} {held′} {page′} {cells′} {log′} {r} c q e =
+    subst (λ (z : Cut). Stands (cutTurn rec block s (heldOf (s .held) (s .run .used) block (s .run .at)) z) r held′ page′ cells′ log′) (sym q ∙ c .is) e
 
 -- ---- what follows from a turn
 -- one turn goes on in the block, by a row at most
-pub record Turned (rec : Record) (run : Run) (held block cells log : List ℕ) (r : Run) (held′ cells′ log′ : List ℕ) : Type 0 where
-  pub on : run .at < r .at
-  pub inside : r .at ≤ length block
-  pub hold : length held′ ≡ length held
-  pub used : r .used ≤ heldRoom
-  pub row : r .filled ≤ run .filled + longestRow
-  pub same : length log′ ≡ length log
-  pub did : (line : List ℕ) → Holds line held (run .used) → Did rec run block cells log r held′ cells′ log′ line
+pub record Turned (rec : Record) (block : List ℕ) (s t : Stand) : Type 0 where
+  pub on : s .run .at < t .run .at
+  pub inside : t .run .at ≤ length block
+  pub hold : length (t .held) ≡ length (s .held)
+  pub used : t .run .used ≤ heldRoom
+  pub row : t .run .filled ≤ s .run .filled + longestRow
+  pub same : length (t .log) ≡ length (s .log)
+  pub did : (line : List ℕ) → Holds line (s .held) (s .run .used) → Did rec block s t line
 
 holds-front : (held : List ℕ) (used : ℕ) → used ≤ length held → Holds (take used held) held used
 holds-front held used l =
@@ -114,78 +116,81 @@ holds-front held used l =
     let all : take (length held) (take used held) ≡ take used held = take-all (length held) (take used held) (omega arith) in
     record { is = sym all; count = sym (ap length all ∙ n) }
 
-module _ (rec : Record) (run : Run) (held block cells log : List ℕ) (p : TurnStart run held block log) where
-  abbrev from : Stand
-  from = standing run held cells log
+module _ (rec : Record) (block : List ℕ) (s : Stand) (p : TurnStart (s .run) (s .held) block (s .log)) where
+  abbrev at : ℕ
+  at = s .run .at
+
+  abbrev used : ℕ
+  used = s .run .used
+
+  abbrev number : ℕ
+  number = s .run .number
 
   abbrev kept : List ℕ
-  kept = heldOf held (run .used) block (run .at)
+  kept = heldOf (s .held) used block at
 
-  abbrev To : Stand → Type 0
-  To t = Turned rec run held block cells log (t .run) (t .held) (t .cells) (t .log)
+  same-held : length kept ≡ length (s .held)
+  same-held = length-held (take used (s .held)) (s .held) used block at (holds-front (s .held) used (omega (arith, p .used, p .hold)))
 
-  same-held : length kept ≡ length held
-  same-held = length-held (take (run .used) held) held (run .used) block (run .at) (holds-front held (run .used) (omega (arith, p .used, p .hold)))
-
-  did-line : {handed : List ℕ} (whole line : List ℕ) (to : ℕ) → Same rec (run .chip) cells (run .number) handed whole
-      → ((later : List ℕ) → linesFrom line (drop (run .at) block ++ later) ≡ whole ∷ linesFrom [] (drop to block ++ later))
-      → let t : Stand = lineDone rec from kept handed to in Did rec run block cells log (t .run) (t .held) (t .cells) (t .log) line
+  did-line : {handed : List ℕ} (whole line : List ℕ) (to : ℕ) → Same rec (chipNow s) number handed whole
+      → ((later : List ℕ) → linesFrom line (drop at block ++ later) ≡ whole ∷ linesFrom [] (drop to block ++ later))
+      → Did rec block s (lineDone rec s kept handed to) line
   unfolding lineDone
-  did-line {handed} whole line to s ended =
+  did-line {handed} whole line to e ended =
       record {
-        text = rowText rec (run .chip) cells (run .number) whole;
+        text = rowText rec (chipNow s) number whole;
         rest = [];
-        put = put-as (record { room = omega (arith, p .room, row-short rec (run .chip) cells (run .number) handed); is = refl; next = refl }) (s .row);
+        put = put-as (record { room = omega (arith, p .room, row-short rec (chipNow s) number handed); is = refl; next = refl }) (e .row);
         holds = holds-none kept;
         same = λ later.
-            ap (logFrom rec (run .chip) cells (run .number)) (ended later)
-            ∙ ap (λ (t : Turn). rowText rec (run .chip) cells (run .number) whole ++ logFrom rec (t .played .state) (t .cells) (next (run .number)) (linesFrom [] (drop to block ++ later))) (sym (s .turn));
+            ap (logFrom rec (chipNow s) number) (ended later)
+            ∙ ap (λ (t : Turn). rowText rec (chipNow s) number whole ++ logFrom rec (chipAfter t) (next number) (linesFrom [] (drop to block ++ later))) (sym (e .turn));
       }
 
-  turned-line : (handed : List ℕ) (to : ℕ) → run .at < to → to ≤ length block
-      → ((line : List ℕ) → Holds line held (run .used) → let t : Stand = lineDone rec from kept handed to in Did rec run block cells log (t .run) (t .held) (t .cells) (t .log) line)
-      → To (lineDone rec from kept handed to)
+  turned-line : (handed : List ℕ) (to : ℕ) → at < to → to ≤ length block
+      → ((line : List ℕ) → Holds line (s .held) used → Did rec block s (lineDone rec s kept handed to) line)
+      → Turned rec block s (lineDone rec s kept handed to)
   unfolding lineDone
   turned-line handed to a b d =
-      let row : List ℕ = rowText rec (run .chip) cells (run .number) handed in
-      let short : length row ≤ longestRow = row-short rec (run .chip) cells (run .number) handed in
-      record { on = a; inside = b; hold = same-held; used = omega arith; row = omega (arith, short); same = length-lay log (run .filled) row (omega (arith, p .room, short)); did = d }
+      let row : List ℕ = rowText rec (chipNow s) number handed in
+      let short : length row ≤ longestRow = row-short rec (chipNow s) number handed in
+      record { on = a; inside = b; hold = same-held; used = omega arith; row = omega (arith, short); same = length-lay (s .log) (s .run .filled) row (omega (arith, p .room, short)); did = d }
 
-  by-cut : (k : Cut) → cutOf held (run .used) block (run .at) ≡ k → To (cutTurn rec block from kept k)
+  by-cut : (k : Cut) → cutOf (s .held) used block at ≡ k → Turned rec block s (cutTurn rec block s kept k)
   by-cut (Here e) q =
-      let i = here-in held (run .used) block (run .at) e q in
-      turned-line (take (e - run .at) (drop (run .at) block)) (e + 1) (omega (arith, i)) (omega (arith, i))
-      (λ line h. did-line (take (e - run .at) (drop (run .at) block)) line (e + 1) (same-line rec (run .chip) cells (run .number) _)
-      (says-here line held (run .used) block (run .at) e (omega (arith, p .hold)) h q .ended))
+      let i = here-in (s .held) used block at e q in
+      turned-line (take (e - at) (drop at block)) (e + 1) (omega (arith, i)) (omega (arith, i))
+      (λ line h. did-line (take (e - at) (drop at block)) line (e + 1) (same-line rec (chipNow s) number _)
+      (says-here line (s .held) used block at e (omega (arith, p .hold)) h q .ended))
   by-cut (Joined n e) q =
-      let i = joined-in held (run .used) block (run .at) n e q in
+      let i = joined-in (s .held) used block at n e q in
       turned-line (take n kept) (e + 1) (omega (arith, i .0)) (omega (arith, i .1))
       (λ line h.
-      let o = says-joined line held (run .used) block (run .at) n e h q in
-      let whole : List ℕ = line ++ firstLine (drop (run .at) block) in
+      let o = says-joined line (s .held) used block at n e h q in
+      let whole : List ℕ = line ++ firstLine (drop at block) in
       let same : take n kept ≡ take heldRoom whole = o .holds .is ∙ ap (λ (z : ℕ). take z whole) (same-held ∙ p .hold) in
-      did-line whole line (e + 1) (same-clip rec (run .chip) cells (run .number) heldRoom whole (lit< tt) same) (o .ended))
+      did-line whole line (e + 1) (same-clip rec (chipNow s) number heldRoom whole (lit< tt) same) (o .ended))
   by-cut (Open n) q =
       record {
         on = p .inside;
         inside = omega arith;
         hold = same-held;
-        used = omega (arith, open-in held (run .used) block (run .at) n q (omega (arith, p .used, p .hold)), p .hold);
+        used = omega (arith, open-in (s .held) used block at n q (omega (arith, p .used, p .hold)), p .hold);
         row = omega arith;
         same = refl;
         did = λ line h.
-            let o = says-open line held (run .used) block (run .at) n h q in
+            let o = says-open line (s .held) used block at n h q in
             record {
               text = [];
-              rest = line ++ drop (run .at) block;
-              put = put-none log (run .filled) (omega (arith, p .room));
+              rest = line ++ drop at block;
+              put = put-none (s .log) (s .run .filled) (omega (arith, p .room));
               holds = o .holds;
               same = λ later.
-                  ap (logFrom rec (run .chip) cells (run .number)) (o .goes-on later)
-                  ∙ ap (λ (z : List ℕ). logFrom rec (run .chip) cells (run .number) (linesFrom (line ++ drop (run .at) block) (z ++ later))) (sym (drop-length block));
+                  ap (logFrom rec (chipNow s) number) (o .goes-on later)
+                  ∙ ap (λ (z : List ℕ). logFrom rec (chipNow s) number (linesFrom (line ++ drop at block) (z ++ later))) (sym (drop-length block));
             };
       }
 
-  pub turned : To (feedTurn rec block from)
+  pub turned : Turned rec block s (feedTurn rec block s)
   unfolding feedTurn
-  turned = by-cut (cutOf held (run .used) block (run .at)) refl
+  turned = by-cut (cutOf (s .held) used block at) refl

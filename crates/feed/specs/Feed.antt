@@ -7,6 +7,7 @@ use lib.Dec.{eqb, leb, ltb}
 use lib.ListN.{length, take, drop}
 use Rattle.parts.specs.Parts.{lay}
 use Rattle.states.specs.declared.Record.{Record}
+use Rattle.states.specs.States.{Chip, chipOf}
 use Rattle.lines.specs.declared.Cut.{Cut}
 use Rattle.lines.specs.declared.Cut.the-variants.{Here, Joined, Open}
 use Rattle.lines.specs.Cutting.{cutOf, heldOf, heldRoom}
@@ -34,24 +35,29 @@ pub record TurnStart (run : Run) (held block log : List ℕ) : Type 0 where
 abbrev pub goesOn : Logged → ℕ → ℕ → Run
 goesOn done number at = record { chip = done .state; number = next number; used = 0; at = at; filled = done .next }
 
--- where a feed stands: the run, the buffer for the line that is held, the array and the log
+-- where a feed stands: the run, the buffer for the line that is held, the page data, the array and the log
 pub record Stand : Type 0 where
   pub run : Run
   pub held : List ℕ
+  pub page : List ℕ
   pub cells : List ℕ
   pub log : List ℕ
 
-abbrev pub standing : Run → List ℕ → List ℕ → List ℕ → Stand
-standing run held cells log = record { run = run; held = held; cells = cells; log = log }
+abbrev pub standing : Run → List ℕ → List ℕ → List ℕ → List ℕ → Stand
+standing run held page cells log = record { run = run; held = held; page = page; cells = cells; log = log }
+
+abbrev pub chipNow : Stand → Chip
+chipNow s = chipOf (s .run .chip) (s .page) (s .cells)
 
 -- a line is played, and its row put into the log; the next line starts at `to`
 unfoldable pub lineDone : Record → Stand → List ℕ → List ℕ → ℕ → Stand
 lineDone rec s held line to =
-    let t : Turn = lineTurn rec (s .run .chip) (s .cells) line in
-    let row : List ℕ = rowText rec (s .run .chip) (s .cells) (s .run .number) line in
+    let t : Turn = lineTurn rec (chipNow s) line in
+    let row : List ℕ = rowText rec (chipNow s) (s .run .number) line in
     record {
       run = goesOn (record { next = s .run .filled + length row; state = t .played .state }) (s .run .number) to;
       held = held;
+      page = t .page;
       cells = t .cells;
       log = lay (s .log) (s .run .filled) row;
     }
@@ -64,6 +70,7 @@ cutTurn rec block s held (Open n) =
     record {
       run = record { chip = s .run .chip; number = s .run .number; used = n; at = length block; filled = s .run .filled };
       held = held;
+      page = s .page;
       cells = s .cells;
       log = s .log;
     }
@@ -85,22 +92,24 @@ unfoldable pub lastOf : Record → Stand → Stand
 lastOf rec s = cond (eqb (s .run .used) 0) s (lineDone rec s (s .held) (take (s .run .used) (s .held)) (s .run .at))
 
 -- what a call gives and leaves in the lent buffers
-pub record Stands (t : Stand) (r : Run) (held cells log : List ℕ) : Type 0 where
+pub record Stands (t : Stand) (r : Run) (held page cells log : List ℕ) : Type 0 where
   pub run′ : r ≡ t .run
   pub held′ : held ≡ t .held
+  pub page′ : page ≡ t .page
   pub cells′ : cells ≡ t .cells
   pub log′ : log ≡ t .log
 
-pub record Ends (t : Stand) (filled : ℕ) (cells log : List ℕ) : Type 0 where
+pub record Finishes (t : Stand) (filled : ℕ) (page cells log : List ℕ) : Type 0 where
   pub filled′ : filled ≡ t .run .filled
+  pub page′ : page ≡ t .page
   pub cells′ : cells ≡ t .cells
   pub log′ : log ≡ t .log
 
 -- no second answer
 abbrev pub OneStands : Type 0
-OneStands = (t : Stand) (r r₂ : Run) (held held₂ cells cells₂ log log₂ : List ℕ) → Stands t r held cells log → Stands t r₂ held₂ cells₂ log₂
-    → (r ≡ r₂) × (held ≡ held₂) × (cells ≡ cells₂) × (log ≡ log₂)
+OneStands = (t : Stand) (r r₂ : Run) (held held₂ page page₂ cells cells₂ log log₂ : List ℕ) → Stands t r held page cells log → Stands t r₂ held₂ page₂ cells₂ log₂
+    → (r ≡ r₂) × (held ≡ held₂) × (page ≡ page₂) × (cells ≡ cells₂) × (log ≡ log₂)
 
-abbrev pub OneEnds : Type 0
-OneEnds = (t : Stand) (filled filled₂ : ℕ) (cells cells₂ log log₂ : List ℕ) → Ends t filled cells log → Ends t filled₂ cells₂ log₂
-    → (filled ≡ filled₂) × (cells ≡ cells₂) × (log ≡ log₂)
+abbrev pub OneFinishes : Type 0
+OneFinishes = (t : Stand) (filled filled₂ : ℕ) (page page₂ cells cells₂ log log₂ : List ℕ) → Finishes t filled page cells log → Finishes t filled₂ page₂ cells₂ log₂
+    → (filled ≡ filled₂) × (page ≡ page₂) × (cells ≡ cells₂) × (log ≡ log₂)

@@ -11,21 +11,21 @@ use Rattle.lines.specs.Cutting.{Holds, heldRoom}
 use Rattle.stepper.specs.Rows.{logFrom}
 use Rattle.log.specs.Row.{longestRow}
 use Rattle.feed.specs.declared.Run.{Run}
-use Rattle.feed.specs.Feed.{Stand, standing, feedOf, lastOf}
+use Rattle.feed.specs.Feed.{Stand, standing, chipNow, feedOf, lastOf}
 
 -- the log was written out, and is empty again
 abbrev pub emptiedRun : Run → Run
 emptiedRun run = record { chip = run .chip; number = run .number; used = run .used; at = run .at; filled = 0 }
 
 abbrev pub emptied : Stand → Stand
-emptied s = standing (emptiedRun (s .run)) (s .held) (s .cells) (s .log)
+emptied s = standing (emptiedRun (s .run)) (s .held) (s .page) (s .cells) (s .log)
 
 -- the start of a block, with an empty log
 abbrev pub begunRun : Run → Run
 begunRun run = record { chip = run .chip; number = run .number; used = run .used; at = 0; filled = 0 }
 
 abbrev pub begun : Stand → Stand
-begun s = standing (begunRun (s .run)) (s .held) (s .cells) (s .log)
+begun s = standing (begunRun (s .run)) (s .held) (s .page) (s .cells) (s .log)
 
 -- what is written out of the log
 abbrev pub filledPart : Stand → List ℕ
@@ -56,4 +56,4 @@ writtenOf rec s (block ∷ blocks) = wholeBlock rec block s .text ++ writtenOf r
 -- it is the log of the lines of all blocks together, whatever `line` is held at the start
 abbrev pub WholeScript : Type 0
 WholeScript = (rec : Record) (s : Stand) (line : List ℕ) (blocks : List (List ℕ)) → length (s .held) ≡ heldRoom → longestRow ≤ length (s .log) → Holds line (s .held) (s .run .used)
-    → writtenOf rec s blocks ≡ logFrom rec (s .run .chip) (s .cells) (s .run .number) (linesFrom line (joinedUp blocks))
+    → writtenOf rec s blocks ≡ logFrom rec (chipNow s) (s .run .number) (linesFrom line (joinedUp blocks))

@@ -4,7 +4,7 @@ ghost use Prim.Native.Nat.{_+_, _≤_, _<_};
 ghost use lib.ListN.{length};
 ghost use Rattle.log.specs.Row.{longestRow};
 ghost use Rattle.lines.specs.Cutting.{heldRoom};
-ghost use Rattle.feed.specs.Feed.{Start, TurnStart, goesOn, standing, feedTurn, feedOf, lastOf, Stands, Ends};
+ghost use Rattle.feed.specs.Feed.{Start, TurnStart, goesOn, standing, feedTurn, feedOf, lastOf, Stands, Finishes};
 use lines::Cut;
 use states::Record;
 use states::State;
@@ -40,11 +40,12 @@ fn turn(
     rec: Record,
     held: &mut [u8],
     block: &[u8],
+    page: &mut [u8],
     array: &mut [u8],
     log: &mut [u8],
 ) -> Run
     requires { ⌜ TurnStart run (now held) (now block) (now log) ⌝ }
-    ensures { λ r. ⌜ Stands (feedTurn rec (now (block .entry)) (standing run (now (held .entry)) (now (array .entry)) (now (log .entry)))) r (now (held .exit)) (now (array .exit)) (now (log .exit)) ⌝ }
+    ensures { λ r. ⌜ Stands (feedTurn rec (now (block .entry)) (standing run (now (held .entry)) (now (page .entry)) (now (array .entry)) (now (log .entry)))) r (now (held .exit)) (now (page .exit)) (now (array .exit)) (now (log .exit)) ⌝ }
 {
     let chip = run.chip;
     let number = run.number;
@@ -54,11 +55,13 @@ fn turn(
     let cut = lines::cut_line(held, used, block, at);
     match cut {
         Cut::Here { end } => {
-            let done = stepper::log_line(number, &block[at..end], rec, chip, array, log, filled);
+            let line = &block[at..end];
+            let done = stepper::log_line(number, line, rec, chip, page, array, log, filled);
             line_done(done, number, end + 1)
         }
         Cut::Joined { used: n, end } => {
-            let done = stepper::log_line(number, &held[0..n], rec, chip, array, log, filled);
+            let line = &held[0..n];
+            let done = stepper::log_line(number, line, rec, chip, page, array, log, filled);
             line_done(done, number, end + 1)
         }
         Cut::Open { used: n } => Run {
@@ -77,11 +80,12 @@ pub fn feed(
     rec: Record,
     held: &mut [u8],
     block: &[u8],
+    page: &mut [u8],
     array: &mut [u8],
     log: &mut [u8],
 ) -> Run
     requires { ⌜ Start first (now held) (now block) (now log) ⌝ }
-    ensures { λ r. ⌜ Stands (feedOf rec (now (block .entry)) (standing first (now (held .entry)) (now (array .entry)) (now (log .entry)))) r (now (held .exit)) (now (array .exit)) (now (log .exit)) ⌝ }
+    ensures { λ r. ⌜ Stands (feedOf rec (now (block .entry)) (standing first (now (held .entry)) (now (page .entry)) (now (array .entry)) (now (log .entry)))) r (now (held .exit)) (now (page .exit)) (now (array .exit)) (now (log .exit)) ⌝ }
 {
     let mut run = first;
     let mut at = first.at;
@@ -90,16 +94,23 @@ pub fn feed(
         if log.len() - filled < log::LONGEST_ROW {
             return run;
         }
-        run = turn(run, rec, held, block, array, log);
+        run = turn(run, rec, held, block, page, array, log);
         at = run.at;
     }
     run
 }
 
 // The input has ended: a line that is held is the last one. How much of the log is filled comes back.
-pub fn finish(run: Run, rec: Record, held: &[u8], array: &mut [u8], log: &mut [u8]) -> usize
+pub fn finish(
+    run: Run,
+    rec: Record,
+    held: &[u8],
+    page: &mut [u8],
+    array: &mut [u8],
+    log: &mut [u8],
+) -> usize
     requires { ⌜ (length (now held) ≡ heldRoom) × (run .used ≤ heldRoom) × (run .filled + longestRow ≤ length (now log)) ⌝ }
-    ensures { λ r. ⌜ Ends (lastOf rec (standing run (now (held .entry)) (now (array .entry)) (now (log .entry)))) r (now (array .exit)) (now (log .exit)) ⌝ }
+    ensures { λ r. ⌜ Finishes (lastOf rec (standing run (now (held .entry)) (now (page .entry)) (now (array .entry)) (now (log .entry)))) r (now (page .exit)) (now (array .exit)) (now (log .exit)) ⌝ }
 {
     let used = run.used;
     let filled = run.filled;
@@ -107,6 +118,7 @@ pub fn finish(run: Run, rec: Record, held: &[u8], array: &mut [u8], log: &mut [u
     if used == 0 {
         return filled;
     }
-    let done = stepper::log_line(run.number, &held[0..used], rec, chip, array, log, filled);
+    let line = &held[0..used];
+    let done = stepper::log_line(run.number, line, rec, chip, page, array, log, filled);
     done.next
 }

@@ -2,7 +2,7 @@
 use mathlib.Core.Path.{_≡_, refl, sym, ap, _∙_}
 use mathlib.Core.Bool.{Bool, true, false}
 use mathlib.Core.List.{List}
-use Prim.Native.Nat.{ℕ, _+_, _-_, _≤_}
+use Prim.Native.Nat.{ℕ, _+_, _-_, _≤_, _<_}
 use native.Mathlib.Omega.{arith}
 use lib.Dec.{ltb}
 use lib.ListN.{length, getD, length-replicate, getD-replicate, List·getD-eq-default}
@@ -14,10 +14,11 @@ use Rattle.units.specs.declared.Sector.{Sector}
 use Rattle.units.specs.declared.HalfBlock.{HalfBlock}
 use Rattle.units.specs.declared.Block.{Block}
 use Rattle.units.specs.Kinds.{sectorStart, halfBlockStart, blockStart, pageStart, pageOffset}
-use Rattle.cells.specs.Cell.{FF, erased}
+use Rattle.cells.specs.Cell.{FF, erased, tornCells}
+use Rattle.parts.proofs.Loop.{length-byIndex}
 use Rattle.fold.specs.Fold.{cellAfter, pageAfter}
 use Rattle.parts.specs.Parts.{Bytes, part, lay}
-use Rattle.flash.specs.Arrays.{sectorErased, halfBlockErased, blockErased, allErased, programmed}
+use Rattle.flash.specs.Arrays.{sectorErased, halfBlockErased, blockErased, allErased, programmed, pageTorn}
 use Rattle.flash.specs.Sheet.{PageFolds, OutsideStays, ErasesOnly, SectorErase, HalfBlockErase, BlockErase, ChipErase}
 use Rattle.parts.proofs.Bytes.{bytes-replicate, bytes-part, bytes-lay}
 use Rattle.fold.proofs.Fold.{length-pageAfter, pageAfter-at, bytes-pageAfter, fresh-page}
@@ -168,3 +169,31 @@ program-back a start offset sent xs ys e o h f =
     part-back start (start + 256) (pageStart a) xs ys (pageAfter (pageOffset a) sent (part xs (pageStart a) 256)) e (omega arith)
     (f ∙ rw (n, e, o))
     (length-page xs a sent h ∙ sym n)
+
+-- ---- a program that was cut
+module _ (xs : List ℕ) (a : Address) (bytes pattern : List ℕ) (h : pageStart a + 256 ≤ length xs) where
+  length-torn : length (tornCells bytes pattern (part xs (pageStart a) 256)) ≡ 256
+  unfolding tornCells
+  length-torn = length-byIndex _ (part xs (pageStart a) 256) ∙ length-part xs (pageStart a) 256 h
+
+  pub length-pageTorn : length (pageTorn xs a bytes pattern) ≡ length xs
+  unfolding pageTorn
+  length-pageTorn = length-lay xs (pageStart a) (tornCells bytes pattern (part xs (pageStart a) 256)) (omega (arith, length-torn))
+
+  pub torn-before : (k : ℕ) → k < pageStart a → getD (pageTorn xs a bytes pattern) k 0 ≡ getD xs k 0
+  unfolding pageTorn
+  torn-before k l = lay-before xs (pageStart a) (tornCells bytes pattern (part xs (pageStart a) 256)) k (omega arith) l
+
+  pub torn-behind : (k : ℕ) → pageStart a + 256 ≤ k → getD (pageTorn xs a bytes pattern) k 0 ≡ getD xs k 0
+  unfolding pageTorn
+  torn-behind k l = lay-after xs (pageStart a) (tornCells bytes pattern (part xs (pageStart a) 256)) k (omega arith) (omega (arith, length-torn))
+
+-- from the tearing of a page
+pub torn-back : (a : Address) (start : ℕ) (bytes pattern xs ys : List ℕ) → start ≡ pageStart a → pageStart a + 256 ≤ length xs
+    → ys ≡ tornCells bytes pattern (midOf start (start + 256 - start) xs) → putMid start (start + 256 - start) xs ys ≡ pageTorn xs a bytes pattern
+unfolding pageTorn
+torn-back a start bytes pattern xs ys e h f =
+    let n : start + 256 - start ≡ 256 = omega arith in
+    part-back start (start + 256) (pageStart a) xs ys (tornCells bytes pattern (part xs (pageStart a) 256)) e (omega arith)
+    (f ∙ rw (n, e))
+    (length-torn xs a bytes pattern h ∙ sym n)

@@ -9,7 +9,7 @@ use Rattle.units.specs.declared.HalfBlock.{HalfBlock}
 use Rattle.units.specs.declared.Block.{Block}
 use Rattle.units.specs.Kinds.{sectorStart, halfBlockStart, blockStart, pageStart, pageOffset}
 use Rattle.models.specs.Models.{isLength}
-use Rattle.cells.specs.Cell.{erased}
+use Rattle.cells.specs.Cell.{erased, tornCells}
 use Rattle.fold.specs.Fold.{pageAfter}
 use Rattle.parts.specs.Parts.{part, lay}
 
@@ -31,6 +31,10 @@ allErased xs = erased (length xs)
 -- the page that holds the address is programmed from the address's offset on, and every other cell is as it was (000 L343)
 unfoldable pub programmed : List ℕ → Address → List ℕ → List ℕ
 programmed xs a sent = lay xs (pageStart a) (pageAfter (pageOffset a) sent (part xs (pageStart a) 256))
+
+-- a program of the page's data bytes that was cut: each bit of the page's cells that was to change has its pattern bit, and every other cell is as it was
+unfoldable pub pageTorn : List ℕ → Address → List ℕ → List ℕ → List ℕ
+pageTorn xs a bytes pattern = lay xs (pageStart a) (tornCells bytes pattern (part xs (pageStart a) 256))
 
 -- the 256 cells of the page that the address, modulo the array's length, falls in; none where no model's array is so long (01, "Commands", page view)
 unfoldable pub pageOf : List ℕ → Address → List ℕ

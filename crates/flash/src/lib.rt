@@ -7,7 +7,7 @@ ghost use Rattle.units.specs.Kinds.{sectorStart, halfBlockStart, blockStart, pa
 ghost use Rattle.parts.specs.Parts.{lay};
 ghost use Rattle.rings.specs.Ring.{ring};
 ghost use Rattle.fold.specs.Fold.{folds};
-ghost use Rattle.flash.specs.Arrays.{sectorErased, halfBlockErased, blockErased, allErased, programmed, pageOf};
+ghost use Rattle.flash.specs.Arrays.{sectorErased, halfBlockErased, blockErased, allErased, programmed, pageTorn, pageOf};
 use units::Address;
 use units::Block;
 use units::HalfBlock;
@@ -62,6 +62,27 @@ pub fn program(array: &mut [u8], a: Address, sent: &[u8]) -> bool
     let start = page.0 as usize;
     let end = start + 256;
     fold::program_page(&mut array[start..end], a.page_offset(), sent)
+}
+
+// What a cut leaves of the page that holds the address, while its data bytes were programmed into it: only that page is passed on.
+pub fn tear_page(array: &mut [u8], a: Address, bytes: &[u8], pattern: &[u8])
+    requires { ⌜ (pageStart a + 256 ≤ length (now array)) × (length (now bytes) ≡ 256) × (length (now pattern) ≡ 256) ⌝ }
+    ensures { λ _. ⌜ now (array .exit) ≡ pageTorn (now (array .entry)) a (now (bytes .entry)) (now (pattern .entry)) ⌝ }
+{
+    let torn = a.page_start();
+    let start = torn.0 as usize;
+    let end = start + 256;
+    cells::tear_into(&mut array[start..end], bytes, pattern);
+}
+
+// The cells from an address on become the bytes left in them.
+pub fn leave(array: &mut [u8], from: Address, bytes: &[u8])
+    requires { ⌜ from .0 + length (now bytes) ≤ length (now array) ⌝ }
+    ensures { λ _. ⌜ now (array .exit) ≡ lay (now (array .entry)) (from .0) (now (bytes .entry)) ⌝ }
+{
+    let start = from.0 as usize;
+    let end = start + bytes.len();
+    parts::copy(&mut array[start..end], bytes);
 }
 
 // The bytes of out from index from up to end become the cells from the address on, and after the last address those from 0 on. The rest of out stays.

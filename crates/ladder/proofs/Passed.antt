@@ -46,6 +46,7 @@ pub record Passed (rec : Record) (s : State) (h : Head) : Type 0 where
   pub right : recordOk rec ≡ true
   pub whole : h .cells ≡ modelOf (rec .model) .length
   pub valid : stateOk rec s ≡ true
+  pub page : h .page ≡ true
   pub short : h .count ≤ 65541
   pub tail : h .tail ≤ 7
   pub roomy : h .count ≤ h .room
@@ -68,10 +69,12 @@ passed rec s h e =
     let g = d .1 .1 in
     let f = g .1 .1 .1 .1 in
     let long = neither _ _ (c .1 .1 .1 .0) in
+    let ok = both (stateOk rec s) (h .page) (not-false _ (c .1 .1 .0)) in
     record {
       right = not-false _ (c .0);
       whole = eqb-true _ _ (not-false _ (c .1 .0));
-      valid = not-false _ (c .1 .1 .0);
+      valid = ok .0;
+      page = ok .1;
       short = ltb-false _ _ (long .0);
       tail = ltb-false _ _ (long .1);
       roomy = ltb-false _ _ (c .1 .1 .1 .1 .0);
@@ -85,6 +88,13 @@ passed rec s h e =
       unlocked = f .1 .0;
       free = f .1 .1 .0;
     }
+
+-- the first five rows have shown that the page data fit
+pub given-page : (rec : Record) (s : State) (h : Head) → isDone (givenOf rec s h) ≡ true → h .page ≡ true
+unfolding givenOf
+given-page rec s h e =
+    let c = clear (take 5 (ladder rec s h (asks rec h))) refl e in
+    both (stateOk rec s) (h .page) (not-false _ (c .1 .1 .0)) .1
 
 -- ---- what a frame that is answered 17 has shown
 -- no row of a table answers 17
@@ -119,9 +129,10 @@ clear-to (r ∷ rs) ys h e =
     let c = clear-to rs ys (k .1) (s .1) in
     ((s .0, c .0), c .1)
 
-pub record Stopped (rec : Record) (s : State) : Type 0 where
+pub record Stopped (rec : Record) (s : State) (h : Head) : Type 0 where
   pub right : recordOk rec ≡ true
   pub valid : stateOk rec s ≡ true
+  pub page : h .page ≡ true
   pub idle : s .busy ≡ 0
   pub settled : s .settle ≡ 0
 
@@ -133,16 +144,18 @@ waits-for rec s h g = go (asks rec h .latch) refl
     go true e = latch-waits _ (h .command) e
     go false e = let k = no-latch _ (h .command) e in absurd (false≢true (rw (k .unit, k .whole) at g))
 
-pub stopped : (rec : Record) (s : State) (h : Head) → saysProtected (refusalOf rec s h) ≡ true → Stopped rec s
+pub stopped : (rec : Record) (s : State) (h : Head) → saysProtected (refusalOf rec s h) ≡ true → Stopped rec s h
 unfolding refusalOf
 stopped rec s h e =
     let rows = ladder rec s h (asks rec h) in
     let t = clear-to (take 13 rows) (drop 13 rows) refl e in
     let c = t .0 in
+    let ok = both (stateOk rec s) (h .page) (not-false _ (c .1 .1 .0)) in
     let g : guarded rec s (asks rec h) h ≡ true = reached (guarded rec s (asks rec h) h) (t .1) in
     record {
       right = not-false _ (c .0);
-      valid = not-false _ (c .1 .1 .0);
+      valid = ok .0;
+      page = ok .1;
       idle = eqb-true (s .busy) 0 (not-false _ (only-if (not (eqb (s .busy) 0)) _ (c .1 .1 .1 .1 .1 .1 .1 .0) (waits-for rec s h g)));
       settled = eqb-true (s .settle) 0 (not-false _ (c .1 .1 .1 .1 .1 .1 .0));
     }

@@ -40,7 +40,7 @@ abbrev pub ladder : Record → State → Head → Traits → List Rung
 ladder rec s h k =
     (not (recordOk rec) gives BadRecord)
     ∷ (not (eqb (h .cells) (modelOf (rec .model) .length)) gives BadArray)
-    ∷ (not (stateOk rec s) gives BadState)
+    ∷ (not (stateOk rec s && h .page) gives BadState)
     ∷ ((ltb 65541 (h .count) || ltb 7 (h .tail)) gives BadFrame)
     ∷ (ltb (h .room) (h .count) gives ShortOut)
     ∷ (eqb (h .count) 0 gives Empty)

@@ -8,10 +8,11 @@ use states::Record;
 use states::State;
 use units::Address;
 
-// What the refusals look at of one frame: the cells of the array that it is given, its whole bytes, tail bits and WP# level, the room of its output,
+// What the refusals look at of one frame: the cells of the array that it is given, whether the page data fit the state, its whole bytes, tail bits and WP# level, the room of its output,
 // its command, and its address in the array.
 pub struct Head {
     pub cells: usize,
+    pub page: bool,
     pub count: usize,
     pub tail: u32,
     pub wp: bool,
@@ -31,7 +32,7 @@ pub fn given(rec: Record, st: State, head: Head) -> Answer
     if head.cells != row.length as usize {
         return Answer::BadArray;
     }
-    if !states::state_ok(rec, st) {
+    if !(states::state_ok(rec, st) & head.page) {
         return Answer::BadState;
     }
     let n = head.count;

@@ -1,4 +1,4 @@
-// The steps of a case: a fresh chip, its state and cells set, frames, waits and power cycles. `cases` says what each line looks like.
+// The steps of a case: a fresh chip, its state, page data and cells set, frames, waits and power cycles. `cases` says what each line looks like.
 ghost use Prim.Native.Nat.{_<_};
 use parts::wide;
 use play::Played;
@@ -41,7 +41,8 @@ fn set_to(state: State) -> Played {
     }
 }
 
-pub fn fresh(model: u8, blocks: u8, array: &mut [u8]) -> Setup {
+pub fn fresh(model: u8, blocks: u8, page: &mut [u8; 256], array: &mut [u8]) -> Setup {
+    parts::fill(page, 0xFF);
     flash::erase_all(array);
     let last = set_to(states::power_on());
     Setup {
@@ -52,7 +53,7 @@ pub fn fresh(model: u8, blocks: u8, array: &mut [u8]) -> Setup {
     }
 }
 
-fn state_of(status: u8, asleep: u8, busy: u32, settle: u32) -> State {
+fn state_of(status: u8, asleep: u8, busy: u32, settle: u32, command: u8, address: u32) -> State {
     State {
         srwd: 128 <= status,
         bp: status / 4 % 32,
@@ -61,17 +62,34 @@ fn state_of(status: u8, asleep: u8, busy: u32, settle: u32) -> State {
         asleep: asleep != 0,
         busy,
         settle,
+        command,
+        address,
     }
 }
 
-// The state of a line's bytes.
-fn state_said(says: &[u8; 16]) -> State {
+// The state of a line's bytes; an idle chip's command and address where they are left out.
+fn state_said(line: &[u8]) -> State {
+    let mut idle = [0u8; 16];
+    parts::fill_part(&mut idle, 8, 12, 0xFF);
+    let says = read_over(idle, line);
     state_of(
         says[0],
         says[1],
         number(says[2], says[3], says[4]),
         number(says[5], says[6], says[7]),
+        says[8],
+        number(says[9], says[10], says[11]),
     )
+}
+
+// The line's bytes after the offset become the page data from there on, as far as these go.
+fn set_page(line: &[u8], at: usize, page: &mut [u8]) {
+    if line.len() < 4 {
+        return;
+    }
+    if at <= page.len() {
+        script::unhex(&line[4..], &mut page[at..]);
+    }
 }
 
 // Eight bytes become the cells from an address on, where they fit.
@@ -87,12 +105,13 @@ fn set_cells(says: &[u8; 16], array: &mut [u8]) {
 fn send(
     rec: Record,
     st: State,
-    array: &mut [u8],
+    page: &mut [u8],
+    array: &[u8],
     frame: &[u8],
     tail: u8,
     out: &mut [u8],
 ) -> Played {
-    let r = chip::frame(rec, st, array, frame, wide(tail), true, out);
+    let r = chip::frame(rec, st, page, array, frame, wide(tail), true, out);
     let answer = r.answer;
     let state = r.state;
     Played {
@@ -113,7 +132,14 @@ fn long_frame(says: &[u8; 16]) -> [u8; 65600] {
     frame
 }
 
-fn send_long(rec: Record, st: State, says: &[u8; 16], array: &mut [u8], out: &mut [u8]) -> Played {
+fn send_long(
+    rec: Record,
+    st: State,
+    says: &[u8; 16],
+    page: &mut [u8],
+    array: &[u8],
+    out: &mut [u8],
+) -> Played {
     let count = number(says[0], says[1], says[2]) as usize;
     let room = number(says[3], says[4], says[5]) as usize;
     if 65600 < count {
@@ -123,16 +149,29 @@ fn send_long(rec: Record, st: State, says: &[u8; 16], array: &mut [u8], out: &mu
         return set_to(st);
     }
     let frame = long_frame(says);
-    send(rec, st, array, &frame[0..count], says[6], &mut out[0..room])
+    send(
+        rec,
+        st,
+        page,
+        array,
+        &frame[0..count],
+        says[6],
+        &mut out[0..room],
+    )
 }
 
-// The bytes that a line has in hex after its letter and tab; 0 where it has none.
-pub fn read(line: &[u8]) -> [u8; 16] {
-    let mut says = [0u8; 16];
+// The bytes that a line has in hex after its letter and tab, over others.
+fn read_over(first: [u8; 16], line: &[u8]) -> [u8; 16] {
+    let mut says = first;
     if 2 <= line.len() {
         script::unhex(&line[2..], &mut says);
     }
     says
+}
+
+// Those bytes, and 0 where it has none.
+pub fn read(line: &[u8]) -> [u8; 16] {
+    read_over([0u8; 16], line)
 }
 
 pub fn letter(line: &[u8]) -> u8 {
@@ -151,20 +190,33 @@ fn with_look(setup: Setup, look: u32) -> Setup {
     next
 }
 
-pub fn step(setup: Setup, line: &[u8], array: &mut [u8], out: &mut [u8; 65600]) -> Setup {
+pub fn step(
+    setup: Setup,
+    line: &[u8],
+    page: &mut [u8; 256],
+    array: &mut [u8],
+    out: &mut [u8; 65600],
+) -> Setup {
     let rec = record_of(setup.model);
     let last = setup.last;
     let st = last.state;
     let says = read(line);
     match letter(line) {
-        b'S' => with_last(setup, set_to(state_said(&says))),
+        b'S' => {
+            parts::fill(page, 0xFF);
+            with_last(setup, set_to(state_said(line)))
+        }
+        b'D' => {
+            set_page(line, wide(says[0]) as usize, page);
+            setup
+        }
         b'C' => {
             set_cells(&says, array);
             setup
         }
         b'L' => with_look(setup, number(says[0], says[1], says[2])),
-        b'X' => with_last(setup, send_long(rec, st, &says, array, out)),
-        _ => with_last(setup, play::play(line, rec, st, array, out)),
+        b'X' => with_last(setup, send_long(rec, st, &says, page, array, out)),
+        _ => with_last(setup, play::play(line, rec, st, page, array, out)),
     }
 }
 

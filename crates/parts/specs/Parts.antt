@@ -1,6 +1,8 @@
 -- A part of a list, and a list with one part replaced. Every change of a lent slice is said by `lay`. Assumes nothing.
+use mathlib.Core.Bool.{Bool, true, _&&_}
 use mathlib.Core.List.{List, [], _∷_, _++_}
 use Prim.Native.Nat.{ℕ, suc, _+_, _<_}
+use lib.Dec.{eqb}
 use lib.ListN.{length, getD, take, drop}
 
 -- the n elements of xs from index at on
@@ -18,6 +20,11 @@ mapFrom f k (x ∷ xs) = f k x ∷ mapFrom f (suc k) xs
 
 abbrev pub byIndex : (ℕ → ℕ → ℕ) → List ℕ → List ℕ
 byIndex f xs = mapFrom f 0 xs
+
+-- whether each element is that number
+abbrev pub allAre : ℕ → List ℕ → Bool
+allAre v [] = true
+allAre v (x ∷ xs) = eqb x v && allAre v xs
 
 -- every element is a byte
 pub record Bytes (xs : List ℕ) : Type 0 where

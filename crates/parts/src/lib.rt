@@ -2,7 +2,7 @@
 ghost use mathlib.Core.Path.{_≡_};
 ghost use Prim.Native.Nat.{_-_, _≤_, min};
 ghost use lib.ListN.{length, getD, replicate};
-ghost use Rattle.parts.specs.Parts.{lay};
+ghost use Rattle.parts.specs.Parts.{allAre, lay};
 
 // The byte at an index, and 0 past the end.
 pub fn byte_at(bytes: &[u8], i: usize) -> u8
@@ -23,6 +23,17 @@ pub fn least(a: usize, b: usize) -> usize
     ensures { λ r. ⌜ r ≡ min a b ⌝ }
 {
     if a < b { a } else { b }
+}
+
+// Whether every byte is that byte. All are looked at, whatever comes.
+pub fn all_are(bytes: &[u8], byte: u8) -> bool
+    ensures { λ r. ⌜ r ≡ allAre byte (now (bytes .entry)) ⌝ }
+{
+    let mut all = true;
+    for i in 0..bytes.len() {
+        all = all & (bytes[i] == byte);
+    }
+    all
 }
 
 // Every byte of part becomes byte.

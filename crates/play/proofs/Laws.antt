@@ -7,17 +7,22 @@ use native.Mathlib.Omega.{arith}
 use lib.ListN.{length, take, drop, length-take}
 use lib.Seq.{take-at}
 use Rattle.answers.specs.Answers.{numberOf}
+use Rattle.answers.specs.declared.Answer.{Answer}
 use Rattle.states.specs.declared.Record.{Record}
 use Rattle.effects.specs.declared.Reply.{Reply}
 use Rattle.effects.specs.Effects.{Gives}
-use Rattle.chip.specs.Frames.{Chip, sentOf, frameOf}
+use Rattle.states.specs.States.{Chip}
+use Rattle.states.specs.declared.State.{State}
+use Rattle.time.specs.declared.After.{After}
+use Rattle.time.specs.Time.{Aftermath, Ends}
+use Rattle.chip.specs.Frames.{sentOf, frameOf}
 use Rattle.chip.proofs.Cases.{frame-within}
 use Rattle.script.specs.declared.Line.{Line}
 use Rattle.script.specs.declared.Line.the-variants.{Frame, Wait, Power, Bad}
 use Rattle.script.specs.Hex.{hexBytes, Unhexed}
 use Rattle.script.specs.Reading.{lineOf}
 use Rattle.play.specs.declared.Played.{Played}
-use Rattle.play.specs.Play.{Plays, OnePlays, frameTurn, turnOf, playOf}
+use Rattle.play.specs.Play.{Plays, OnePlays, passedOf, frameTurn, waitTurn, turnOf, playOf}
 
 -- ---- what is sent of a frame's line
 take-long : (m : ℕ) (xs : List ℕ) → take (length (take m xs)) xs ≡ take m xs
@@ -34,24 +39,37 @@ unhexed-front {digits} {d} {e} {r} m l u =
     let z : r - 0 ≡ length (take m bs) = omega arith in
     ap (λ (k : ℕ). take k e) z ∙ ap (take (length (take m bs))) is ∙ take-at (take m bs) (drop r d) (length (take m bs)) refl
 
-pub frame-plays : (rec : Record) (x : Chip) (shown line : List ℕ) (wp : Bool) (tail : ℕ) {frame : List ℕ} {r : Reply} {number : ℕ} {xs os : List ℕ}
-    → frame ≡ take 300 (hexBytes (drop 6 line)) → Gives (frameOf rec x (sentOf frame tail wp shown)) r xs os → number ≡ numberOf (r .answer)
-    → Plays (frameTurn rec x shown line wp tail) (record { answer = number; from = r .from; count = r .count; state = r .state; fold = r .fold }) xs os
+pub frame-plays : (rec : Record) (x : Chip) (shown line : List ℕ) (wp : Bool) (tail : ℕ) {frame : List ℕ} {r : Reply} {number : ℕ} {ps os : List ℕ}
+    → frame ≡ take 300 (hexBytes (drop 6 line)) → Gives (frameOf rec x (sentOf frame tail wp shown)) r ps os → number ≡ numberOf (r .answer)
+    → Plays (frameTurn rec x shown line wp tail) (record { answer = number; from = r .from; count = r .count; state = r .state; fold = r .fold }) ps (x .cells) os
 unfolding frameTurn
-frame-plays rec x shown line wp tail {frame} {r} {number} {xs} {os} e g n =
-    let h = subst (λ (z : List ℕ). Gives (frameOf rec x (sentOf z tail wp shown)) r xs os) e g in
+frame-plays rec x shown line wp tail {frame} {r} {number} {ps} {os} e g n =
+    let h = subst (λ (z : List ℕ). Gives (frameOf rec x (sentOf z tail wp shown)) r ps os) e g in
     record {
       played =
           ap (λ (k : ℕ). record { answer = k; from = r .from; count = r .count; state = r .state; fold = r .fold }) n
           ∙ ap (λ (q : Reply). record { answer = numberOf (q .answer); from = q .from; count = q .count; state = q .state; fold = q .fold }) (h .reply);
-      cells = h .cells;
+      page = h .page-is;
+      cells = refl;
       shown = h .out;
     }
 
+-- a wait
+pub wait-plays : (o : Aftermath) (shown : List ℕ) {a : After} {r : Played} {ps xs : List ℕ} → r ≡ passedOf a → Ends o a ps xs → Plays (waitTurn o shown) r ps xs shown
+wait-plays o shown {a} {r} {ps} {xs} e w =
+    record {
+      played =
+          e ∙ ap (λ (z : Answer). passedOf (record { answer = z; state = a .state })) (w .answer-is)
+          ∙ ap (λ (z : State). passedOf (record { answer = o .answer; state = z })) (w .state-is);
+      page = w .page-is;
+      cells = w .cells-are;
+      shown = refl;
+    }
+
 -- what the line in hand says
-pub at-line : (rec : Record) (x : Chip) (shown line : List ℕ) {l : Line} {r : Played} {xs os : List ℕ} → l ≡ lineOf line → (k : Line) → l ≡ k
-    → Plays (turnOf rec x shown line k) r xs os → Plays (playOf rec x shown line) r xs os
-at-line rec x shown line {l} {r} {xs} {os} e k f p = subst (λ (z : Line). Plays (turnOf rec x shown line z) r xs os) (sym f ∙ e) p
+pub at-line : (rec : Record) (x : Chip) (shown line : List ℕ) {l : Line} {r : Played} {ps xs os : List ℕ} → l ≡ lineOf line → (k : Line) → l ≡ k
+    → Plays (turnOf rec x shown line k) r ps xs os → Plays (playOf rec x shown line) r ps xs os
+at-line rec x shown line {l} {r} {ps} {xs} {os} e k f p = subst (λ (z : Line). Plays (turnOf rec x shown line z) r ps xs os) (sym f ∙ e) p
 
 -- ---- what a line drives lies in its frame
 turn-within : (rec : Record) (x : Chip) (shown line : List ℕ) (l : Line)
@@ -68,4 +86,4 @@ pub played-within : (rec : Record) (x : Chip) (shown line : List ℕ) {r : Playe
 played-within rec x shown line {r} e = subst (λ (q : Played). q .from + q .count ≤ 300) (sym e) (turn-within rec x shown line (lineOf line))
 
 pub one-plays : OnePlays
-one-plays t r r′ xs xs′ os os′ p q = (p .played ∙ sym (q .played), p .cells ∙ sym (q .cells), p .shown ∙ sym (q .shown))
+one-plays t r r′ ps ps′ xs xs′ os os′ p q = (p .played ∙ sym (q .played), p .page ∙ sym (q .page), p .cells ∙ sym (q .cells), p .shown ∙ sym (q .shown))

@@ -8,48 +8,60 @@ use Rattle.answers.specs.Answers.{numberOf}
 use Rattle.states.specs.declared.Record.{Record}
 use Rattle.time.specs.declared.After.{After}
 use Rattle.effects.specs.Effects.{Effect}
-use Rattle.chip.specs.Frames.{Chip, sentOf, frameOf}
-use Rattle.time.specs.Time.{waitOf, powerOf}
+use Rattle.states.specs.States.{Chip}
+use Rattle.chip.specs.Frames.{sentOf, frameOf}
+use Rattle.time.specs.Time.{Aftermath, waitOf, powerOf}
 use Rattle.script.specs.declared.Line.{Line}
 use Rattle.script.specs.declared.Line.the-variants.{Frame, Wait, Power, Bad}
 use Rattle.script.specs.Hex.{hexBytes}
 use Rattle.script.specs.Reading.{lineOf}
 use Rattle.play.specs.declared.Played.{Played}
 
--- what a line comes to, the array after and the output after
+-- what a line comes to, and the page data, the array and the output after
 pub record Turn : Type 0 where
   pub played : Played
+  pub page : List ℕ
   pub cells : List ℕ
   pub shown : List ℕ
 
 abbrev pub passedOf : After → Played
 passedOf a = record { answer = numberOf (a .answer); from = 0; count = 0; state = a .state; fold = false }
 
--- the bytes of the line's hex digits, as many as 300, are the frame
+-- the bytes of the line's hex digits, as many as 300, are the frame; it changes no cell
 unfoldable pub frameTurn : Record → Chip → List ℕ → List ℕ → Bool → ℕ → Turn
 frameTurn rec x shown line wp tail =
     let e : Effect = frameOf rec x (sentOf (take 300 (hexBytes (drop 6 line))) tail wp shown) in
     record {
       played = record { answer = numberOf (e .reply .answer); from = e .reply .from; count = e .reply .count; state = e .reply .state; fold = e .reply .fold };
-      cells = e .cells;
+      page = e .page;
+      cells = x .cells;
       shown = e .out;
     }
 
+-- a wait: its answer, and the chip that it leaves
+abbrev pub waitTurn : Aftermath → List ℕ → Turn
+waitTurn o shown = record { played = passedOf (record { answer = o .answer; state = o .chip .state }); page = o .chip .page; cells = o .chip .cells; shown = shown }
+
+-- only the state may differ
+abbrev pub stateTurn : Played → Chip → List ℕ → Turn
+stateTurn p x shown = record { played = p; page = x .page; cells = x .cells; shown = shown }
+
 unfoldable pub turnOf : Record → Chip → List ℕ → List ℕ → Line → Turn
 turnOf rec x shown line (Frame wp tail n) = frameTurn rec x shown line wp tail
-turnOf rec x shown line (Wait us) = record { played = passedOf (waitOf rec (x .state) us); cells = x .cells; shown = shown }
-turnOf rec x shown line Power = record { played = passedOf (powerOf rec (x .state)); cells = x .cells; shown = shown }
-turnOf rec x shown line Bad = record { played = record { answer = 20; from = 0; count = 0; state = x .state; fold = false }; cells = x .cells; shown = shown }
+turnOf rec x shown line (Wait us) = waitTurn (waitOf rec x us) shown
+turnOf rec x shown line Power = stateTurn (passedOf (powerOf rec (x .state) (x .page))) x shown
+turnOf rec x shown line Bad = stateTurn (record { answer = 20; from = 0; count = 0; state = x .state; fold = false }) x shown
 
 -- any line
 abbrev pub playOf : Record → Chip → List ℕ → List ℕ → Turn
 playOf rec x shown line = turnOf rec x shown line (lineOf line)
 
-pub record Plays (t : Turn) (r : Played) (xs os : List ℕ) : Type 0 where
+pub record Plays (t : Turn) (r : Played) (ps xs os : List ℕ) : Type 0 where
   pub played : r ≡ t .played
+  pub page : ps ≡ t .page
   pub cells : xs ≡ t .cells
   pub shown : os ≡ t .shown
 
 -- no second answer
 abbrev pub OnePlays : Type 0
-OnePlays = (t : Turn) (r r′ : Played) (xs xs′ os os′ : List ℕ) → Plays t r xs os → Plays t r′ xs′ os′ → (r ≡ r′) × (xs ≡ xs′) × (os ≡ os′)
+OnePlays = (t : Turn) (r r′ : Played) (ps ps′ xs xs′ os os′ : List ℕ) → Plays t r ps xs os → Plays t r′ ps′ xs′ os′ → (r ≡ r′) × (ps ≡ ps′) × (xs ≡ xs′) × (os ≡ os′)

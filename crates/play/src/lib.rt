@@ -1,6 +1,6 @@
 // A script line played on the chip.
 ghost use mathlib.Core.Path.{_≡_};
-ghost use Rattle.chip.specs.Frames.{chipOf};
+ghost use Rattle.states.specs.States.{chipOf};
 ghost use Rattle.play.specs.Play.{Plays, passedOf, frameTurn, playOf};
 use script::Line;
 use states::Record;
@@ -31,21 +31,22 @@ fn passed(a: After) -> Played
     }
 }
 
-// The line of a frame: its bytes are sent to the chip.
+// The line of a frame: its bytes are sent to the chip. The array is not written.
 fn play_frame(
     line: &[u8],
     wp: bool,
     tail: u8,
     rec: Record,
     st: State,
-    array: &mut [u8],
+    page: &mut [u8],
+    array: &[u8],
     shown: &mut [u8],
 ) -> Played
-    ensures { λ r. ⌜ Plays (frameTurn rec (chipOf st (now (array .entry))) (now (shown .entry)) (now (line .entry)) wp tail) r (now (array .exit)) (now (shown .exit)) ⌝ }
+    ensures { λ r. ⌜ Plays (frameTurn rec (chipOf st (now (page .entry)) (now (array .entry))) (now (shown .entry)) (now (line .entry)) wp tail) r (now (page .exit)) (now (array .entry)) (now (shown .exit)) ⌝ }
 {
     let mut sent = [0u8; 300];
     let n = script::frame_bytes(line, &mut sent);
-    let r = chip::frame(rec, st, array, &sent[0..n], tail as u32, wp, shown);
+    let r = chip::frame(rec, st, page, array, &sent[0..n], tail as u32, wp, shown);
     let answer = r.answer;
     let state = r.state;
     Played {
@@ -58,14 +59,23 @@ fn play_frame(
 }
 
 // Any line, of any bytes: a bad one is answered 20 and changes nothing.
-pub fn play(line: &[u8], rec: Record, st: State, array: &mut [u8], shown: &mut [u8]) -> Played
-    ensures { λ r. ⌜ Plays (playOf rec (chipOf st (now (array .entry))) (now (shown .entry)) (now (line .entry))) r (now (array .exit)) (now (shown .exit)) ⌝ }
+pub fn play(
+    line: &[u8],
+    rec: Record,
+    st: State,
+    page: &mut [u8],
+    array: &mut [u8],
+    shown: &mut [u8],
+) -> Played
+    ensures { λ r. ⌜ Plays (playOf rec (chipOf st (now (page .entry)) (now (array .entry))) (now (shown .entry)) (now (line .entry))) r (now (page .exit)) (now (array .exit)) (now (shown .exit)) ⌝ }
 {
     let said = script::read_line(line);
     match said {
-        Line::Frame { wp, tail, count: _ } => play_frame(line, wp, tail, rec, st, array, shown),
-        Line::Wait(us) => passed(time::wait(rec, st, us)),
-        Line::Power => passed(time::power_cycle(rec, st)),
+        Line::Frame { wp, tail, count: _ } => {
+            play_frame(line, wp, tail, rec, st, page, array, shown)
+        }
+        Line::Wait(us) => passed(time::wait(rec, st, page, array, us)),
+        Line::Power => passed(time::power_cycle(rec, st, page)),
         Line::Bad => Played {
             answer: 20,
             from: 0,

@@ -9,7 +9,7 @@ use lib.ListN.{length, getD, take, drop}
 use lib.Seq.{drop-cons}
 use borrow.Author.Tests.{eqb-true, eq-eqb}
 use Rattle.units.proofs.Bools.{both}
-use Rattle.pod.specs.Packing.{bytesOf, spelt, same}
+use Rattle.pod.specs.Packing.{bytesOf, spelt, placeBytes, placeSpelt, same}
 
 -- ---- numbers little-endian
 pub spelt-bytes : (x : ℕ) → x < 2 ^ 32 → spelt (bytesOf 4 x) ≡ x
@@ -23,6 +23,17 @@ bytes-spelt [] h = refl
 bytes-spelt (b ∷ bs) h =
     let k = lowest b (spelt bs) (h 0) in
     rw (k .0, k .1, bytes-spelt bs (λ (i : ℕ). h (suc i)))
+
+-- ---- three bytes, the high byte first
+pub place-back : (x : ℕ) → x < 2 ^ 24 → placeSpelt (x / 65536 % 256) (x / 256 % 256) (x % 256) ≡ x
+place-back x h = omega arith
+
+pub place-bytes : (a b c : ℕ) → a < 256 → b < 256 → c < 256 → placeBytes (placeSpelt a b c) ≡ a ∷ b ∷ c ∷ []
+place-bytes a b c k l m =
+    let high : placeSpelt a b c / 65536 % 256 ≡ a = omega arith in
+    let middle : placeSpelt a b c / 256 % 256 ≡ b = omega arith in
+    let low : placeSpelt a b c % 256 ≡ c = omega arith in
+    rw (high, middle, low)
 
 -- ---- lists that are the same
 pub same-refl : (xs : List ℕ) → same xs xs ≡ true

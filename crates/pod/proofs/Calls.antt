@@ -1,155 +1,230 @@
 -- The effects of the calls, from what the chip and the packing give. Assumes nothing.
 use mathlib.Core.Path.{_≡_, refl, sym, ap, _∙_}
-use mathlib.Core.Bool.{Bool, true, false, cond}
-use mathlib.Core.List.{List}
+use mathlib.Core.Bool.{Bool, true, false, _&&_, cond}
+use mathlib.Core.List.{List, [], _++_, append-nil}
 use Prim.Native.Nat.{ℕ}
+use native.Mathlib.Omega.{arith}
 use lib.Dec.{eqb}
-use lib.ListN.{length}
-use Rattle.models.specs.Models.{modelOf}
-use Rattle.answers.specs.Answers.{numberOf}
+use lib.ListN.{length, take, drop, length-append, length-drop, take-append-drop, drop-of-length-le}
+use lib.Seq.{length-take-le, take-all, drop-at}
 use mir.Val.{boolByte}
-use Rattle.pod.proofs.Status.{flag-byte}
-use Rattle.states.specs.States.{flag, recordOk, stateOk}
+use borrow.Rule.Slice.PartMut.{midOf, putMid}
+use Rattle.models.specs.Models.{modelOf}
+use Rattle.answers.specs.Answers.{numberOf, isDone, saysProtected}
+use Rattle.answers.specs.declared.Answer.{Answer}
+use Rattle.states.specs.States.{flag, recordOk, stateOk, pageOk, Chip, chipOf}
 use Rattle.states.specs.declared.Record.{Record}
 use Rattle.states.specs.declared.State.{State}
-use Rattle.answers.specs.declared.Answer.{Answer}
-use Rattle.effects.specs.declared.Reply.{Reply}
-use Rattle.time.specs.declared.After.{After}
 use Rattle.ladder.specs.Ladder.{refusalOf}
-use Rattle.effects.specs.Effects.{Effect, Gives}
-use Rattle.chip.specs.Frames.{Sent, chipOf, headFor, frameOf}
-use Rattle.time.specs.Time.{later, cycled, ifValid, waitOf, powerOf}
-use Rattle.pod.specs.Packing.{isPacking, unpackOf}
-use Rattle.pod.specs.Calls.{mayMove, keptOf, called, answered, answeredOf, calledFrame, calledWait, calledCycle, Leaves, Answers, Packs}
-use Rattle.pod.proofs.Packing.{Small, packing-length}
-use Rattle.pod.proofs.Valid.{valid-packing, invalid, valid-small, timely, later-small, cycled-small, Taken, taken}
+use Rattle.effects.specs.declared.Reply.{Reply}
+use Rattle.effects.specs.Effects.{Gives}
+use Rattle.chip.specs.Frames.{Sent, headFor, frameOf}
+use Rattle.time.specs.declared.After.{After}
+use Rattle.time.specs.Time.{waited, cutOff, chipRefusal, powerRefusal, cutRefusal, Aftermath, unless, waitOf, powerOf, powerCutOf, Ends}
+use Rattle.pod.specs.Packing.{packed, pageIn, isPacking, unpackOf}
+use Rattle.pod.specs.Calls.{chipIn, bytesRefusal, mayMove, keptOf, called, calledFrame, altered, alteredOf, calledWait, calledCut, answered, calledCycle, Leaves, Alters, Answers, Packs}
+use Rattle.pod.proofs.Status.{flag-byte}
+use Rattle.pod.proofs.Valid.{invalid, Keeps, frame-keeps, chip-spared, power-spared, wait-keeps, cut-keeps, cycle-keeps}
 
--- what is packed fits twelve bytes
-fits : (rec : Record) (xs : List ℕ) (a : Answer) (next : State)
-    → (mayMove a ≡ true → stateOk rec (unpackOf xs) ≡ true) → (mayMove a ≡ true → Small next) → Packs a next xs
-fits rec xs a next v h = record { room = λ d. packing-length xs (valid-packing rec xs (v d)); level = λ d. h d .level }
+-- ---- the page data are lent, and what comes back stands in their place
+module _ (xs : List ℕ) (n : length xs ≡ 272) where
+  pub page-lent : midOf 16 256 xs ≡ pageIn xs
+  page-lent = take-all 256 (pageIn xs) (rw (length-drop 16 xs) (omega arith))
 
--- ---- frames
-module _ (rec : Record) (xs cells : List ℕ) (f : Sent) where
-  abbrev E : Effect
-  E = frameOf rec (chipOf (unpackOf xs) cells) f
+  lent : (cells : List ℕ) {s : State} → s ≡ unpackOf xs → chipOf s (midOf 16 256 xs) cells ≡ chipIn xs cells
+  lent cells e = rw (e, page-lent)
 
-  pub frame-taken : mayMove (E .reply .answer) ≡ true → Taken rec (chipOf (unpackOf xs) cells) E
-  frame-taken d = taken rec (chipOf (unpackOf xs) cells) f d
+  page-back : (page : List ℕ) → putMid 16 256 xs page ≡ take 16 xs ++ page
+  page-back page =
+      let e : drop 256 (pageIn xs) ≡ [] = drop-of-length-le (pageIn xs) {i = 256} (rw (length-drop 16 xs) (omega arith)) in
+      rw e (ap (λ (ys : List ℕ). take 16 xs ++ ys) (append-nil page))
 
-  frame-fits : Packs (E .reply .answer) (E .reply .state) xs
-  frame-fits = fits rec xs (E .reply .answer) (E .reply .state) (λ d. frame-taken d .valid) (λ d. frame-taken d .small)
+  head-length : length (take 16 xs) ≡ 16
+  head-length = length-take-le 16 xs (omega arith)
 
-  module _ {r : Record} {s : State} {reply : Reply} {cells′ out′ : List ℕ} (re : r ≡ rec) (se : s ≡ unpackOf xs) (g : Gives (frameOf r (chipOf s cells) f) reply cells′ out′) where
-    given : Gives E reply cells′ out′
-    given = rw (← re, ← se) g
+  back-page : (page : List ℕ) → pageIn (putMid 16 256 xs page) ≡ page
+  back-page page = ap pageIn (page-back page) ∙ drop-at (take 16 xs) page 16 head-length
 
-    pub fits-frame : Packs (reply .answer) (reply .state) xs
-    fits-frame = rw (given .reply) frame-fits
+  -- where a call keeps to its bytes
+  module _ (rec : Record) (cells : List ℕ) (a : Answer) (next : State) (page : List ℕ) (k : Keeps rec (chipIn xs cells) a next page) where
+    page-size : length page ≡ 256
+    page-size = go (mayMove a) refl
+      where
+        go : (b : Bool) → mayMove a ≡ b → length page ≡ 256
+        go true d = k .long d
+        go false d = ap length (k .same-page d) ∙ length-drop 16 xs ∙ omega arith
 
-    pub leaves : {n : ℕ} {xs′ : List ℕ} → n ≡ numberOf (reply .answer) → xs′ ≡ keptOf (reply .answer) (reply .state) xs
-        → Leaves (calledFrame rec xs cells f) n xs′ cells′ out′ (reply .from) (reply .count) (boolByte (reply .fold))
-    unfolding calledFrame
-    leaves e k =
+    packs : Packs a next (putMid 16 256 xs page)
+    packs =
         record {
-          number-is = e ∙ ap (λ (x : Reply). numberOf (x .answer)) (given .reply);
-          state-is = k ∙ ap (λ (x : Reply). keptOf (x .answer) (x .state) xs) (given .reply);
-          cells-are = given .cells;
-          out-is = given .out;
-          from-is = ap (λ (x : Reply). x .from) (given .reply);
-          count-is = ap (λ (x : Reply). x .count) (given .reply);
-          fold-is = flag-byte (reply .fold) ∙ ap (λ (x : Reply). flag (x .fold) 1) (given .reply);
+          room = ap length (page-back page) ∙ length-append (take 16 xs) page ∙ omega (arith, head-length, page-size);
+          level = λ d. k .small d .level;
         }
 
--- the first row of the table, tested before the state is unpacked
-pub bad-record : (rec : Record) (xs cells : List ℕ) (f : Sent) {r : Record} → r ≡ rec → recordOk r ≡ false → Leaves (calledFrame rec xs cells f) 1 xs cells (f .out) 0 0 0
-unfolding calledFrame frameOf refusalOf keptOf
-bad-record rec xs cells f {r} e b =
-    let no : recordOk rec ≡ false = sym (ap recordOk e) ∙ b in
-    record { number-is = rw no; state-is = rw no; cells-are = rw no; out-is = rw no; from-is = rw no; count-is = rw no; fold-is = rw no }
+    kept-back : keptOf a next (pageIn (putMid 16 256 xs page)) (putMid 16 256 xs page) ≡ keptOf a next page xs
+    unfolding keptOf
+    kept-back = go (mayMove a) refl
+      where
+        go : (b : Bool) → mayMove a ≡ b → cond b (packed next (pageIn (putMid 16 256 xs page))) (putMid 16 256 xs page) ≡ cond b (packed next page) xs
+        go true d = ap (packed next) (back-page page)
+        go false d = page-back page ∙ ap (λ (ys : List ℕ). take 16 xs ++ ys) (k .same-page d) ∙ take-append-drop 16 xs
 
--- the next two, tested before it is unpacked: bytes that are no packing are a state that is not valid
-pub bad-state : (rec : Record) (xs cells : List ℕ) (f : Sent) → recordOk rec ≡ true → stateOk rec (unpackOf xs) ≡ false
-    → calledFrame rec xs cells f ≡ called (cond (eqb (length cells) (modelOf (rec .model) .length)) 3 2) xs cells (f .out) 0 0 0
-unfolding calledFrame frameOf refusalOf headFor keptOf
-bad-state rec xs cells f r v = go (eqb (length cells) (modelOf (rec .model) .length)) refl
+-- ---- frames
+module _ (rec : Record) (xs cells : List ℕ) (f : Sent) (n : length xs ≡ 272) {r : Record} {s : State} {reply : Reply} {page out′ : List ℕ} (re : r ≡ rec) (se : s ≡ unpackOf xs) (g : Gives (frameOf r (chipOf s (midOf 16 256 xs) cells) f) reply page out′) where
+  given : Gives (frameOf rec (chipIn xs cells) f) reply page out′
+  given = rw (re, lent xs n cells se) at g
+
+  frame-kept : Keeps rec (chipIn xs cells) (reply .answer) (reply .state) page
+  frame-kept = rw (given .reply, given .page-is) (frame-keeps rec (chipIn xs cells) f)
+
+  pub fits-frame : Packs (reply .answer) (reply .state) (putMid 16 256 xs page)
+  fits-frame = packs xs n rec cells (reply .answer) (reply .state) page frame-kept
+
+  pub leaves : {m : ℕ} {xs′ : List ℕ} → m ≡ numberOf (reply .answer) → xs′ ≡ keptOf (reply .answer) (reply .state) (pageIn (putMid 16 256 xs page)) (putMid 16 256 xs page)
+      → Leaves (calledFrame rec xs cells f) m xs′ out′ (reply .from) (reply .count) (boolByte (reply .fold))
+  unfolding calledFrame
+  leaves e k =
+      record {
+        number-is = e ∙ ap (λ (x : Reply). numberOf (x .answer)) (given .reply);
+        state-is = k ∙ kept-back xs n rec cells (reply .answer) (reply .state) page frame-kept ∙ rw (given .reply, given .page-is);
+        out-is = given .out;
+        from-is = ap (λ (x : Reply). x .from) (given .reply);
+        count-is = ap (λ (x : Reply). x .count) (given .reply);
+        fold-is = flag-byte (reply .fold) ∙ ap (λ (x : Reply). flag (x .fold) 1) (given .reply);
+      }
+
+-- ---- waits and cuts
+module _ (rec : Record) (xs cells : List ℕ) (n : length xs ≡ 272) (o : Aftermath) (k : Keeps rec (chipIn xs cells) (o .answer) (o .chip .state) (o .chip .page)) {a : After} {page cells′ : List ℕ} (e : Ends o a page cells′) where
+  kept : Keeps rec (chipIn xs cells) (a .answer) (a .state) page
+  kept = rw (e .answer-is, e .state-is, e .page-is) k
+
+  fits-after : Packs (a .answer) (a .state) (putMid 16 256 xs page)
+  fits-after = packs xs n rec cells (a .answer) (a .state) page kept
+
+  alters : {m : ℕ} {xs′ : List ℕ} → m ≡ numberOf (a .answer) → xs′ ≡ keptOf (a .answer) (a .state) (pageIn (putMid 16 256 xs page)) (putMid 16 256 xs page)
+      → Alters (alteredOf xs o) m xs′ cells′
+  alters p q =
+      record {
+        number-is = p ∙ ap numberOf (e .answer-is);
+        state-is = q ∙ kept-back xs n rec cells (a .answer) (a .state) page kept ∙ rw (e .answer-is, e .state-is, e .page-is);
+        cells-are = e .cells-are;
+      }
+
+module _ (rec : Record) (xs cells : List ℕ) (n : length xs ≡ 272) {r : Record} {s : State} {a : After} {page cells′ : List ℕ} (re : r ≡ rec) (se : s ≡ unpackOf xs) where
+  module _ (us : ℕ) (g : Ends (waitOf r (chipOf s (midOf 16 256 xs) cells) us) a page cells′) where
+    ends-wait : Ends (waitOf rec (chipIn xs cells) us) a page cells′
+    ends-wait = rw (re, lent xs n cells se) at g
+
+    pub fits-wait : Packs (a .answer) (a .state) (putMid 16 256 xs page)
+    fits-wait = fits-after rec xs cells n (waitOf rec (chipIn xs cells) us) (wait-keeps rec (chipIn xs cells) us) ends-wait
+
+    pub alters-wait : {m : ℕ} {xs′ : List ℕ} → m ≡ numberOf (a .answer) → xs′ ≡ keptOf (a .answer) (a .state) (pageIn (putMid 16 256 xs page)) (putMid 16 256 xs page)
+        → Alters (calledWait rec xs cells us) m xs′ cells′
+    unfolding calledWait
+    alters-wait p q = alters rec xs cells n (waitOf rec (chipIn xs cells) us) (wait-keeps rec (chipIn xs cells) us) ends-wait p q
+
+  module _ (pattern : List ℕ) (g : Ends (powerCutOf r (chipOf s (midOf 16 256 xs) cells) pattern) a page cells′) where
+    ends-cut : Ends (powerCutOf rec (chipIn xs cells) pattern) a page cells′
+    ends-cut = rw (re, lent xs n cells se) at g
+
+    pub fits-cut : Packs (a .answer) (a .state) (putMid 16 256 xs page)
+    fits-cut = fits-after rec xs cells n (powerCutOf rec (chipIn xs cells) pattern) (cut-keeps rec (chipIn xs cells) pattern) ends-cut
+
+    pub alters-cut : {m : ℕ} {xs′ : List ℕ} → m ≡ numberOf (a .answer) → xs′ ≡ keptOf (a .answer) (a .state) (pageIn (putMid 16 256 xs page)) (putMid 16 256 xs page)
+        → Alters (calledCut rec xs cells pattern) m xs′ cells′
+    unfolding calledCut
+    alters-cut p q = alters rec xs cells n (powerCutOf rec (chipIn xs cells) pattern) (cut-keeps rec (chipIn xs cells) pattern) ends-cut p q
+
+-- ---- power cycles
+module _ (rec : Record) (xs : List ℕ) (n : length xs ≡ 272) {r : Record} {s : State} {a : After} (re : r ≡ rec) (se : s ≡ unpackOf xs) (g : a ≡ powerOf r s (midOf 16 256 xs)) where
+  cycle-is : a ≡ powerOf rec (unpackOf xs) (pageIn xs)
+  cycle-is = rw (re, se, page-lent xs n) at g
+
+  pub fits-cycle : Packs (a .answer) (a .state) xs
+  fits-cycle = rw cycle-is (record { room = n; level = λ d. cycle-keeps rec (chipIn xs []) .small d .level })
+
+  pub answers-cycle : {m : ℕ} {xs′ : List ℕ} → m ≡ numberOf (a .answer) → xs′ ≡ keptOf (a .answer) (a .state) (pageIn xs) xs → Answers (calledCycle rec xs) m xs′
+  unfolding calledCycle
+  answers-cycle p q = record { number-is = p ∙ ap (λ (x : After). numberOf (x .answer)) cycle-is; state-is = q ∙ ap (λ (x : After). keptOf (x .answer) (x .state) (pageIn xs) xs) cycle-is }
+
+-- ---- bytes that are refused
+-- the state that they spell is not valid, or the page data do not fit it
+abbrev pub Unfit : Record → List ℕ → Type 0
+Unfit rec xs = (stateOk rec (unpackOf xs) && pageOk (rec .model) (unpackOf xs) (pageIn xs)) ≡ false
+
+no-packing : (rec : Record) (xs : List ℕ) → isPacking xs ≡ false → Unfit rec xs
+no-packing rec xs n = rw (invalid rec xs n)
+
+-- a wait or a cut that is refused, and a power cycle
+pub refused-altered : (xs cells : List ℕ) (a : Answer) (y : Chip) → saysProtected a ≡ false → isDone a ≡ false
+    → alteredOf xs (unless a (chipIn xs cells) y) ≡ altered (numberOf a) xs cells
+unfolding keptOf
+refused-altered xs cells a y e d = rw (d, e)
+
+pub refused-answered : (rec : Record) (xs : List ℕ) → isDone (powerRefusal rec (unpackOf xs) (pageIn xs)) ≡ false
+    → calledCycle rec xs ≡ answered (numberOf (powerRefusal rec (unpackOf xs) (pageIn xs))) xs
+unfolding calledCycle powerOf keptOf
+refused-answered rec xs d = rw (d, power-spared rec (unpackOf xs) (pageIn xs))
+
+module _ (rec : Record) (xs cells : List ℕ) (u : Unfit rec xs) where
+  abbrev long : Bool
+  long = eqb (length cells) (modelOf (rec .model) .length)
+
+  pub unfit-frame : (f : Sent) → calledFrame rec xs cells f ≡ called (bytesRefusal rec (length cells)) xs (f .out) 0 0 0
+  unfolding calledFrame frameOf refusalOf headFor keptOf
+  unfit-frame f = go (recordOk rec) long refl refl
+    where
+      go : (r l : Bool) → recordOk rec ≡ r → long ≡ l → calledFrame rec xs cells f ≡ called (cond r (cond l 3 2) 1) xs (f .out) 0 0 0
+      go true true e k = rw (e, k, u)
+      go true false e k = rw (e, k)
+      go false l e k = rw e
+
+  unfit-chip : (numberOf (chipRefusal rec (chipIn xs cells)) ≡ bytesRefusal rec (length cells)) × (isDone (chipRefusal rec (chipIn xs cells)) ≡ false)
+  unfolding chipRefusal
+  unfit-chip = go (recordOk rec) long refl refl
+    where
+      go : (r l : Bool) → recordOk rec ≡ r → long ≡ l → (numberOf (chipRefusal rec (chipIn xs cells)) ≡ cond r (cond l 3 2) 1) × (isDone (chipRefusal rec (chipIn xs cells)) ≡ false)
+      go true true e k = rw (e, k, u) (refl, refl)
+      go true false e k = rw (e, k) (refl, refl)
+      go false l e k = rw e (refl, refl)
+
+  unfit-altered : (a : Answer) (y : Chip) → a ≡ chipRefusal rec (chipIn xs cells) → alteredOf xs (unless a (chipIn xs cells) y) ≡ altered (bytesRefusal rec (length cells)) xs cells
+  unfit-altered a y e =
+      refused-altered xs cells a y (ap saysProtected e ∙ chip-spared rec (chipIn xs cells)) (ap isDone e ∙ unfit-chip .1)
+      ∙ ap (λ (m : ℕ). altered m xs cells) (ap numberOf e ∙ unfit-chip .0)
+
+  pub unfit-wait : (us : ℕ) → calledWait rec xs cells us ≡ altered (bytesRefusal rec (length cells)) xs cells
+  unfolding calledWait waitOf
+  unfit-wait us = unfit-altered (chipRefusal rec (chipIn xs cells)) (waited (rec .model) (chipIn xs cells) us) refl
+
+  pub unfit-cut : (pattern : List ℕ) → calledCut rec xs cells pattern ≡ altered (bytesRefusal rec (length cells)) xs cells
+  unfolding calledCut powerCutOf cutRefusal
+  unfit-cut pattern = unfit-altered (cutRefusal rec (chipIn xs cells) pattern) (cutOff (rec .model) (chipIn xs cells) pattern) (rw (unfit-chip .1))
+
+pub unfit-cycle : (rec : Record) (xs : List ℕ) → Unfit rec xs → calledCycle rec xs ≡ answered (cond (recordOk rec) 3 1) xs
+unfolding calledCycle powerOf powerRefusal keptOf
+unfit-cycle rec xs u = go (recordOk rec) refl
   where
-    go : (l : Bool) → eqb (length cells) (modelOf (rec .model) .length) ≡ l → calledFrame rec xs cells f ≡ called (cond l 3 2) xs cells (f .out) 0 0 0
-    go true e = rw (r, e, v)
-    go false e = rw (r, e)
-
-pub bad-bytes : (rec : Record) (xs cells : List ℕ) (f : Sent) {r : Record} (l : Bool) → r ≡ rec → recordOk r ≡ true → isPacking xs ≡ false
-    → eqb (length cells) (modelOf (r .model) .length) ≡ l → Leaves (calledFrame rec xs cells f) (cond l 3 2) xs cells (f .out) 0 0 0
-bad-bytes rec xs cells f {r} l e b n k =
-    let c : calledFrame rec xs cells f ≡ called (cond l 3 2) xs cells (f .out) 0 0 0 =
-    bad-state rec xs cells f (sym (ap recordOk e) ∙ b) (invalid rec xs n)
-    ∙ ap (λ (t : Bool). called (cond t 3 2) xs cells (f .out) 0 0 0) (ap (λ (q : Record). eqb (length cells) (modelOf (q .model) .length)) (sym e) ∙ k)
-    in
-    rw c (record { number-is = refl; state-is = refl; cells-are = refl; out-is = refl; from-is = refl; count-is = refl; fold-is = refl })
-
--- ---- waits and power cycles
--- refused before the state is unpacked
-pub time-refuses : (rec : Record) (xs : List ℕ) (next : State) → stateOk rec (unpackOf xs) ≡ false
-    → answeredOf xs (ifValid rec (unpackOf xs) next) ≡ answered (cond (recordOk rec) 3 1) xs
-unfolding ifValid keptOf
-time-refuses rec xs next v = go (recordOk rec) refl
-  where
-    go : (r : Bool) → recordOk rec ≡ r → answeredOf xs (ifValid rec (unpackOf xs) next) ≡ answered (cond r 3 1) xs
-    go true e = rw (e, v)
+    go : (r : Bool) → recordOk rec ≡ r → calledCycle rec xs ≡ answered (cond r 3 1) xs
+    go true e = rw (e, u)
     go false e = rw e
 
-module _ (rec : Record) (xs : List ℕ) {r : Record} (l : Bool) (re : r ≡ rec) (n : isPacking xs ≡ false) (k : recordOk r ≡ l) where
-  refuses : (next : State) → Answers (answeredOf xs (ifValid rec (unpackOf xs) next)) (cond l 3 1) xs
-  refuses next =
-      let c = time-refuses rec xs next (invalid rec xs n) ∙ ap (λ (t : Bool). answered (cond t 3 1) xs) (ap recordOk (sym re) ∙ k) in
-      rw c (record { number-is = refl; state-is = refl })
+-- what is no packing is refused before it is unpacked
+module _ (rec : Record) (xs cells : List ℕ) (n : isPacking xs ≡ false) {r : Record} {m : ℕ} (re : r ≡ rec) (e : m ≡ bytesRefusal r (length cells)) where
+  same-number : m ≡ bytesRefusal rec (length cells)
+  same-number = rw re at e
 
-  pub bad-bytes-wait : (us : ℕ) → Answers (calledWait rec xs us) (cond l 3 1) xs
-  unfolding calledWait waitOf
-  bad-bytes-wait us = refuses (later (unpackOf xs) us)
+  pub bad-bytes-frame : (f : Sent) → Leaves (calledFrame rec xs cells f) m xs (f .out) 0 0 0
+  bad-bytes-frame f =
+      rw (unfit-frame rec xs cells (no-packing rec xs n) f) (record { number-is = same-number; state-is = refl; out-is = refl; from-is = refl; count-is = refl; fold-is = refl })
 
-  pub bad-bytes-cycle : Answers (calledCycle rec xs) (cond l 3 1) xs
-  unfolding calledCycle powerOf
-  bad-bytes-cycle = refuses (cycled (unpackOf xs))
+  pub bad-bytes-wait : (us : ℕ) → Alters (calledWait rec xs cells us) m xs cells
+  bad-bytes-wait us = rw (unfit-wait rec xs cells (no-packing rec xs n) us) (record { number-is = same-number; state-is = refl; cells-are = refl })
 
-module _ (rec : Record) (xs : List ℕ) (next : State) (h : Small (unpackOf xs) → Small next) where
-  pub time-small : mayMove (ifValid rec (unpackOf xs) next .answer) ≡ true → Small (ifValid rec (unpackOf xs) next .state)
-  time-small d =
-      let t = timely rec (unpackOf xs) next d in
-      rw (t .after) (h (valid-small rec (unpackOf xs) (t .right) (t .valid)))
+  pub bad-bytes-cut : (pattern : List ℕ) → Alters (calledCut rec xs cells pattern) m xs cells
+  bad-bytes-cut pattern = rw (unfit-cut rec xs cells (no-packing rec xs n) pattern) (record { number-is = same-number; state-is = refl; cells-are = refl })
 
-  time-fits : Packs (ifValid rec (unpackOf xs) next .answer) (ifValid rec (unpackOf xs) next .state) xs
-  time-fits = fits rec xs _ _ (λ d. timely rec (unpackOf xs) next d .valid) time-small
-
-answers : (xs : List ℕ) {a b : After} {n : ℕ} {xs′ : List ℕ} → a ≡ b → n ≡ numberOf (a .answer) → xs′ ≡ keptOf (a .answer) (a .state) xs
-    → Answers (answeredOf xs b) n xs′
-answers xs h e f =
-    record {
-      number-is = e ∙ ap (λ (x : After). numberOf (x .answer)) h;
-      state-is = f ∙ ap (λ (x : After). keptOf (x .answer) (x .state) xs) h;
-    }
-
-module _ (rec : Record) (xs : List ℕ) {r : Record} {s : State} {a : After} (re : r ≡ rec) (se : s ≡ unpackOf xs) where
-  module _ (us : ℕ) (e : a ≡ waitOf r s us) where
-    waited : a ≡ waitOf rec (unpackOf xs) us
-    waited = rw (← re, ← se) e
-
-    pub fits-wait : Packs (a .answer) (a .state) xs
-    unfolding waitOf
-    fits-wait = rw waited (time-fits rec xs (later (unpackOf xs) us) (later-small (unpackOf xs) us))
-
-    pub answers-wait : {n : ℕ} {xs′ : List ℕ} → n ≡ numberOf (a .answer) → xs′ ≡ keptOf (a .answer) (a .state) xs → Answers (calledWait rec xs us) n xs′
-    unfolding calledWait
-    answers-wait = answers xs waited
-
-  module _ (e : a ≡ powerOf r s) where
-    powered : a ≡ powerOf rec (unpackOf xs)
-    powered = rw (← re, ← se) e
-
-    pub fits-cycle : Packs (a .answer) (a .state) xs
-    unfolding powerOf
-    fits-cycle = rw powered (time-fits rec xs (cycled (unpackOf xs)) (cycled-small (unpackOf xs)))
-
-    pub answers-cycle : {n : ℕ} {xs′ : List ℕ} → n ≡ numberOf (a .answer) → xs′ ≡ keptOf (a .answer) (a .state) xs → Answers (calledCycle rec xs) n xs′
-    unfolding calledCycle
-    answers-cycle = answers xs powered
+pub bad-bytes-cycle : (rec : Record) (xs : List ℕ) {r : Record} (l : Bool) → r ≡ rec → isPacking xs ≡ false → recordOk r ≡ l → Answers (calledCycle rec xs) (cond l 3 1) xs
+bad-bytes-cycle rec xs {r} l re n k =
+    let c = unfit-cycle rec xs (no-packing rec xs n) ∙ ap (λ (t : Bool). answered (cond t 3 1) xs) (ap recordOk (sym re) ∙ k) in
+    rw c (record { number-is = refl; state-is = refl })

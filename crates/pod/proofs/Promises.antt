@@ -1,100 +1,89 @@
 -- The promises of specs/Promises.antt. Assumes nothing.
 use mathlib.Core.Path.{_≡_, refl, sym, ap, _∙_}
-use mathlib.Core.Bool.{Bool, true, false, cond, true≢false}
+use mathlib.Core.Bool.{Bool, true, false, _&&_, cond, true≢false}
 use mathlib.Core.Logic.{_⊎_, inl, inr}
 use mathlib.Core.List.{List}
 use Prim.Native.Nat.{ℕ}
-use lib.Dec.{eqb}
-use lib.ListN.{length}
 use native.Mathlib.Omega.{arith}
 use borrow.Author.Tests.{eq-eqb, ne-eqb}
-use Rattle.units.proofs.Bools.{neither}
+use Rattle.units.proofs.Bools.{both}
 use Rattle.models.specs.Models.{modelOf}
-use Rattle.answers.specs.Answers.{numberOf, isDone, saysProtected}
-use Rattle.states.specs.States.{flag, recordOk, stateOk}
+use Rattle.answers.specs.Answers.{numberOf}
+use Rattle.answers.specs.declared.Answer.{Answer}
+use Rattle.states.specs.States.{stateOk, pageOk, chipOf}
 use Rattle.states.specs.declared.Record.{Record}
 use Rattle.states.specs.declared.State.{State}
-use Rattle.answers.specs.declared.Answer.{Answer}
-use Rattle.ladder.specs.Ladder.{refusalOf}
-use Rattle.effects.specs.Effects.{Effect, refusalLeaves}
-use Rattle.effects.proofs.Replies.{leaves-all, leaves-latch, clears-latch}
-use Rattle.chip.specs.Frames.{Chip, Sent, chipOf, frameOf}
-use Rattle.time.specs.Time.{later, cycled, ifValid, waitOf, powerOf}
-use Rattle.pod.specs.Packing.{packOf, unpackOf}
-use Rattle.pod.specs.Calls.{mayMove, keptOf, called, answeredOf, calledFrame, calledWait, calledCycle}
-use Rattle.pod.specs.Promises.{UnpacksPacked, PacksUnpacked, NoPacking, FrameRefusesBytes, WaitRefusesBytes, CycleRefusesBytes, RefusedFrameStays, RefusedFrameClears, RefusedWaitStays, RefusedCycleStays, FrameCarries, WaitCarries, CycleCarries, OneCalled, OneAnswered}
-use Rattle.pod.proofs.Packing.{Small, pack-unpack, unpack-pack}
-use Rattle.pod.proofs.Valid.{valid-packing, valid-small, later-small, cycled-small, untimely, not-17, refused}
-use Rattle.pod.proofs.Calls.{bad-state, time-refuses, frame-taken, time-small}
+use Rattle.states.proofs.States.{page-length}
+use Rattle.effects.specs.Effects.{refusalLeaves}
+use Rattle.effects.proofs.Replies.{leaves-latch, clears-latch}
+use Rattle.chip.specs.Frames.{Sent, frameOf}
+use Rattle.time.specs.Time.{waited, cutOff, chipRefusal, powerRefusal, cutRefusal, waitOf, powerOf, powerCutOf}
+use Rattle.pod.specs.Packing.{packed, pageIn, unpackOf}
+use Rattle.pod.specs.Calls.{chipIn, mayMove, keptOf, called, calledOf, calledFrame, calledWait, calledCut, calledCycle}
+use Rattle.pod.specs.Promises.{UnpacksPacked, PacksUnpacked, NoPacking, FrameRefusesBytes, WaitRefusesBytes, CutRefusesBytes, CycleRefusesBytes, RefusedFrameStays, RefusedFrameClears, RefusedWaitStays, RefusedCutStays, RefusedCycleStays, FrameCarries, WaitCarries, CutCarries, CycleCarries, OneCalled, OneAltered, OneAnswered}
+use Rattle.pod.proofs.Packing.{page-packed, pack-unpack, unpack-pack}
+use Rattle.pod.proofs.Valid.{valid-packing, valid-small, Keeps, frame-keeps, refused, wait-keeps, cut-keeps, cycle-keeps, chip-spared, cut-spared}
+use Rattle.pod.proofs.Calls.{Unfit, unfit-frame, unfit-wait, unfit-cut, unfit-cycle, refused-altered, refused-answered}
 
 -- ---- packing and unpacking
 pub unpacks-packed : UnpacksPacked
-unpacks-packed s v = unpack-pack s (valid-small (v .rec) s (v .right) (v .valid))
+unpacks-packed s page v =
+    (unpack-pack s page (valid-small (v .rec) s (v .right) (v .valid)) (page-length (v .rec .model) s page (v .fits)), page-packed s page)
 
 pub packs-unpacked : PacksUnpacked
 packs-unpacked xs v = pack-unpack xs (valid-packing (v .rec) xs (v .valid))
 
 -- ---- what is no packing
-not-valid : (rec : Record) (xs : List ℕ) → NoPacking rec xs → stateOk rec (unpackOf xs) ≡ false
-not-valid rec xs n = go (stateOk rec (unpackOf xs)) refl
+unfit : (rec : Record) (xs : List ℕ) → NoPacking rec xs → Unfit rec xs
+unfit rec xs n = go (stateOk rec (unpackOf xs) && pageOk (rec .model) (unpackOf xs) (pageIn xs)) refl
   where
-    go : (b : Bool) → stateOk rec (unpackOf xs) ≡ b → stateOk rec (unpackOf xs) ≡ false
-    go true e = absurd (n (unpackOf xs) e (sym (pack-unpack xs (valid-packing rec xs e))))
+    go : (b : Bool) → (stateOk rec (unpackOf xs) && pageOk (rec .model) (unpackOf xs) (pageIn xs)) ≡ b → Unfit rec xs
+    go true e =
+        let k = both (stateOk rec (unpackOf xs)) (pageOk (rec .model) (unpackOf xs) (pageIn xs)) e in
+        absurd (n (unpackOf xs) (pageIn xs) (k .0) (k .1) (sym (pack-unpack xs (valid-packing rec xs (k .0)))))
     go false e = e
 
 pub frame-refuses-bytes : FrameRefusesBytes
-unfolding calledFrame frameOf refusalOf keptOf
-frame-refuses-bytes rec xs cells f n = go (recordOk rec) refl
-  where
-    go : (r : Bool) → recordOk rec ≡ r
-        → calledFrame rec xs cells f ≡ called (cond r (cond (eqb (length cells) (modelOf (rec .model) .length)) 3 2) 1) xs cells (f .out) 0 0 0
-    go true e = bad-state rec xs cells f e (not-valid rec xs n)
-    go false e = rw e
+frame-refuses-bytes rec xs cells f n = unfit-frame rec xs cells (unfit rec xs n) f
 
 pub wait-refuses-bytes : WaitRefusesBytes
-unfolding calledWait waitOf
-wait-refuses-bytes rec xs us n = time-refuses rec xs (later (unpackOf xs) us) (not-valid rec xs n)
+wait-refuses-bytes rec xs cells us n = unfit-wait rec xs cells (unfit rec xs n) us
+
+pub cut-refuses-bytes : CutRefusesBytes
+cut-refuses-bytes rec xs cells pattern n = unfit-cut rec xs cells (unfit rec xs n) pattern
 
 pub cycle-refuses-bytes : CycleRefusesBytes
-unfolding calledCycle powerOf
-cycle-refuses-bytes rec xs n = time-refuses rec xs (cycled (unpackOf xs)) (not-valid rec xs n)
+cycle-refuses-bytes rec xs n = unfit-cycle rec xs (unfit rec xs n)
 
 -- ---- refused calls
-kept : (a : Answer) (next : State) (xs : List ℕ) → mayMove a ≡ false → keptOf a next xs ≡ xs
-unfolding keptOf
-kept a next xs e = rw e
-
 module _ (rec : Record) (xs cells : List ℕ) (f : Sent) where
-  abbrev x : Chip
-  x = chipOf (unpackOf xs) cells
-
   abbrev a : Answer
-  a = frameOf rec x f .reply .answer
+  a = frameOf rec (chipIn xs cells) f .reply .answer
 
-  -- a refused frame drives nothing and changes no cell
+  -- a refused frame drives nothing and leaves the page data
   refused-called : (numberOf a ≡ 0 → ⊥)
-      → calledFrame rec xs cells f ≡ called (numberOf a) (keptOf a (refusalLeaves (rec .model) a (unpackOf xs)) xs) cells (f .out) 0 0 0
+      → calledFrame rec xs cells f ≡ called (numberOf a) (keptOf a (refusalLeaves (rec .model) a (unpackOf xs)) (pageIn xs) xs) (f .out) 0 0 0
   unfolding calledFrame
-  refused-called n =
-      ap (λ (e : Effect). called (numberOf (e .reply .answer)) (keptOf (e .reply .answer) (e .reply .state) xs) (e .cells) (e .out) (e .reply .from) (e .reply .count) (flag (e .reply .fold) 1))
-      (refused rec x f (ne-eqb (numberOf a) 0 n))
+  refused-called n = ap (calledOf xs) (refused rec (chipIn xs cells) f (ne-eqb (numberOf a) 0 n))
 
   -- the bytes of a state that stays are those given
   stays : (numberOf a ≡ 0 → ⊥) → (modelOf (rec .model) .«latch_falls» ≡ false) ⊎ (numberOf a ≡ 17 → ⊥)
-      → keptOf a (refusalLeaves (rec .model) a (unpackOf xs)) xs ≡ xs
+      → keptOf a (refusalLeaves (rec .model) a (unpackOf xs)) (pageIn xs) xs ≡ xs
   unfolding keptOf
   stays n h = go (mayMove a) refl h
     where
       go : (b : Bool) → mayMove a ≡ b → (modelOf (rec .model) .«latch_falls» ≡ false) ⊎ (numberOf a ≡ 17 → ⊥)
-          → cond b (packOf (refusalLeaves (rec .model) a (unpackOf xs))) xs ≡ xs
+          → cond b (packed (refusalLeaves (rec .model) a (unpackOf xs)) (pageIn xs)) xs ≡ xs
       go false e k = refl
-      go true e (inl k) = ap packOf (leaves-latch (rec .model) a (unpackOf xs) k) ∙ pack-unpack xs (valid-packing rec xs (frame-taken rec xs cells f e .valid))
+      go true e (inl k) =
+          ap (λ (s : State). packed s (pageIn xs)) (leaves-latch (rec .model) a (unpackOf xs) k)
+          ∙ pack-unpack xs (valid-packing rec xs (frame-keeps rec (chipIn xs cells) f .valid e))
       go true e (inr k) = absurd (true≢false (sym e ∙ rw (ne-eqb (numberOf a) 0 n, ne-eqb (numberOf a) 17 k)))
 
 pub refused-frame-stays : RefusedFrameStays
 unfolding calledFrame
 refused-frame-stays rec xs cells f n h =
-    refused-called rec xs cells f n ∙ ap (λ (b : List ℕ). called (numberOf (a rec xs cells f)) b cells (f .out) 0 0 0) (stays rec xs cells f n h)
+    refused-called rec xs cells f n ∙ ap (λ (b : List ℕ). called (numberOf (a rec xs cells f)) b (f .out) 0 0 0) (stays rec xs cells f n h)
 
 pub refused-frame-clears : RefusedFrameClears
 unfolding calledFrame keptOf
@@ -105,47 +94,53 @@ refused-frame-clears rec xs cells f l e =
 
 pub refused-wait-stays : RefusedWaitStays
 unfolding calledWait waitOf
-refused-wait-stays rec xs us n = kept _ _ xs (not-17 rec (unpackOf xs) (later (unpackOf xs) us) (ne-eqb _ 0 n))
+refused-wait-stays rec xs cells us n =
+    let x = chipIn xs cells in
+    refused-altered xs cells (chipRefusal rec x) (waited (rec .model) x us) (chip-spared rec x) (ne-eqb _ 0 n)
+
+pub refused-cut-stays : RefusedCutStays
+unfolding calledCut powerCutOf
+refused-cut-stays rec xs cells pattern n =
+    let x = chipIn xs cells in
+    refused-altered xs cells (cutRefusal rec x pattern) (cutOff (rec .model) x pattern) (cut-spared rec x pattern) (ne-eqb _ 0 n)
 
 pub refused-cycle-stays : RefusedCycleStays
 unfolding calledCycle powerOf
-refused-cycle-stays rec xs n = kept _ _ xs (not-17 rec (unpackOf xs) (cycled (unpackOf xs)) (ne-eqb _ 0 n))
+refused-cycle-stays rec xs n = ap (λ c. c .state) (refused-answered rec xs (ne-eqb (numberOf (powerRefusal rec (unpackOf xs) (pageIn xs))) 0 n))
 
 -- ---- what the next call finds
-carried : (a : Answer) (next : State) (xs : List ℕ) → (mayMove a ≡ true → Small next) → (mayMove a ≡ false → next ≡ unpackOf xs)
-    → unpackOf (keptOf a next xs) ≡ next
+carried : (rec : Record) (xs cells : List ℕ) (a : Answer) (next : State) (page cells′ : List ℕ) → Keeps rec (chipIn xs cells) a next page
+    → chipIn (keptOf a next page xs) cells′ ≡ chipOf next page cells′
 unfolding keptOf
-carried a next xs h n = go (mayMove a) refl
+carried rec xs cells a next page cells′ k = go (mayMove a) refl
   where
-    go : (b : Bool) → mayMove a ≡ b → unpackOf (cond b (packOf next) xs) ≡ next
-    go true e = unpack-pack next (h e)
-    go false e = sym (n e)
+    go : (b : Bool) → mayMove a ≡ b → chipIn (cond b (packed next page) xs) cells′ ≡ chipOf next page cells′
+    go true e = rw (unpack-pack next page (k .small e) (k .long e), page-packed next page)
+    go false e = rw (k .same-state e, k .same-page e)
 
 pub frame-carries : FrameCarries
 unfolding calledFrame
-frame-carries rec xs cells f =
-    carried _ _ xs (λ d. frame-taken rec xs cells f d .small)
-    (λ d.
-    let k = neither (isDone (a rec xs cells f)) (saysProtected (a rec xs cells f)) d in
-    ap (λ (e : Effect). e .reply .state) (refused rec (x rec xs cells f) f (k .0)) ∙ leaves-all (rec .model) (a rec xs cells f) (unpackOf xs) (k .1))
-
-time-carries : (rec : Record) (xs : List ℕ) (next : State) → (Small (unpackOf xs) → Small next)
-    → unpackOf (answeredOf xs (ifValid rec (unpackOf xs) next) .state) ≡ ifValid rec (unpackOf xs) next .state
-time-carries rec xs next h =
-    carried _ _ xs (time-small rec xs next h) (λ d. untimely rec (unpackOf xs) next d)
+frame-carries rec xs cells f = carried rec xs cells _ _ _ cells (frame-keeps rec (chipIn xs cells) f)
 
 pub wait-carries : WaitCarries
-unfolding calledWait waitOf
-wait-carries rec xs us = time-carries rec xs (later (unpackOf xs) us) (later-small (unpackOf xs) us)
+unfolding calledWait
+wait-carries rec xs cells us = carried rec xs cells _ _ _ _ (wait-keeps rec (chipIn xs cells) us)
+
+pub cut-carries : CutCarries
+unfolding calledCut
+cut-carries rec xs cells pattern = carried rec xs cells _ _ _ _ (cut-keeps rec (chipIn xs cells) pattern)
 
 pub cycle-carries : CycleCarries
-unfolding calledCycle powerOf
-cycle-carries rec xs = time-carries rec xs (cycled (unpackOf xs)) (cycled-small (unpackOf xs))
+unfolding calledCycle
+cycle-carries rec xs cells = carried rec xs cells _ _ _ cells (cycle-keeps rec (chipIn xs cells))
 
 -- ---- no second answer
 pub one-called : OneCalled
-one-called c n m xs ys cells cells′ out out′ from from′ count count′ fold fold′ p q =
-    rw (p .number-is, p .state-is, p .cells-are, p .out-is, p .from-is, p .count-is, p .fold-is, q .number-is, q .state-is, q .cells-are, q .out-is, q .from-is, q .count-is, q .fold-is)
+one-called c n m xs ys out out′ from from′ count count′ fold fold′ p q =
+    rw (p .number-is, p .state-is, p .out-is, p .from-is, p .count-is, p .fold-is, q .number-is, q .state-is, q .out-is, q .from-is, q .count-is, q .fold-is)
+
+pub one-altered : OneAltered
+one-altered c n m xs ys cells cells′ p q = rw (p .number-is, p .state-is, p .cells-are, q .number-is, q .state-is, q .cells-are)
 
 pub one-answered : OneAnswered
 one-answered c n m xs ys p q = rw (p .number-is, p .state-is, q .number-is, q .state-is)

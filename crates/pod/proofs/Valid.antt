@@ -1,29 +1,40 @@
--- What a call that is taken shows of its state, what a refused one leaves, and that the state after fits its twelve bytes. Assumes nothing.
+-- What a call that may move the state shows of it, and that the state and the page data after fit their bytes. Assumes nothing.
 use mathlib.Core.Path.{_≡_, refl, sym, _∙_}
-use mathlib.Core.Bool.{Bool, true, false, true≢false, false≢true}
+use mathlib.Core.Bool.{Bool, true, false, _&&_, _||_, cond, or-false, true≢false, false≢true}
 use mathlib.Core.List.{List}
-use Prim.Native.Nat.{ℕ, _+_, _/_, _^_, _≤_, _<_}
-use native.Mathlib.Nat.{mod-lt}
+use mathlib.Core.Logic.{⊎-elim}
+use Prim.Native.Nat.{ℕ, _^_, _≤_, _<_}
 use native.Mathlib.Omega.{arith}
-use lib.ListN.{getD}
+use lib.Dec.{eqb, ltb}
+use lib.ListN.{length}
+use borrow.Author.Tests.{eqb-true, ltb-true}
+use Rattle.units.proofs.Bools.{both, neither, either}
 use Rattle.models.specs.Models.{modelOf}
-use Rattle.models.proofs.Rules.{highest-bp}
-use Rattle.answers.specs.Answers.{isDone}
-use Rattle.states.specs.States.{recordOk, longestBusy, longestSettle, stateOk}
+use Rattle.models.proofs.Rules.{highest-bp, row-rules}
+use Rattle.answers.specs.Answers.{isDone, saysProtected}
+use Rattle.answers.specs.declared.Answer.{Answer}
+use Rattle.answers.specs.declared.Answer.the-variants.{Done, BadRecord, BadArray, BadState, Busy, BadPattern}
+use Rattle.commands.specs.declared.Operation.{Operation}
+use Rattle.commands.specs.declared.Operation.the-variants.{Idle, WritesStatus, Programs, ErasesSector, ErasesHalf, ErasesBlock, ErasesChip}
+use Rattle.states.specs.States.{recordOk, longestSettle, operationTime, placeOk, noAddress, stateOk, pageOk, Chip, chipOf}
 use Rattle.states.specs.declared.Record.{Record}
 use Rattle.states.specs.declared.State.{State}
-use Rattle.states.proofs.States.{sound, longest-in-range, busy-le-all, settle-le-all}
-use Rattle.ladder.proofs.Passed.{passed, stopped}
-use Rattle.effects.specs.Effects.{latched, dozing, working, written, Effect}
-use Rattle.chip.specs.Frames.{Chip, Sent, headOf, refusedOf, frameOf}
+use Rattle.states.proofs.States.{sound, busy-le, operation-le, page-length, blank-page, longest-in-range, busy-le-all, settle-le-all}
+use Rattle.ladder.proofs.Passed.{passed, Stopped, stopped}
+use Rattle.effects.specs.Effects.{latched, dozing, starting, refusalLeaves, Effect}
+use Rattle.effects.proofs.Replies.{leaves-all}
+use Rattle.operations.specs.Operations.{runs, patternLength, written, finishedBits, forgotten, finished, cutBits, tornChip}
+use Rattle.operations.proofs.Kept.{written-level, torn-level}
+use Rattle.chip.specs.Frames.{Sent, headFor, headOf, refusedOf, frameOf}
 use Rattle.chip.proofs.Cases.{refusal, accepted, frame-cases, sort, shown-asked, refused-moves}
-use Rattle.time.specs.Time.{later, cycled, ifValid}
-use Rattle.chip.proofs.Sorts.{Move, stays, latches, dozes, works, writes, is-done, moves}
+use Rattle.chip.proofs.Sorts.{Move, stays, latches, dozes, Begun, Turn, moved, begun, is-done, moves}
+use Rattle.time.specs.Time.{later, waited, cycled, cutOff, chipRefusal, powerRefusal, cutRefusal, waitOf, powerOf, powerCutOf}
+use Rattle.time.proofs.Time.{Fit, chip-fits, cuttable}
 use Rattle.pod.specs.Calls.{mayMove}
 use Rattle.pod.specs.Packing.{isPacking, noState, unpackOf}
 use Rattle.pod.proofs.Packing.{Small, unpack-none}
 
--- ---- a valid state is a packing's, and fits twelve bytes
+-- ---- a valid state is a packing's, and fits sixteen bytes
 nothing-valid : (rec : Record) → stateOk rec noState ≡ true → ⊥
 nothing-valid rec e = omega (arith, sound rec noState e .level, highest-bp (rec .model))
 
@@ -41,100 +52,221 @@ invalid rec xs n = go (stateOk rec (unpackOf xs)) refl
     go true e = absurd (true≢false (sym (valid-packing rec xs e) ∙ n))
     go false e = e
 
+-- an address that fits its operation, or what stands in its place
+near-below : (n place : ℕ) → ltb place (modelOf n .length) ≡ true → place < 2 ^ 24
+near-below n place e = omega (arith, ltb-true place (modelOf n .length) e, row-rules n .reach)
+
+place-near : (n : ℕ) (op : Operation) (place : ℕ) → placeOk n op place ≡ true → place < 2 ^ 24
+place-near n Idle place e = omega (arith, eqb-true place noAddress e)
+place-near n WritesStatus place e =
+    ⊎-elim (λ h. omega (arith, eqb-true place 1 h)) (λ h. omega (arith, eqb-true place 2 (both (modelOf n .register) (eqb place 2) h .1))) (either (eqb place 1) (modelOf n .register && eqb place 2) e)
+place-near n Programs place e = near-below n place e
+place-near n ErasesSector place e = near-below n place e
+place-near n ErasesHalf place e = near-below n place e
+place-near n ErasesBlock place e = near-below n place e
+place-near n ErasesChip place e = omega (arith, eqb-true place noAddress e)
+
 pub valid-small : (rec : Record) (s : State) → recordOk rec ≡ true → stateOk rec s ≡ true → Small s
 valid-small rec s r v =
+    let p = sound rec s v in
     record {
-      level = omega (arith, sound rec s v .level, highest-bp (rec .model));
-      short = omega (arith, sound rec s v .time, busy-le-all rec, longest-in-range rec r .short);
-      brief = omega (arith, sound rec s v .settle, settle-le-all rec, longest-in-range rec r .short);
+      level = omega (arith, p .level, highest-bp (rec .model));
+      short = omega (arith, busy-le rec s p, busy-le-all rec, longest-in-range rec r .short);
+      brief = omega (arith, p .settle, settle-le-all rec, longest-in-range rec r .short);
+      near = ⊎-elim (λ q. omega (arith, q .address)) (λ q. place-near (rec .model) (runs (rec .model) s) (s .address) (q .place)) (p .mood);
     }
 
--- ---- waits and power cycles
-pub record Timely (rec : Record) (s next : State) : Type 0 where
-  pub right : recordOk rec ≡ true
-  pub valid : stateOk rec s ≡ true
-  pub after : ifValid rec s next .state ≡ next
+-- ---- what a call leaves: where it may move the state, the one before was valid, and what is after fits the bytes; otherwise all is as it was
+pub record Keeps (rec : Record) (x : Chip) (a : Answer) (next : State) (page : List ℕ) : Type 0 where
+  pub valid : mayMove a ≡ true → stateOk rec (x .state) ≡ true
+  pub small : mayMove a ≡ true → Small next
+  pub long : mayMove a ≡ true → length page ≡ 256
+  pub same-state : mayMove a ≡ false → next ≡ x .state
+  pub same-page : mayMove a ≡ false → page ≡ x .page
 
-module _ (rec : Record) (s next : State) where
-  pub timely : mayMove (ifValid rec s next .answer) ≡ true → Timely rec s next
-  unfolding ifValid
-  timely d = go (recordOk rec) (stateOk rec s) refl refl
-    where
-      go : (b v : Bool) → recordOk rec ≡ b → stateOk rec s ≡ v → Timely rec s next
-      go true true e f = record { right = e; valid = f; after = rw (e, f) }
-      go true false e f = absurd (false≢true (rw (e, f) at d))
-      go false v e f = absurd (false≢true (rw e at d))
-
-  pub untimely : mayMove (ifValid rec s next .answer) ≡ false → ifValid rec s next .state ≡ s
-  unfolding ifValid
-  untimely d = go (recordOk rec) (stateOk rec s) refl refl
-    where
-      go : (b v : Bool) → recordOk rec ≡ b → stateOk rec s ≡ v → ifValid rec s next .state ≡ s
-      go true true e f = absurd (true≢false (rw (e, f) at d))
-      go true false e f = rw (e, f)
-      go false v e f = rw e
-
--- a refused one is answered 1 or 3
-pub not-17 : (rec : Record) (s next : State) → isDone (ifValid rec s next .answer) ≡ false → mayMove (ifValid rec s next .answer) ≡ false
-unfolding ifValid
-not-17 rec s next d = go (recordOk rec) (stateOk rec s) refl refl
-  where
-    go : (b v : Bool) → recordOk rec ≡ b → stateOk rec s ≡ v → mayMove (ifValid rec s next .answer) ≡ false
-    go true true e f = absurd (true≢false (rw (e, f) at d))
-    go true false e f = rw (e, f)
-    go false v e f = rw e
-
-pub later-small : (s : State) (us : ℕ) → Small s → Small (later s us)
-unfolding later
-later-small s us h = record { level = h .level; short = omega (arith, h .short); brief = omega (arith, h .brief) }
-
-pub cycled-small : (s : State) → Small s → Small (cycled s)
-unfolding cycled
-cycled-small s h = record { level = h .level; short = omega arith; brief = omega arith }
-
--- ---- however a frame moves the state, it fits twelve bytes
-module _ (rec : Record) (s : State) (ok : recordOk rec ≡ true) (h : Small s) where
-  busy-for : (us : ℕ) → us ≤ longestBusy rec → us < 2 ^ 32
-  busy-for us l = omega (arith, busy-le-all rec, longest-in-range rec ok .short)
+-- ---- frames
+-- however one moves the state, it fits its bytes
+module _ (rec : Record) (x : Chip) (ok : recordOk rec ≡ true) (h : Small (x .state)) (fit : pageOk (rec .model) (x .state) (x .page) ≡ true) where
+  busy-for : (op : Operation) → operationTime rec op < 2 ^ 32
+  busy-for op = omega (arith, operation-le rec op, busy-le-all rec, longest-in-range rec ok .short)
 
   settles-for : (us : ℕ) → us ≤ longestSettle rec → us < 2 ^ 32
   settles-for us l = omega (arith, settle-le-all rec, longest-in-range rec ok .short)
 
-  works-small : (us : ℕ) → us ≤ longestBusy rec → Small (working s us)
-  unfolding working
-  works-small us l = record { level = h .level; short = busy-for us l; brief = h .brief }
+  move-small : {t : State} → Move rec (x .state) t → Small t
+  unfolding latched dozing
+  move-small stays = h
+  move-small (latches b z) = record { level = h .level; short = h .short; brief = h .brief; near = h .near }
+  move-small (dozes b us z l) = record { level = h .level; short = h .short; brief = settles-for us l; near = h .near }
 
-  moved : {t : State} → Move rec s t → Small t
-  unfolding latched dozing written
-  moved stays = h
-  moved (latches b z) = record { level = h .level; short = h .short; brief = h .brief }
-  moved (dozes b us z l) = record { level = h .level; short = h .short; brief = settles-for us l }
-  moved (works us l w a z) = works-small us l
-  moved (writes bytes us l w a z) =
-      record { level = omega (arith, mod-lt (getD bytes 1 0 / 4) {m = modelOf (rec .model) .«highest_bp» + 1} (omega arith), highest-bp (rec .model)); short = busy-for us l; brief = h .brief }
+  begun-small : {op : Operation} {t : State} {page : List ℕ} → Begun rec x op t page → Small t
+  unfolding starting
+  begun-small {op} b =
+      rw (b .is) (record { level = h .level; short = busy-for op; brief = h .brief; near = place-near (rec .model) op (b .place) (b .placed) })
 
--- ---- frames
--- what a frame that may move the state has shown of it, and that the state after fits
-pub record Taken (rec : Record) (x : Chip) (e : Effect) : Type 0 where
-  pub valid : stateOk rec (x .state) ≡ true
-  pub small : Small (e .reply .state)
+  turn-fits : {t : State} {page : List ℕ} → Turn rec x t page → Small t × (length page ≡ 256)
+  turn-fits (moved m) = (move-small m, page-length (rec .model) (x .state) (x .page) fit)
+  turn-fits (begun op b) = (begun-small b, b .page-fits (blank-page (rec .model) (x .state) (x .page) fit (b .idle-before)) .0)
 
 module _ (rec : Record) (x : Chip) (f : Sent) where
-  pub taken : mayMove (frameOf rec x f .reply .answer) ≡ true → Taken rec x (frameOf rec x f)
-  taken = frame-cases rec x f (λ (e : Effect). mayMove (e .reply .answer) ≡ true → Taken rec x e) does clears
-    where
-      does : isDone (refusal rec x f) ≡ true → mayMove (accepted rec x f .reply .answer) ≡ true → Taken rec x (accepted rec x f)
-      does g d =
-          let p = passed rec (x .state) (headOf rec x f) g in
-          let s = valid-small rec (x .state) (p .right) (p .valid) in
-          record { valid = p .valid; small = moved rec (x .state) (p .right) s (moves (sort rec x f) (shown-asked rec x f g)) }
+  head-page : headOf rec x f .page ≡ true → pageOk (rec .model) (x .state) (x .page) ≡ true
+  unfolding headFor
+  head-page e = e
 
-      clears : isDone (refusal rec x f) ≡ false → mayMove (refusal rec x f) ≡ true → Taken rec x (refusedOf rec (refusal rec x f) x f)
-      clears g d =
-          let p = stopped rec (x .state) (headOf rec x f) (rw g at d) in
-          let s = valid-small rec (x .state) (p .right) (p .valid) in
-          record { valid = p .valid; small = moved rec (x .state) (p .right) s (refused-moves rec x f) }
+  pub frame-keeps : Keeps rec x (frameOf rec x f .reply .answer) (frameOf rec x f .reply .state) (frameOf rec x f .page)
+  frame-keeps = frame-cases rec x f (λ (e : Effect). Keeps rec x (e .reply .answer) (e .reply .state) (e .page)) does leaves
+    where
+      never : mayMove (accepted rec x f .reply .answer) ≡ false → ⊥
+      never n = true≢false (sym (is-done (sort rec x f)) ∙ neither _ _ n .0)
+
+      does : isDone (refusal rec x f) ≡ true → Keeps rec x (accepted rec x f .reply .answer) (accepted rec x f .reply .state) (accepted rec x f .page)
+      does g =
+          let p = passed rec (x .state) (headOf rec x f) g in
+          let t = turn-fits rec x (p .right) (valid-small rec (x .state) (p .right) (p .valid)) (head-page (p .page)) (moves (sort rec x f) (shown-asked rec x f g)) in
+          record { valid = λ d. p .valid; small = λ d. t .0; long = λ d. t .1; same-state = λ n. absurd (never n); same-page = λ n. absurd (never n) }
+
+      at-17 : isDone (refusal rec x f) ≡ false → mayMove (refusal rec x f) ≡ true → Stopped rec (x .state) (headOf rec x f)
+      at-17 g d = stopped rec (x .state) (headOf rec x f) (rw g at d)
+
+      leaves : isDone (refusal rec x f) ≡ false → Keeps rec x (refusal rec x f) (refusalLeaves (rec .model) (refusal rec x f) (x .state)) (x .page)
+      leaves g =
+          record {
+            valid = λ d. at-17 g d .valid;
+            small = λ d. let p = at-17 g d in move-small rec x (p .right) (valid-small rec (x .state) (p .right) (p .valid)) (head-page (p .page)) (refused-moves rec x f);
+            long = λ d. page-length (rec .model) (x .state) (x .page) (head-page (at-17 g d .page));
+            same-state = λ n. leaves-all (rec .model) (refusal rec x f) (x .state) (neither (isDone (refusal rec x f)) (saysProtected (refusal rec x f)) n .1);
+            same-page = λ n. refl;
+          }
 
   -- what a refusal leaves
   pub refused : isDone (frameOf rec x f .reply .answer) ≡ false → frameOf rec x f ≡ refusedOf rec (frameOf rec x f .reply .answer) x f
   refused = frame-cases rec x f (λ (e : Effect). isDone (e .reply .answer) ≡ false → e ≡ refusedOf rec (e .reply .answer) x f) (λ g d. absurd (true≢false (sym (is-done (sort rec x f)) ∙ d))) (λ n d. refl)
+
+-- ---- waits, cuts and power cycles
+-- none is answered 17
+pub chip-spared : (rec : Record) (x : Chip) → saysProtected (chipRefusal rec x) ≡ false
+unfolding chipRefusal
+chip-spared rec x = go (recordOk rec) (eqb (length (x .cells)) (modelOf (rec .model) .length)) (stateOk rec (x .state) && pageOk (rec .model) (x .state) (x .page))
+  where
+    go : (a b c : Bool) → saysProtected (cond a (cond b (cond c Done BadState) BadArray) BadRecord) ≡ false
+    go true true true = refl
+    go true true false = refl
+    go true false c = refl
+    go false b c = refl
+
+pub cut-spared : (rec : Record) (x : Chip) (pattern : List ℕ) → saysProtected (cutRefusal rec x pattern) ≡ false
+unfolding cutRefusal
+cut-spared rec x pattern = go (isDone (chipRefusal rec x)) (eqb (length pattern) (patternLength (runs (rec .model) (x .state)) (x .state .address) (length (x .cells))))
+  where
+    go : (a b : Bool) → saysProtected (cond a (cond b Done BadPattern) (chipRefusal rec x)) ≡ false
+    go true true = refl
+    go true false = refl
+    go false b = chip-spared rec x
+
+pub power-spared : (rec : Record) (s : State) (page : List ℕ) → saysProtected (powerRefusal rec s page) ≡ false
+unfolding powerRefusal
+power-spared rec s page = go (recordOk rec) (stateOk rec s && pageOk (rec .model) s page) (eqb (s .busy) 0)
+  where
+    go : (a b c : Bool) → saysProtected (cond a (cond b (cond c Done Busy) BadState) BadRecord) ≡ false
+    go true true true = refl
+    go true true false = refl
+    go true false c = refl
+    go false b c = refl
+
+pub moves-as-done : (a : Answer) → saysProtected a ≡ false → mayMove a ≡ isDone a
+moves-as-done a e = rw e (or-false (isDone a))
+
+-- from what is shown of a call that is taken, and of one that is not
+keeps-by : (rec : Record) (x : Chip) (a : Answer) (next : State) (page : List ℕ) → saysProtected a ≡ false
+    → (isDone a ≡ true → (stateOk rec (x .state) ≡ true) × (Small next × (length page ≡ 256)))
+    → (isDone a ≡ false → (next ≡ x .state) × (page ≡ x .page))
+    → Keeps rec x a next page
+keeps-by rec x a next page e taken left =
+    let m = sym (moves-as-done a e) in
+    record { valid = λ d. taken (m ∙ d) .0; small = λ d. taken (m ∙ d) .1 .0; long = λ d. taken (m ∙ d) .1 .1; same-state = λ n. left (m ∙ n) .0; same-page = λ n. left (m ∙ n) .1 }
+
+-- what time and power leave fits
+cycled-small : (s : State) → s .bp ≤ 15 → Small (cycled s)
+unfolding cycled
+cycled-small s l = record { level = l; short = omega arith; brief = omega arith; near = omega arith }
+
+module _ (rec : Record) (x : Chip) (h : Small (x .state)) where
+  finished-bits : (op : Operation) → (finishedBits (rec .model) op (x .state) (x .page) .bp ≤ 15) × (finishedBits (rec .model) op (x .state) (x .page) .settle < 2 ^ 32)
+  unfolding written
+  finished-bits Idle = (h .level, h .brief)
+  finished-bits WritesStatus = (omega (arith, written-level (rec .model) (x .state) (x .page), highest-bp (rec .model)), h .brief)
+  finished-bits Programs = (h .level, h .brief)
+  finished-bits ErasesSector = (h .level, h .brief)
+  finished-bits ErasesHalf = (h .level, h .brief)
+  finished-bits ErasesBlock = (h .level, h .brief)
+  finished-bits ErasesChip = (h .level, h .brief)
+
+  finished-small : Small (finished (rec .model) x .state)
+  unfolding finished forgotten
+  finished-small =
+      let k = finished-bits (runs (rec .model) (x .state)) in
+      record { level = k .0; short = omega arith; brief = k .1; near = omega arith }
+
+  waited-fits : (us : ℕ) → length (x .page) ≡ 256 → Small (waited (rec .model) x us .state) × (length (waited (rec .model) x us .page) ≡ 256)
+  unfolding waited later finished
+  waited-fits us n = go (eqb (x .state .busy) 0 || ltb us (x .state .busy))
+    where
+      go : (b : Bool) → (let y = cond b (chipOf (later (x .state) us) (x .page) (x .cells)) (finished (rec .model) x) in Small (y .state) × (length (y .page) ≡ 256))
+      go true = (record { level = h .level; short = omega (arith, h .short); brief = omega (arith, h .brief); near = h .near }, n)
+      go false = (finished-small, refl)
+
+  cut-bits : (op : Operation) (pattern : List ℕ) → cutBits (rec .model) op (x .state) (x .page) pattern .bp ≤ 15
+  cut-bits Idle pattern = h .level
+  cut-bits WritesStatus pattern = omega (arith, torn-level (rec .model) (x .state) (x .page) pattern, highest-bp (rec .model))
+  cut-bits Programs pattern = h .level
+  cut-bits ErasesSector pattern = h .level
+  cut-bits ErasesHalf pattern = h .level
+  cut-bits ErasesBlock pattern = h .level
+  cut-bits ErasesChip pattern = h .level
+
+  cut-fits : (pattern : List ℕ) → Small (cutOff (rec .model) x pattern .state) × (length (cutOff (rec .model) x pattern .page) ≡ 256)
+  unfolding cutOff tornChip
+  cut-fits pattern = (cycled-small _ (cut-bits (runs (rec .model) (x .state)) pattern), refl)
+
+fit-small : (rec : Record) (x : Chip) → Fit rec x → Small (x .state)
+fit-small rec x f = valid-small rec (x .state) (f .right) (f .valid)
+
+pub wait-keeps : (rec : Record) (x : Chip) (us : ℕ) → Keeps rec x (waitOf rec x us .answer) (waitOf rec x us .chip .state) (waitOf rec x us .chip .page)
+unfolding waitOf
+wait-keeps rec x us =
+    keeps-by rec x (chipRefusal rec x) _ _ (chip-spared rec x)
+    (λ d. let f = chip-fits rec x d in rw d (f .valid, waited-fits rec x (fit-small rec x f) us (page-length (rec .model) (x .state) (x .page) (f .page))))
+    (λ n. rw n (refl, refl))
+
+pub cut-keeps : (rec : Record) (x : Chip) (pattern : List ℕ) → Keeps rec x (powerCutOf rec x pattern .answer) (powerCutOf rec x pattern .chip .state) (powerCutOf rec x pattern .chip .page)
+unfolding powerCutOf
+cut-keeps rec x pattern =
+    keeps-by rec x (cutRefusal rec x pattern) _ _ (cut-spared rec x pattern)
+    (λ d. let f = cuttable rec x pattern d .fit in rw d (f .valid, cut-fits rec x (fit-small rec x f) pattern))
+    (λ n. rw n (refl, refl))
+
+-- what a power cycle that is taken has shown
+record Powered (rec : Record) (s : State) (page : List ℕ) : Type 0 where
+  right : recordOk rec ≡ true
+  valid : stateOk rec s ≡ true
+  page-data : pageOk (rec .model) s page ≡ true
+
+powered : (rec : Record) (s : State) (page : List ℕ) → isDone (powerRefusal rec s page) ≡ true → Powered rec s page
+unfolding powerRefusal
+powered rec s page d = go (recordOk rec) (stateOk rec s) (pageOk (rec .model) s page) refl refl refl
+  where
+    go : (a b c : Bool) → recordOk rec ≡ a → stateOk rec s ≡ b → pageOk (rec .model) s page ≡ c → Powered rec s page
+    go true true true p q r = record { right = p; valid = q; page-data = r }
+    go true true false p q r = absurd (false≢true (rw (p, q, r) at d))
+    go true false c p q r = absurd (false≢true (rw (p, q) at d))
+    go false b c p q r = absurd (false≢true (rw p at d))
+
+pub cycle-keeps : (rec : Record) (x : Chip) → Keeps rec x (powerOf rec (x .state) (x .page) .answer) (powerOf rec (x .state) (x .page) .state) (x .page)
+unfolding powerOf
+cycle-keeps rec x =
+    keeps-by rec x (powerRefusal rec (x .state) (x .page)) _ (x .page) (power-spared rec (x .state) (x .page))
+    (λ d.
+    let p = powered rec (x .state) (x .page) d in
+    let h = valid-small rec (x .state) (p .right) (p .valid) in
+    rw d (p .valid, (cycled-small (x .state) (h .level), page-length (rec .model) (x .state) (x .page) (p .page-data))))
+    (λ n. rw n (refl, refl))

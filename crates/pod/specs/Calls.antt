@@ -5,54 +5,82 @@ use mathlib.Core.Path.{_≡_}
 use Prim.Native.Nat.{ℕ, _≤_}
 use lib.Dec.{eqb}
 use lib.ListN.{length}
+use Rattle.models.specs.Models.{modelOf}
 use Rattle.answers.specs.Answers.{numberOf, isDone, saysProtected}
-use Rattle.states.specs.States.{flag}
+use Rattle.states.specs.States.{flag, recordOk, Chip, chipOf}
 use Rattle.states.specs.declared.Record.{Record}
 use Rattle.states.specs.declared.State.{State}
 use Rattle.answers.specs.declared.Answer.{Answer}
 use Rattle.time.specs.declared.After.{After}
 use Rattle.effects.specs.Effects.{Effect}
-use Rattle.chip.specs.Frames.{Sent, chipOf, sentOf, frameOf}
-use Rattle.time.specs.Time.{waitOf, powerOf}
-use Rattle.pod.specs.Packing.{packOf, unpackOf}
+use Rattle.chip.specs.Frames.{Sent, sentOf, frameOf}
+use Rattle.time.specs.Time.{Aftermath, waitOf, powerOf, powerCutOf}
+use Rattle.pod.specs.Packing.{packed, pageIn, unpackOf}
 
 -- the record of ten numbers
 abbrev pub recordOf : ℕ → ℕ → ℕ → ℕ → ℕ → ℕ → ℕ → ℕ → ℕ → ℕ → Record
 recordOf model status page sector block chip half sleep wake sign =
     record { model = model; «status_write» = status; page = page; sector = sector; block = block; chip = chip; half = half; sleep = sleep; wake = wake; sign = sign }
 
+-- the chip that state bytes and array make
+abbrev pub chipIn : List ℕ → List ℕ → Chip
+chipIn state cells = chipOf (unpackOf state) (pageIn state) cells
+
+-- what bytes that pack no valid state are answered: the first of 1, 2 and 3 that applies, n being the array's length
+abbrev pub bytesRefusal : Record → ℕ → ℕ
+bytesRefusal rec n = cond (recordOk rec) (cond (eqb n (modelOf (rec .model) .length)) 3 2) 1
+
 -- the answers after which the state may differ: 0, and 17 where it clears WEL
 abbrev pub mayMove : Answer → Bool
 mayMove a = isDone a || saysProtected a
 
--- the state bytes after: those of the state after; where the state cannot differ those given
-unfoldable pub keptOf : Answer → State → List ℕ → List ℕ
-keptOf a next state = cond (mayMove a) (packOf next) state
+-- the state bytes after: those of the state and the page data after; where these cannot differ those given
+unfoldable pub keptOf : Answer → State → List ℕ → List ℕ → List ℕ
+keptOf a next page state = cond (mayMove a) (packed next page) state
 
--- a frame: the number of 01's table, the state bytes, the array, the output, the first driven position and how many, and whether it folded
+-- ---- a frame: the number of 01's table, the state bytes, the output, the first driven position and how many, and whether it folded. The array is only read
 pub record Called : Type 0 where
   pub number : ℕ
   pub state : List ℕ
-  pub cells : List ℕ
   pub out : List ℕ
   pub from : ℕ
   pub count : ℕ
   pub fold : ℕ
 
-abbrev pub called : ℕ → List ℕ → List ℕ → List ℕ → ℕ → ℕ → ℕ → Called
-called number state cells out from count fold =
-    record { number = number; state = state; cells = cells; out = out; from = from; count = count; fold = fold }
+abbrev pub called : ℕ → List ℕ → List ℕ → ℕ → ℕ → ℕ → Called
+called number state out from count fold =
+    record { number = number; state = state; out = out; from = from; count = count; fold = fold }
 
 -- what C sends: WP# is low at 0, high at any other number
 abbrev pub sentBy : List ℕ → ℕ → ℕ → List ℕ → Sent
 sentBy bytes tail wp out = sentOf bytes tail (not (eqb wp 0)) out
 
-unfoldable pub calledFrame : Record → List ℕ → List ℕ → Sent → Called
-calledFrame rec state cells f =
-    let e : Effect = frameOf rec (chipOf (unpackOf state) cells) f in
-    called (numberOf (e .reply .answer)) (keptOf (e .reply .answer) (e .reply .state) state) (e .cells) (e .out) (e .reply .from) (e .reply .count) (flag (e .reply .fold) 1)
+abbrev pub calledOf : List ℕ → Effect → Called
+calledOf state e =
+    called (numberOf (e .reply .answer)) (keptOf (e .reply .answer) (e .reply .state) (e .page) state) (e .out) (e .reply .from) (e .reply .count) (flag (e .reply .fold) 1)
 
--- a wait or a power cycle: the number and the state bytes
+unfoldable pub calledFrame : Record → List ℕ → List ℕ → Sent → Called
+calledFrame rec state cells f = calledOf state (frameOf rec (chipIn state cells) f)
+
+-- ---- a wait or a cut: the number, the state bytes and the array
+pub record Altered : Type 0 where
+  pub number : ℕ
+  pub state : List ℕ
+  pub cells : List ℕ
+
+abbrev pub altered : ℕ → List ℕ → List ℕ → Altered
+altered number state cells = record { number = number; state = state; cells = cells }
+
+abbrev pub alteredOf : List ℕ → Aftermath → Altered
+alteredOf state o = altered (numberOf (o .answer)) (keptOf (o .answer) (o .chip .state) (o .chip .page) state) (o .chip .cells)
+
+unfoldable pub calledWait : Record → List ℕ → List ℕ → ℕ → Altered
+calledWait rec state cells us = alteredOf state (waitOf rec (chipIn state cells) us)
+
+unfoldable pub calledCut : Record → List ℕ → List ℕ → List ℕ → Altered
+calledCut rec state cells pattern = alteredOf state (powerCutOf rec (chipIn state cells) pattern)
+
+-- ---- a power cycle: the number and the state bytes; the page data stay
 pub record Answered : Type 0 where
   pub number : ℕ
   pub state : List ℕ
@@ -61,29 +89,30 @@ abbrev pub answered : ℕ → List ℕ → Answered
 answered number state = record { number = number; state = state }
 
 abbrev pub answeredOf : List ℕ → After → Answered
-answeredOf state a = answered (numberOf (a .answer)) (keptOf (a .answer) (a .state) state)
-
-unfoldable pub calledWait : Record → List ℕ → ℕ → Answered
-calledWait rec state us = answeredOf state (waitOf rec (unpackOf state) us)
+answeredOf state a = answered (numberOf (a .answer)) (keptOf (a .answer) (a .state) (pageIn state) state)
 
 unfoldable pub calledCycle : Record → List ℕ → Answered
-calledCycle rec state = answeredOf state (powerOf rec (unpackOf state))
+calledCycle rec state = answeredOf state (powerOf rec (unpackOf state) (pageIn state))
 
--- what a function's result and its lent places at exit have to be
-pub record Leaves (c : Called) (number : ℕ) (state cells out : List ℕ) (from count fold : ℕ) : Type 0 where
+-- ---- what a function's result and its lent places at exit have to be
+pub record Leaves (c : Called) (number : ℕ) (state out : List ℕ) (from count fold : ℕ) : Type 0 where
   pub number-is : number ≡ c .number
   pub state-is : state ≡ c .state
-  pub cells-are : cells ≡ c .cells
   pub out-is : out ≡ c .out
   pub from-is : from ≡ c .from
   pub count-is : count ≡ c .count
   pub fold-is : fold ≡ c .fold
 
+pub record Alters (c : Altered) (number : ℕ) (state cells : List ℕ) : Type 0 where
+  pub number-is : number ≡ c .number
+  pub state-is : state ≡ c .state
+  pub cells-are : cells ≡ c .cells
+
 pub record Answers (c : Answered) (number : ℕ) (state : List ℕ) : Type 0 where
   pub number-is : number ≡ c .number
   pub state-is : state ≡ c .state
 
--- what the code asks before it packs: where the state may differ there are 12 bytes, and BP fits the status byte
+-- what the code asks before it packs: there are 272 bytes, and where the state may differ BP fits the status byte
 pub record Packs (a : Answer) (next : State) (state : List ℕ) : Type 0 where
-  pub room : mayMove a ≡ true → length state ≡ 12
+  pub room : length state ≡ 272
   pub level : mayMove a ≡ true → next .bp ≤ 15

@@ -4,43 +4,43 @@ use mathlib.Core.List.{List}
 use mathlib.Core.Logic.{_⊎_}
 use mathlib.Core.Path.{_≡_}
 use Prim.Native.Nat.{ℕ}
-use lib.Dec.{eqb}
 use lib.ListN.{length}
 use Rattle.models.specs.Models.{modelOf}
-use Rattle.states.specs.States.{recordOk, stateOk}
+use Rattle.states.specs.States.{recordOk, stateOk, pageOk, chipOf}
 use Rattle.states.specs.declared.Record.{Record}
 use Rattle.states.specs.declared.State.{State}
 use Rattle.effects.specs.Effects.{latched}
-use Rattle.chip.specs.Frames.{Sent, chipOf, frameOf}
-use Rattle.time.specs.Time.{waitOf, powerOf}
-use Rattle.pod.specs.Packing.{packOf, unpackOf}
-use Rattle.pod.specs.Calls.{Called, Answered, called, answered, calledFrame, calledWait, calledCycle, Leaves, Answers}
+use Rattle.chip.specs.Frames.{Sent, frameOf}
+use Rattle.time.specs.Time.{waitOf, powerOf, powerCutOf}
+use Rattle.pod.specs.Packing.{packed, pageIn, unpackOf}
+use Rattle.pod.specs.Calls.{chipIn, bytesRefusal, Called, Altered, Answered, called, altered, answered, calledFrame, calledWait, calledCut, calledCycle, Leaves, Alters, Answers}
 
--- ---- packing and unpacking are inverse on the states that some record makes valid
-pub record Valid (s : State) : Type 0 where
+-- ---- packing and unpacking are inverse on the states and page data that some record makes valid
+pub record Valid (s : State) (page : List ℕ) : Type 0 where
   pub rec : Record
   pub right : recordOk rec ≡ true
   pub valid : stateOk rec s ≡ true
+  pub fits : pageOk (rec .model) s page ≡ true
 
 abbrev pub UnpacksPacked : Type 0
-UnpacksPacked = (s : State) → Valid s → unpackOf (packOf s) ≡ s
+UnpacksPacked = (s : State) (page : List ℕ) → Valid s page → (unpackOf (packed s page) ≡ s) × (pageIn (packed s page) ≡ page)
 
 abbrev pub PacksUnpacked : Type 0
-PacksUnpacked = (xs : List ℕ) → Valid (unpackOf xs) → packOf (unpackOf xs) ≡ xs
+PacksUnpacked = (xs : List ℕ) → Valid (unpackOf xs) (pageIn xs) → packed (unpackOf xs) (pageIn xs) ≡ xs
 
--- ---- bytes that are the packing of no state valid under the record are refused, by the first of 1, 2 and 3 that applies
+-- ---- bytes that pack no state and page data valid under the record are refused, by the first of 1, 2 and 3 that applies; a power cycle has no 2
 abbrev pub NoPacking : Record → List ℕ → Type 0
-NoPacking rec xs = (s : State) → stateOk rec s ≡ true → xs ≡ packOf s → ⊥
+NoPacking rec xs = (s : State) (page : List ℕ) → stateOk rec s ≡ true → pageOk (rec .model) s page ≡ true → xs ≡ packed s page → ⊥
 
 abbrev pub FrameRefusesBytes : Type 0
 FrameRefusesBytes =
-    (rec : Record) (xs cells : List ℕ) (f : Sent)
-    → NoPacking rec xs
-    → calledFrame rec xs cells f
-    ≡ called (cond (recordOk rec) (cond (eqb (length cells) (modelOf (rec .model) .length)) 3 2) 1) xs cells (f .out) 0 0 0
+    (rec : Record) (xs cells : List ℕ) (f : Sent) → NoPacking rec xs → calledFrame rec xs cells f ≡ called (bytesRefusal rec (length cells)) xs (f .out) 0 0 0
 
 abbrev pub WaitRefusesBytes : Type 0
-WaitRefusesBytes = (rec : Record) (xs : List ℕ) (us : ℕ) → NoPacking rec xs → calledWait rec xs us ≡ answered (cond (recordOk rec) 3 1) xs
+WaitRefusesBytes = (rec : Record) (xs cells : List ℕ) (us : ℕ) → NoPacking rec xs → calledWait rec xs cells us ≡ altered (bytesRefusal rec (length cells)) xs cells
+
+abbrev pub CutRefusesBytes : Type 0
+CutRefusesBytes = (rec : Record) (xs cells pattern : List ℕ) → NoPacking rec xs → calledCut rec xs cells pattern ≡ altered (bytesRefusal rec (length cells)) xs cells
 
 abbrev pub CycleRefusesBytes : Type 0
 CycleRefusesBytes = (rec : Record) (xs : List ℕ) → NoPacking rec xs → calledCycle rec xs ≡ answered (cond (recordOk rec) 3 1) xs
@@ -51,40 +51,61 @@ RefusedFrameStays =
     (rec : Record) (xs cells : List ℕ) (f : Sent)
     → (calledFrame rec xs cells f .number ≡ 0 → ⊥)
     → (modelOf (rec .model) .«latch_falls» ≡ false) ⊎ (calledFrame rec xs cells f .number ≡ 17 → ⊥)
-    → calledFrame rec xs cells f ≡ called (calledFrame rec xs cells f .number) xs cells (f .out) 0 0 0
+    → calledFrame rec xs cells f ≡ called (calledFrame rec xs cells f .number) xs (f .out) 0 0 0
 
 abbrev pub RefusedFrameClears : Type 0
 RefusedFrameClears =
     (rec : Record) (xs cells : List ℕ) (f : Sent)
     → modelOf (rec .model) .«latch_falls» ≡ true
     → calledFrame rec xs cells f .number ≡ 17
-    → calledFrame rec xs cells f ≡ called 17 (packOf (latched (unpackOf xs) false)) cells (f .out) 0 0 0
+    → calledFrame rec xs cells f ≡ called 17 (packed (latched (unpackOf xs) false) (pageIn xs)) (f .out) 0 0 0
 
 abbrev pub RefusedWaitStays : Type 0
-RefusedWaitStays = (rec : Record) (xs : List ℕ) (us : ℕ) → (calledWait rec xs us .number ≡ 0 → ⊥) → calledWait rec xs us .state ≡ xs
+RefusedWaitStays =
+    (rec : Record) (xs cells : List ℕ) (us : ℕ)
+    → (calledWait rec xs cells us .number ≡ 0 → ⊥)
+    → calledWait rec xs cells us ≡ altered (calledWait rec xs cells us .number) xs cells
+
+abbrev pub RefusedCutStays : Type 0
+RefusedCutStays =
+    (rec : Record) (xs cells pattern : List ℕ)
+    → (calledCut rec xs cells pattern .number ≡ 0 → ⊥)
+    → calledCut rec xs cells pattern ≡ altered (calledCut rec xs cells pattern .number) xs cells
 
 abbrev pub RefusedCycleStays : Type 0
 RefusedCycleStays = (rec : Record) (xs : List ℕ) → (calledCycle rec xs .number ≡ 0 → ⊥) → calledCycle rec xs .state ≡ xs
 
--- ---- what the next call finds in the bytes is the state that the chip was left in, whatever the answer
+-- ---- what the next call finds in the bytes is the state and the page data that the chip was left with, whatever the answer
 abbrev pub FrameCarries : Type 0
 FrameCarries =
     (rec : Record) (xs cells : List ℕ) (f : Sent)
-    → unpackOf (calledFrame rec xs cells f .state) ≡ frameOf rec (chipOf (unpackOf xs) cells) f .reply .state
+    → chipIn (calledFrame rec xs cells f .state) cells ≡ chipOf (frameOf rec (chipIn xs cells) f .reply .state) (frameOf rec (chipIn xs cells) f .page) cells
 
 abbrev pub WaitCarries : Type 0
-WaitCarries = (rec : Record) (xs : List ℕ) (us : ℕ) → unpackOf (calledWait rec xs us .state) ≡ waitOf rec (unpackOf xs) us .state
+WaitCarries =
+    (rec : Record) (xs cells : List ℕ) (us : ℕ)
+    → chipIn (calledWait rec xs cells us .state) (calledWait rec xs cells us .cells) ≡ waitOf rec (chipIn xs cells) us .chip
+
+abbrev pub CutCarries : Type 0
+CutCarries =
+    (rec : Record) (xs cells pattern : List ℕ)
+    → chipIn (calledCut rec xs cells pattern .state) (calledCut rec xs cells pattern .cells) ≡ powerCutOf rec (chipIn xs cells) pattern .chip
 
 abbrev pub CycleCarries : Type 0
-CycleCarries = (rec : Record) (xs : List ℕ) → unpackOf (calledCycle rec xs .state) ≡ powerOf rec (unpackOf xs) .state
+CycleCarries =
+    (rec : Record) (xs cells : List ℕ)
+    → chipIn (calledCycle rec xs .state) cells ≡ chipOf (powerOf rec (unpackOf xs) (pageIn xs) .state) (pageIn xs) cells
 
 -- ---- no second answer: two results of one call that satisfy the contract are equal in every part
 abbrev pub OneCalled : Type 0
 OneCalled =
-    (c : Called) (n m : ℕ) (xs ys cells cells′ out out′ : List ℕ) (from from′ count count′ fold fold′ : ℕ)
-    → Leaves c n xs cells out from count fold
-    → Leaves c m ys cells′ out′ from′ count′ fold′
-    → called n xs cells out from count fold ≡ called m ys cells′ out′ from′ count′ fold′
+    (c : Called) (n m : ℕ) (xs ys out out′ : List ℕ) (from from′ count count′ fold fold′ : ℕ)
+    → Leaves c n xs out from count fold
+    → Leaves c m ys out′ from′ count′ fold′
+    → called n xs out from count fold ≡ called m ys out′ from′ count′ fold′
+
+abbrev pub OneAltered : Type 0
+OneAltered = (c : Altered) (n m : ℕ) (xs ys cells cells′ : List ℕ) → Alters c n xs cells → Alters c m ys cells′ → altered n xs cells ≡ altered m ys cells′
 
 abbrev pub OneAnswered : Type 0
 OneAnswered = (c : Answered) (n m : ℕ) (xs ys : List ℕ) → Answers c n xs → Answers c m ys → answered n xs ≡ answered m ys

@@ -11,22 +11,24 @@ use Rattle.commands.specs.Commands.{decodeOf}
 use Rattle.cells.specs.Cell.{bit}
 use Rattle.answers.specs.Answers.{numberOf, isDone}
 use Rattle.answers.specs.declared.Answer.{Answer}
-use Rattle.states.specs.States.{tbOf}
+use Rattle.states.specs.States.{tbOf, Chip}
 use Rattle.states.specs.declared.Record.{Record}
 use Rattle.states.specs.declared.State.{State}
-use Rattle.commands.specs.declared.Command.the-variants.{Program}
+use Rattle.commands.specs.declared.Operation.the-variants.{Programs}
+use Rattle.parts.specs.Parts.{part}
 use Rattle.effects.specs.declared.Reply.{Reply}
 use Rattle.time.specs.declared.After.{After}
 use Rattle.effects.specs.Effects.{Gives, latched, refusalLeaves, stateOnly}
 use Rattle.ladder.specs.declared.Head.{Head}
-use Rattle.chip.specs.Frames.{Chip, Sent, headOf, refusedOf, frameOf}
-use Rattle.chip.specs.Units.{Extent, unitOf, drivenBytes, foldOf}
-use Rattle.time.specs.Time.{waitOf, powerOf}
+use Rattle.chip.specs.Frames.{Sent, headOf, refusedOf, frameOf}
+use Rattle.chip.specs.Driven.{drivenBytes, foldOf}
+use Rattle.operations.specs.Operations.{Extent, unitOf, runs, runsAt, finished}
+use Rattle.time.specs.Time.{Aftermath, Ends, waitOf, powerOf, powerCutOf}
 use Rattle.calls.specs.Calls.{Call, ours, after}
 
--- waiting a and then b is waiting a + b, for any record and state
+-- waiting a and then b is waiting a + b, for any record, state, page data and array
 abbrev pub WaitsAdd : Type 0
-WaitsAdd = (rec : Record) (s : State) (a b : ℕ) → waitOf rec (waitOf rec s a .state) b ≡ waitOf rec s (a + b)
+WaitsAdd = (rec : Record) (x : Chip) (a b : ℕ) → waitOf rec (waitOf rec x a .chip) b ≡ waitOf rec x (a + b)
 
 -- a refused frame drives nothing and changes no cell, and leaves of the state what its answer leaves on that model
 abbrev pub RefusedFrame : Type 0
@@ -50,13 +52,15 @@ RefusalClears =
 abbrev pub LatchFalls : Type 0
 LatchFalls = (n : ℕ) → modelOf n .«latch_falls» ≡ eqb n 3
 
--- a refused wait or power cycle changes nothing
-
+-- a refused wait, cut or power cycle changes nothing
 abbrev pub RefusedWait : Type 0
-RefusedWait = (rec : Record) (s : State) (us : ℕ) → isDone (waitOf rec s us .answer) ≡ false → waitOf rec s us .state ≡ s
+RefusedWait = (rec : Record) (x : Chip) (us : ℕ) → isDone (waitOf rec x us .answer) ≡ false → waitOf rec x us .chip ≡ x
+
+abbrev pub RefusedCut : Type 0
+RefusedCut = (rec : Record) (x : Chip) (pattern : List ℕ) → isDone (powerCutOf rec x pattern .answer) ≡ false → powerCutOf rec x pattern .chip ≡ x
 
 abbrev pub RefusedCycle : Type 0
-RefusedCycle = (rec : Record) (s : State) → isDone (powerOf rec s .answer) ≡ false → powerOf rec s .state ≡ s
+RefusedCycle = (rec : Record) (s : State) (page : List ℕ) → isDone (powerOf rec s page .answer) ≡ false → powerOf rec s page .state ≡ s
 
 -- TB, once set, stays set under every call, whatever it is given
 abbrev pub TbStays : Type 0
@@ -83,43 +87,65 @@ SettlingAnswers =
 abbrev pub SettlingStays : Type 0
 SettlingStays =
     (rec : Record) (x : Chip) (f : Sent) → Settles x
-    → frameOf rec x f ≡ stateOnly (frameOf rec x f .reply .answer) (x .state) (x .cells) (f .out)
+    → frameOf rec x f ≡ stateOnly (frameOf rec x f .reply .answer) (x .state) (x .page) (f .out)
 
--- a frame changes at most the unit that it addresses
-abbrev pub addressed : Record → Chip → Sent → Extent
-addressed rec x f = unitOf (headOf rec x f .command) (headOf rec x f .address) (length (x .cells))
+-- a wait changes at most the unit of the running operation, and so does a cut; a frame changes no cell at all
+abbrev pub unit : Record → Chip → Extent
+unit rec x = unitOf (runs (rec .model) (x .state)) (runsAt (x .state)) (length (x .cells))
+
+abbrev pub Outside : Extent → ℕ → Type 0
+Outside u k = (k < u .start) ⊎ (u .start + u .size ≤ k)
 
 abbrev pub OnlyItsUnit : Type 0
-OnlyItsUnit =
-    (rec : Record) (x : Chip) (f : Sent) (k : ℕ)
-    → (k < addressed rec x f .start) ⊎ (addressed rec x f .start + addressed rec x f .size ≤ k)
-    → getD (frameOf rec x f .cells) k 0 ≡ getD (x .cells) k 0
+OnlyItsUnit = (rec : Record) (x : Chip) (us k : ℕ) → Outside (unit rec x) k → getD (waitOf rec x us .chip .cells) k 0 ≡ getD (x .cells) k 0
 
--- cells only fall under a program: no bit b of any cell k rises
+abbrev pub CutsOnlyItsUnit : Type 0
+CutsOnlyItsUnit = (rec : Record) (x : Chip) (pattern : List ℕ) (k : ℕ) → Outside (unit rec x) k → getD (powerCutOf rec x pattern .chip .cells) k 0 ≡ getD (x .cells) k 0
+
+-- cells only fall under a program: no bit b of any cell k rises when it has finished (of a cut one `torn-falls` says it, in `cells`)
 abbrev pub ProgramFalls : Type 0
 ProgramFalls =
-    (rec : Record) (x : Chip) (f : Sent) (b k : ℕ) → headOf rec x f .command ≡ Program
-    → bit b (getD (frameOf rec x f .cells) k 0) ≤ bit b (getD (x .cells) k 0)
+    (rec : Record) (x : Chip) (us b k : ℕ) → runs (rec .model) (x .state) ≡ Programs → bit b (getD (waitOf rec x us .chip .cells) k 0) ≤ bit b (getD (x .cells) k 0)
 
--- no second answer satisfies a promise. Every promise of the crates below is an equation with a definition, or `Gives`.
+-- the cells change when the time has run out, and not before
+abbrev pub NotBefore : Type 0
+NotBefore = (rec : Record) (x : Chip) (us : ℕ) → us < x .state .busy → waitOf rec x us .chip .cells ≡ x .cells
+
+-- with the pattern of the cells that were there a cut operation has not happened, with that of the finished one it has finished
+abbrev pub unitCells : Record → Chip → List ℕ → List ℕ
+unitCells rec x cells = part cells (unit rec x .start) (unit rec x .size)
+
+abbrev pub PatternOld : Type 0
+PatternOld = (rec : Record) (x : Chip) → isDone (powerCutOf rec x (unitCells rec x (x .cells)) .answer) ≡ true → powerCutOf rec x (unitCells rec x (x .cells)) .chip .cells ≡ x .cells
+
+abbrev pub PatternFinished : Type 0
+PatternFinished =
+    (rec : Record) (x : Chip)
+    → (let done : List ℕ = finished (rec .model) x .cells in
+    isDone (powerCutOf rec x (unitCells rec x done) .answer) ≡ true → powerCutOf rec x (unitCells rec x done) .chip .cells ≡ done)
+
+-- no second answer satisfies a promise. Every promise of the crates below is an equation with a definition, `Gives` or `Ends`.
 abbrev pub OneOutcome : Type 1
 OneOutcome = (A : Type 0) (a r t : A) → r ≡ a → t ≡ a → r ≡ t
 
 abbrev pub OneEffect : Type 0
 OneEffect =
-    (rec : Record) (x : Chip) (f : Sent) (r t : Reply) (xs ys os ps : List ℕ)
-    → Gives (frameOf rec x f) r xs os → Gives (frameOf rec x f) t ys ps → (r ≡ t) × (xs ≡ ys) × (os ≡ ps)
+    (rec : Record) (x : Chip) (f : Sent) (r t : Reply) (page page′ os ps : List ℕ)
+    → Gives (frameOf rec x f) r page os → Gives (frameOf rec x f) t page′ ps → (r ≡ t) × (page ≡ page′) × (os ≡ ps)
 
-abbrev pub OneWait : Type 0
-OneWait = (rec : Record) (s : State) (us : ℕ) (r t : After) → r ≡ waitOf rec s us → t ≡ waitOf rec s us → r ≡ t
+-- of a wait and of a cut
+abbrev pub OneEnd : Type 0
+OneEnd =
+    (o : Aftermath) (r t : After) (page page′ xs ys : List ℕ) → Ends o r page xs → Ends o t page′ ys
+    → (r ≡ t) × (page ≡ page′) × (xs ≡ ys)
 
 abbrev pub OneCycle : Type 0
-OneCycle = (rec : Record) (s : State) (r t : After) → r ≡ powerOf rec s → t ≡ powerOf rec s → r ≡ t
+OneCycle = (rec : Record) (s : State) (page : List ℕ) (r t : After) → r ≡ powerOf rec s page → t ≡ powerOf rec s page → r ≡ t
 
 -- a made-up number of driven bytes falls: what satisfies the contract of a frame drives as many as the command and the length say
 abbrev pub NumberFixed : Type 0
 NumberFixed =
-    (rec : Record) (x : Chip) (f : Sent) (r : Reply) (xs os : List ℕ) → Gives (frameOf rec x f) r xs os → isDone (r .answer) ≡ true
+    (rec : Record) (x : Chip) (f : Sent) (r : Reply) (page os : List ℕ) → Gives (frameOf rec x f) r page os → isDone (r .answer) ≡ true
     → r .count ≡ drivenBytes (decodeOf (rec .model) (getD (f .bytes) 0 0)) (length (f .bytes))
 
 -- the answer says that a program folded exactly when the frame is taken, its command is a program, and a byte went past the page's end

@@ -12,16 +12,16 @@ use Rattle.models.specs.Models.{isModel, partOf, addressOf}
 use Rattle.cells.specs.Cell.{FF}
 use Rattle.parts.proofs.Bytes.{bytes-replicate}
 use Rattle.parts.proofs.Lay.{part-at}
-use Rattle.states.specs.States.{inRange, halfOk, recordOk, powerOn, benchKH25L512}
+use Rattle.states.specs.States.{inRange, halfOk, recordOk, benchKH25L512, Chip}
 use Rattle.states.specs.declared.Record.{Record}
 use Rattle.answers.specs.declared.Answer.{Answer}
 use Rattle.answers.specs.declared.Answer.the-variants.{Done}
 use Rattle.effects.specs.Effects.{Effect}
-use Rattle.chip.specs.Frames.{Chip, chipOf}
-use Rattle.calls.specs.Calls.{Call, sends, waits, cycles, Pod, after, answer, run, effectAfter, Bench}
+use Rattle.calls.specs.Calls.{Call, sends, waits, cycles, cuts, Pod, after, answer, run, effectAfter, Bench}
 use Rattle.recovery.specs.Recovery.{Job, JobFits, wakeUp, readBack, waitLongest, toRead, recovery, Recovers, WinsBack}
+use Rattle.recovery.specs.Histories.{factory}
 use Rattle.recovery.specs.Pods.{RefusesAll, SameByte, KeepsCells, OnlyOnce, OnlyReplays, Worthless}
-use Rattle.recovery.proofs.Histories.{valid-histories}
+use Rattle.recovery.proofs.Histories.{fresh-bench}
 
 -- ---- one set-up: model 1 with bench values, all cells 0, one byte d to address 0
 abbrev room : List ℕ
@@ -42,14 +42,14 @@ abbrev zeros : List ℕ
 zeros = replicate 65536 0
 
 abbrev start : Chip
-start = chipOf powerOn zeros
+start = factory zeros
 
 zero-at : (k : ℕ) → k < 65536 → getD zeros k 0 ≡ 0
 zero-at k h = getD-replicate {A = ℕ} 65536 k 0 0 h
 
 bench : Bench benchKH25L512 start
 unfolding recordOk inRange halfOk isModel partOf
-bench = record { right = refl; whole = length-replicate {A = ℕ} 65536 0; valid = valid-histories benchKH25L512 [] }
+bench = fresh-bench benchKH25L512 zeros refl (length-replicate {A = ℕ} 65536 0)
 
 fits : (d : ℕ) → d < 256 → JobFits (one d)
 fits d h =
@@ -125,11 +125,14 @@ kept : (p : Pod) → OnlyReplays p → (rec : Record) (seen cs : List Call) (x :
     → (getD (run p rec seen cs x .cells) k 0 ≡ getD (x .cells) k 0) ⊎ (getD (run p rec seen cs x .cells) k 0 ≡ FF)
 unfolding after
 kept p h rec seen [] x k = inl refl
-kept p h rec seen (sends f ∷ cs) x k =
-    ⊎-elim (λ e. ⊎-elim (λ d. inl (e ∙ d)) (λ d. inr (e ∙ d)) (h seen rec x f k)) (λ e. inr e)
-    (kept p h rec (sends f ∷ seen) cs (after p rec seen (sends f) x) k)
-kept p h rec seen (waits us ∷ cs) x k = kept p h rec (waits us ∷ seen) cs (after p rec seen (waits us) x) k
+kept p h rec seen (sends f ∷ cs) x k = kept p h rec (sends f ∷ seen) cs (after p rec seen (sends f) x) k
+kept p h rec seen (waits us ∷ cs) x k =
+    ⊎-elim (λ e. ⊎-elim (λ d. inl (e ∙ d)) (λ d. inr (e ∙ d)) (h .0 seen rec x us k)) (λ e. inr e)
+    (kept p h rec (waits us ∷ seen) cs (after p rec seen (waits us) x) k)
 kept p h rec seen (cycles ∷ cs) x k = kept p h rec (cycles ∷ seen) cs (after p rec seen cycles x) k
+kept p h rec seen (cuts pattern ∷ cs) x k =
+    ⊎-elim (λ e. ⊎-elim (λ d. inl (e ∙ d)) (λ d. inr (e ∙ d)) (h .1 seen rec x pattern k)) (λ e. inr e)
+    (kept p h rec (cuts pattern ∷ seen) cs (after p rec seen (cuts pattern) x) k)
 
 -- so the byte 1 is never stored where 0 stood
 pub only-replays : (p : Pod) → OnlyReplays p → WinsBack p → ⊥
@@ -140,7 +143,8 @@ only-replays p h t =
 
 -- a pod that changes no cell is one of them
 pub keeps-cells : (p : Pod) → KeepsCells p → WinsBack p → ⊥
-keeps-cells p h t = only-replays p (λ seen rec x f k. inl (ap (λ (z : List ℕ). getD z k 0) (h seen rec x f))) t
+keeps-cells p h t =
+    only-replays p (λ seen rec x us k. inl (ap (λ (z : List ℕ). getD z k 0) (h .0 seen rec x us)), λ seen rec x pattern k. inl (ap (λ (z : List ℕ). getD z k 0) (h .1 seen rec x pattern))) t
 
 pub only-once : (p : Pod) → OnlyOnce p → WinsBack p → ⊥
 only-once p h t =

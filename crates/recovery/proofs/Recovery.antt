@@ -1,83 +1,143 @@
 -- The listed calls win the chip back. Assumes nothing.
 use mathlib.Core.Path.{_≡_, refl, sym, ap, subst, _∙_}
-use mathlib.Core.Bool.{Bool, true, false, cond}
+use mathlib.Core.Bool.{Bool, true, false, _||_, and-false, cond}
 use mathlib.Core.List.{List, [], _∷_}
+use mathlib.Core.Logic.{⊎-elim}
 use Prim.Native.Nat.{ℕ, _+_, _-_, _*_, _%_, _≤_, _<_}
 use native.Mathlib.Nat.{mod-lt, zero-mod, mod-mod-of-dvd, dvd-mul-right}
 use native.Mathlib.Omega.{arith}
+use lib.Dec.{eqb, ltb}
 use lib.ListN.{length, getD}
-use borrow.Author.Tests.{ne-eqb, le-ltb, lt-ltb}
+use borrow.Author.Tests.{eqb-false, eq-eqb, ne-eqb, le-ltb, lt-ltb}
 use Rattle.units.specs.declared.Address.{Address}
 use Rattle.units.specs.Kinds.{sectorOf, pageStart, pageOffset}
+use Rattle.units.proofs.Bools.{neither}
 use Rattle.models.specs.Models.{modelOf, addressOf}
 use Rattle.models.proofs.Rules.{row-rules, units-inside}
 use Rattle.models.specs.Rules.{Inside}
 use Rattle.parts.specs.Parts.{part, lay}
+use Rattle.fold.specs.Fold.{pageAfter}
 use Rattle.flash.specs.Arrays.{sectorErased, programmed}
 use Rattle.rings.specs.Ring.{ring}
 use Rattle.flash.specs.Sheet.{ErasesOnly}
-use Rattle.flash.proofs.Arrays.{length-sectorErased, part-sectorErased, sector-erase, length-programmed, programmed-fresh}
+use Rattle.flash.proofs.Arrays.{length-sectorErased, part-sectorErased, sector-erase, length-programmed}
 use Rattle.parts.proofs.Lay.{lay-before, lay-after, part-lay}
 use Rattle.rings.proofs.Ring.{length-ring, ring-straight}
-use Rattle.states.specs.States.{longestOf}
+use Rattle.commands.specs.Commands.{decodeOf}
+use Rattle.commands.specs.declared.Operation.the-variants.{ErasesSector}
+use Rattle.states.specs.States.{longestOf, noCommand, noAddress, blankPage, Chip, chipOf}
 use Rattle.states.specs.declared.Record.{Record}
 use Rattle.states.specs.declared.State.{State}
 use Rattle.answers.specs.declared.Answer.the-variants.{Done}
-use Rattle.states.proofs.States.{sound, times, busy-le-all, settle-le-all}
-use Rattle.effects.specs.Effects.{Effect, stateOnly, changed, shown, drives, latched, dozing, working, written, eraseSector, programPage, readFrom}
-use Rattle.chip.specs.Frames.{Chip, chipOf, frameOf}
-use Rattle.time.specs.Time.{later}
-use Rattle.calls.specs.Calls.{sends, ours, effectAfter, Bench, frame}
+use Rattle.states.proofs.States.{Resting, sound, times, busy-le, busy-le-all, settle-le-all, blank-page}
+use Rattle.effects.specs.Effects.{Effect, quiet, stateOnly, turned, started, shown, drives, latched, dozing, starting, writeStatus, eraseStarts as Effects·erase, programPage, readFrom}
+use Rattle.operations.specs.Operations.{runs, pageAddress, configAfter, written, forgotten, finished}
+use Rattle.operations.proofs.Kept.{finished-settle}
+use Rattle.operations.proofs.Page.{page-laid}
+use Rattle.chip.specs.Frames.{frameOf}
+use Rattle.time.specs.Time.{later, waited}
+use Rattle.calls.specs.Calls.{sends, waits, ours, run, effectAfter, Bench, frame}
 use Rattle.recovery.specs.Recovery.{Job, JobFits, wakeUp, enableUnlock, unlock, enableErase, erase, enableProgram, program, readBack, waitLongest, waitWake, waitUnlock, waitErase, waitProgram, toUnlock, toErase, toProgram, toRead, recovery, target, base, Won, Recovers, WinsBack}
-use Rattle.calls.proofs.Steps.{Goes, ends, goes, goes-on, goes-run, goes-answers, Step, sends-to, waits-to, wake-taken, enable-taken, write-taken, erase-taken, program-taken, read-taken}
+use Rattle.calls.proofs.Steps.{Goes, ends, goes, goes-on, goes-run, goes-answers, Step, sends-to, waits-to, waits-on, wake-taken, enable-taken, write-taken, erase-taken, program-taken, read-taken}
 
--- a chip that is awake with protection off: idle, and running an operation for so long; the calls of the list leave its register v as it is
+-- a chip that is awake with protection off: idle, with WEL set, and running an operation for so long; the calls of the list leave its register v as it is
 abbrev pub calm : ℕ → State
-calm v = record { srwd = false; bp = 0; config = v; wel = false; asleep = false; busy = 0; settle = 0 }
-
-abbrev pub running : ℕ → ℕ → State
-running v time = record { srwd = false; bp = 0; config = v; wel = true; asleep = false; busy = time; settle = 0 }
+calm v = record { srwd = false; bp = 0; config = v; wel = false; asleep = false; busy = 0; settle = 0; command = noCommand; address = noAddress }
 
 abbrev pub enabled : ℕ → State
-enabled v = running v 0
+enabled v = record { srwd = false; bp = 0; config = v; wel = true; asleep = false; busy = 0; settle = 0; command = noCommand; address = noAddress }
 
--- when its time has run out it is idle
-pub run-out : (v time : ℕ) → 0 < time → later (running v time) time ≡ calm v
-unfolding later
-run-out v time p =
-    let e : time - time ≡ 0 = omega arith in
-    let o : 0 - time ≡ 0 = omega arith in
-    rw (ne-eqb time 0 (λ z. omega arith), le-ltb time time (omega arith), e, o)
+abbrev pub running : ℕ → ℕ → ℕ → ℕ → State
+running v command place time = record { srwd = false; bp = 0; config = v; wel = true; asleep = false; busy = time; settle = 0; command = command; address = place }
 
--- and a microsecond before it is still busy
-pub not-yet : (v time : ℕ) → 0 < time → later (running v time) (time - 1) .busy ≡ 1
-unfolding later
-not-yet v time p = omega arith
+-- when the time has passed it has run out, and a microsecond before it has not
+pub run-out : (time : ℕ) → 0 < time → (eqb time 0 || ltb time time) ≡ false
+run-out time p = rw (ne-eqb time 0 (λ z. omega arith), le-ltb time time (omega arith))
+
+pub not-yet : (time : ℕ) → 0 < time → (eqb time 0 || ltb (time - 1) time) ≡ true
+not-yet time p = rw (ne-eqb time 0 (λ z. omega arith), lt-ltb (time - 1) time (omega arith))
 
 -- 06 on an idle chip
-pub enable : (rec : Record) (v : ℕ) (cells out : List ℕ) → Bench rec (chipOf (calm v) cells) → 1 ≤ length out
-    → Step rec (sends (frame (0x06 ∷ []) out)) (chipOf (calm v) cells) (chipOf (enabled v) cells)
+pub enable : (rec : Record) (v : ℕ) (cells out : List ℕ) → Bench rec (chipOf (calm v) blankPage cells) → 1 ≤ length out
+    → Step rec (sends (frame (0x06 ∷ []) out)) (chipOf (calm v) blankPage cells) (chipOf (enabled v) blankPage cells)
 unfolding latched
 enable rec v cells out c r =
-    let y : Chip = chipOf (calm v) cells in
-    sends-to rec y c (frame (0x06 ∷ []) out) (stateOnly Done (enabled v) cells out) (enable-taken rec y c refl refl out refl r) refl
+    let y : Chip = chipOf (calm v) blankPage cells in
+    sends-to rec y c (frame (0x06 ∷ []) out) (stateOnly Done (enabled v) blankPage out) (enable-taken rec y c refl refl out refl r) refl
 
--- 01 00 takes protection off
-pub unprotects : (rec : Record) (s : State) (time : ℕ) → s .wel ≡ true → s .asleep ≡ false → s .settle ≡ 0 → written (rec .model) s 0 (s .config) time ≡ running (s .config) time
-unfolding written
-unprotects rec s time w a e = rw (w, a, e, zero-mod (modelOf (rec .model) .«highest_bp» + 1))
+-- the page data of 01 00, and what the operations of the list come to
+abbrev pub unlockPage : List ℕ
+unlockPage = lay blankPage 0 (0x00 ∷ [])
+
+module _ (n v time : ℕ) (cells : List ℕ) where
+  -- a status write of 00 takes protection off, whatever it was
+  pub finish-unlock : (s : State) → s .command ≡ 0x01 → s .address ≡ 1 → s .asleep ≡ false → s .settle ≡ 0 → finished n (chipOf s unlockPage cells) ≡ chipOf (calm (s .config)) blankPage cells
+  unfolding finished forgotten written configAfter decodeOf lay
+  finish-unlock s c a w q = rw (c, a, w, q, zero-mod (modelOf n .«highest_bp» + 1), and-false (modelOf n .register))
+
+  pub finish-erase : (at : ℕ) → finished n (chipOf (running v 0x20 at time) blankPage cells) ≡ chipOf (calm v) blankPage (sectorErased cells (sectorOf (record { 0 = at })))
+  unfolding finished forgotten decodeOf
+  finish-erase at = refl
+
+  pub finish-program : (at : ℕ) (page : List ℕ) → finished n (chipOf (running v 0x02 at time) page cells) ≡ chipOf (calm v) blankPage (programmed cells (pageAddress (record { 0 = at })) page)
+  unfolding finished forgotten decodeOf
+  finish-program at page = refl
+
+-- ---- after the longest time the chip is idle, and has settled
+module _ (rec : Record) (x : Chip) (b : Bench rec x) where
+  abbrev pub z : Chip
+  z = waited (rec .model) x (longestOf rec)
+
+  pub first-wait : Step rec (waits (longestOf rec)) x z
+  first-wait = waits-to rec x b (longestOf rec) z refl
+
+  pub idle-after : z .state .busy ≡ 0
+  unfolding waited later finished forgotten
+  idle-after = go (eqb (x .state .busy) 0 || ltb (longestOf rec) (x .state .busy))
+    where
+      go : (t : Bool) → cond t (chipOf (later (x .state) (longestOf rec)) (x .page) (x .cells)) (finished (rec .model) x) .state .busy ≡ 0
+      go true = omega (arith, busy-le rec (x .state) (sound rec (x .state) (b .valid)), busy-le-all rec)
+      go false = refl
+
+  pub settled-after : z .state .settle ≡ 0
+  unfolding waited later finished forgotten
+  settled-after = go (eqb (x .state .busy) 0 || ltb (longestOf rec) (x .state .busy)) refl
+    where
+      go : (t : Bool) → (eqb (x .state .busy) 0 || ltb (longestOf rec) (x .state .busy)) ≡ t
+          → cond t (chipOf (later (x .state) (longestOf rec)) (x .page) (x .cells)) (finished (rec .model) x) .state .settle ≡ 0
+      go true e = omega (arith, sound rec (x .state) (b .valid) .settle, settle-le-all rec)
+      go false e =
+          finished-settle (rec .model) (x .state) (x .page) (runs (rec .model) (x .state))
+          ∙ ⊎-elim (λ q. absurd (eqb-false (x .state .busy) 0 (neither (eqb (x .state .busy) 0) _ e .0) (q .idle))) (λ q. q .settled) (sound rec (x .state) (b .valid) .mood)
+
+  pub blank-after : z .page ≡ blankPage
+  blank-after = blank-page (rec .model) (z .state) (z .page) (first-wait .bench .page) idle-after
+
+  pub resting-after : Resting (z .state)
+  resting-after = ⊎-elim (λ q. q) (λ q. absurd (omega (arith, q .busy, idle-after))) (sound rec (z .state) (first-wait .bench .valid) .mood)
+
+-- the wait that runs an operation's time out
+pub waits-end : (rec : Record) (x : Chip) (time : ℕ) → 0 < time → x .state .busy ≡ time → waited (rec .model) x time ≡ finished (rec .model) x
+unfolding waited
+waits-end rec x time p e = rw (e, run-out time p)
 
 module _ (rec : Record) (j : Job) (x : Chip) (b : Bench rec x) (f : JobFits j) where
-  -- ---- up to the unlocking: whatever the valid state was, a status write runs and protection is off
+  -- ---- up to the unlocking: whatever the valid state was, a status write runs
+  abbrev start : Chip
+  start = z rec x b
+
+  abbrev pub c0 : List ℕ
+  c0 = start .cells
+
   abbrev on : State → Chip
-  on s = chipOf s (x .cells)
+  on s = chipOf s (start .page) c0
 
   abbrev rested : State
-  rested = later (x .state) (longestOf rec)
+  rested = start .state
 
   -- its register, which stays
   abbrev v : ℕ
-  v = x .state .config
+  v = rested .config
 
   -- it settles only if it was asleep
   abbrev pub woken : State
@@ -89,28 +149,24 @@ module _ (rec : Record) (j : Job) (x : Chip) (b : Bench rec x) (f : JobFits j) w
   abbrev armed : State
   armed = latched settled true
 
-  idle-after : rested .busy ≡ 0
-  unfolding later
-  idle-after = omega (arith, sound rec (x .state) (b .valid) .time, busy-le-all rec)
-
-  settled-after : rested .settle ≡ 0
-  unfolding later
-  settled-after = omega (arith, sound rec (x .state) (b .valid) .settle, settle-le-all rec)
-
   pub rests : Step rec (waitLongest rec j) x (on rested)
-  rests = waits-to rec x b (longestOf rec) rested refl
+  rests = first-wait rec x b
 
   pub wakes : Step rec (sends (wakeUp j)) (on rested) (on woken)
   wakes =
       let out = j .outs .wakeUp in
-      sends-to rec (on rested) (rests .bench) (wakeUp j) (stateOnly Done woken (x .cells) out) (wake-taken rec (on rested) (rests .bench) idle-after settled-after out (f .rooms .wakeUp)) refl
+      sends-to rec (on rested) (rests .bench) (wakeUp j) (stateOnly Done woken (start .page) out) (wake-taken rec (on rested) (rests .bench) (idle-after rec x b) (settled-after rec x b) out (f .rooms .wakeUp)) refl
+
+  woken-idle : woken .busy ≡ 0
+  unfolding dozing
+  woken-idle = idle-after rec x b
 
   settles : Step rec (waitWake rec j) (on woken) (on settled)
-  settles = waits-to rec (on woken) (wakes .bench) (rec .wake) settled refl
+  settles = waits-on rec (on woken) (wakes .bench) (rec .wake) (rw (eq-eqb (woken .busy) 0 woken-idle))
 
   still-idle : settled .busy ≡ 0
   unfolding later dozing
-  still-idle = omega (arith, idle-after)
+  still-idle = omega (arith, idle-after rec x b)
 
   at-rest : settled .settle ≡ 0
   unfolding later dozing
@@ -124,60 +180,81 @@ module _ (rec : Record) (j : Job) (x : Chip) (b : Bench rec x) (f : JobFits j) w
   unfolding dozing later
   arms =
       let out = j .outs .enableUnlock in
-      sends-to rec (on settled) (settles .bench) (enableUnlock j) (stateOnly Done armed (x .cells) out) (enable-taken rec (on settled) (settles .bench) still-idle at-rest out refl (f .rooms .enableUnlock)) refl
+      sends-to rec (on settled) (settles .bench) (enableUnlock j) (stateOnly Done armed (start .page) out) (enable-taken rec (on settled) (settles .bench) still-idle at-rest out refl (f .rooms .enableUnlock)) refl
 
-  pub unlocks : Step rec (sends (unlock j)) (on armed) (chipOf (running v (rec .«status_write»)) (x .cells))
-  unfolding dozing latched written later
+  abbrev pub unlocking : Chip
+  unlocking = chipOf (starting armed 0x01 1 (rec .«status_write»)) unlockPage c0
+
+  pub unlocks : Step rec (sends (unlock j)) (on armed) unlocking
+  unfolding dozing latched later writeStatus
   unlocks =
       let out = j .outs .unlock in
-      sends-to rec (on armed) (arms .bench) (unlock j) (stateOnly Done (running v (rec .«status_write»)) (x .cells) out) (write-taken rec (on armed) (arms .bench) still-idle at-rest out 0 refl refl (f .rooms .unlock) ∙ ap (λ (s : State). stateOnly Done s (x .cells) out) (unprotects rec armed (rec .«status_write») refl refl at-rest)) refl
+      let e : Effect = record { reply = quiet Done (starting armed 0x01 1 (rec .«status_write»)); page = unlockPage; out = out } in
+      sends-to rec (on armed) (arms .bench) (unlock j) e
+      (write-taken rec (on armed) (arms .bench) still-idle at-rest out 0 refl refl (f .rooms .unlock) ∙ ap (λ (page : List ℕ). started out (writeStatus rec armed page (0x01 ∷ 0x00 ∷ []))) (blank-after rec x b)) refl
 
-  -- ---- up to the erase
-  unlocked : Step rec (waitUnlock rec j) (on (running v (rec .«status_write»))) (on (calm v))
-  unlocked = waits-to rec (on (running v (rec .«status_write»))) (unlocks .bench) (rec .«status_write») (calm v) (run-out v (rec .«status_write») (times rec (b .right) .status))
+  -- ---- up to the erase: protection is off
+  abbrev calmed : List ℕ → Chip
+  calmed cells = chipOf (calm v) blankPage cells
 
-  erase-enabled : Step rec (sends (enableErase j)) (on (calm v)) (on (enabled v))
-  erase-enabled = enable rec v (x .cells) (j .outs .enableErase) (unlocked .bench) (f .rooms .enableErase)
+  unlocked : Step rec (waitUnlock rec j) unlocking (calmed c0)
+  unfolding starting dozing latched later
+  unlocked =
+      waits-to rec unlocking (unlocks .bench) (rec .«status_write») (calmed c0)
+      (waits-end rec unlocking (rec .«status_write») (times rec (b .right) .status) refl ∙ finish-unlock (rec .model) v (rec .«status_write») c0 (starting armed 0x01 1 (rec .«status_write»)) refl refl refl at-rest)
+
+  erase-enabled : Step rec (sends (enableErase j)) (calmed c0) (chipOf (enabled v) blankPage c0)
+  erase-enabled = enable rec v c0 (j .outs .enableErase) (unlocked .bench) (f .rooms .enableErase)
 
   abbrev to : Address
   to = target rec j
 
-  abbrev cleared : List ℕ
-  cleared = sectorErased (x .cells) (sectorOf to)
+  abbrev pub erasing : Chip
+  erasing = chipOf (running v 0x20 (to .0) (rec .sector)) blankPage c0
 
-  pub erases : Step rec (sends (erase j)) (on (enabled v)) (chipOf (running v (rec .sector)) cleared)
-  unfolding eraseSector working
+  pub erases : Step rec (sends (erase j)) (chipOf (enabled v) blankPage c0) erasing
+  unfolding Effects·erase starting
   erases =
       let out = j .outs .erase in
-      sends-to rec (on (enabled v)) (erase-enabled .bench) (erase j) (changed out (eraseSector rec (enabled v) (x .cells) to))
-      (erase-taken rec (on (enabled v)) (erase-enabled .bench) refl refl out (j .high) (j .middle) (j .low) refl refl refl (f .rooms .erase)) refl
+      sends-to rec (chipOf (enabled v) blankPage c0) (erase-enabled .bench) (erase j) (turned blankPage out (Effects·erase rec (enabled v) ErasesSector (to .0) (erase j .bytes)))
+      (erase-taken rec (chipOf (enabled v) blankPage c0) (erase-enabled .bench) refl refl out (j .high) (j .middle) (j .low) refl refl refl (f .rooms .erase)) refl
 
   -- ---- up to the program
-  erased : Step rec (waitErase rec j) (chipOf (running v (rec .sector)) cleared) (chipOf (calm v) cleared)
-  erased = waits-to rec (chipOf (running v (rec .sector)) cleared) (erases .bench) (rec .sector) (calm v) (run-out v (rec .sector) (times rec (b .right) .sector))
+  abbrev cleared : List ℕ
+  cleared = sectorErased c0 (sectorOf to)
 
-  program-enabled : Step rec (sends (enableProgram j)) (chipOf (calm v) cleared) (chipOf (enabled v) cleared)
+  erased : Step rec (waitErase rec j) erasing (calmed cleared)
+  erased = waits-to rec erasing (erases .bench) (rec .sector) (calmed cleared) (waits-end rec erasing (rec .sector) (times rec (b .right) .sector) refl ∙ finish-erase (rec .model) v (rec .sector) c0 (to .0))
+
+  program-enabled : Step rec (sends (enableProgram j)) (calmed cleared) (chipOf (enabled v) blankPage cleared)
   program-enabled = enable rec v cleared (j .outs .enableProgram) (erased .bench) (f .rooms .enableProgram)
 
-  abbrev stored : List ℕ
-  stored = programmed cleared to (j .bytes)
+  -- the data bytes, folded into the page data
+  abbrev folded : List ℕ
+  folded = pageAfter (pageOffset to) (j .bytes) blankPage
 
-  pub programs : Step rec (sends (program j)) (chipOf (enabled v) cleared) (chipOf (running v (rec .page)) stored)
-  unfolding programPage working
+  abbrev pub programming : Chip
+  programming = chipOf (running v 0x02 (to .0) (rec .page)) folded cleared
+
+  pub programs : Step rec (sends (program j)) (chipOf (enabled v) blankPage cleared) programming
+  unfolding programPage starting
   programs =
       let out = j .outs .program in
-      sends-to rec (chipOf (enabled v) cleared) (program-enabled .bench) (program j) (changed out (programPage rec (enabled v) cleared to (program j .bytes)))
-      (program-taken rec (chipOf (enabled v) cleared) (program-enabled .bench) refl refl out (j .high) (j .middle) (j .low) (j .bytes) refl refl refl (f .some) (omega (arith, f .page)) (f .rooms .program)) refl
+      sends-to rec (chipOf (enabled v) blankPage cleared) (program-enabled .bench) (program j) (started out (programPage rec (enabled v) blankPage to (program j .bytes)))
+      (program-taken rec (chipOf (enabled v) blankPage cleared) (program-enabled .bench) refl refl out (j .high) (j .middle) (j .low) (j .bytes) refl refl refl (f .some) (omega (arith, f .page)) (f .rooms .program)) refl
 
   -- ---- the read
-  abbrev ended : Chip
-  ended = chipOf (calm v) stored
+  abbrev stored : List ℕ
+  stored = programmed cleared (pageAddress to) folded
 
-  all-programmed : Step rec (waitProgram rec j) (chipOf (running v (rec .page)) stored) ended
-  all-programmed = waits-to rec (chipOf (running v (rec .page)) stored) (programs .bench) (rec .page) (calm v) (run-out v (rec .page) (times rec (b .right) .page))
+  abbrev ended : Chip
+  ended = calmed stored
+
+  all-programmed : Step rec (waitProgram rec j) programming ended
+  all-programmed = waits-to rec programming (programs .bench) (rec .page) ended (waits-end rec programming (rec .page) (times rec (b .right) .page) refl ∙ finish-program (rec .model) v (rec .page) cleared (to .0) folded)
 
   abbrev shows : Effect
-  shows = shown stored (readFrom 4 (calm v) stored to (readBack j .bytes) (j .outs .readBack))
+  shows = shown blankPage (readFrom 4 (calm v) stored to (readBack j .bytes) (j .outs .readBack))
 
   read : frameOf rec ended (readBack j) ≡ shows
   read =
@@ -189,13 +266,13 @@ module _ (rec : Record) (j : Job) (x : Chip) (b : Bench rec x) (f : JobFits j) w
   reads = sends-to rec ended (all-programmed .bench) (readBack j) shows read refl
 
   -- ---- the list
-  pub to-unlock : Goes rec (toUnlock rec j) x (chipOf (running v (rec .«status_write»)) (x .cells))
+  pub to-unlock : Goes rec (toUnlock rec j) x unlocking
   to-unlock = goes rests (goes wakes (goes settles (goes arms (goes unlocks ends))))
 
-  pub to-erase : Goes rec (toErase rec j) x (chipOf (running v (rec .sector)) cleared)
+  pub to-erase : Goes rec (toErase rec j) x erasing
   to-erase = goes-on to-unlock (goes unlocked (goes erase-enabled (goes erases ends)))
 
-  pub to-program : Goes rec (toProgram rec j) x (chipOf (running v (rec .page)) stored)
+  pub to-program : Goes rec (toProgram rec j) x programming
   to-program = goes-on to-erase (goes erased (goes program-enabled (goes programs ends)))
 
   to-read : Goes rec (toRead rec j) x ended
@@ -210,14 +287,14 @@ module _ (rec : Record) (j : Job) (x : Chip) (b : Bench rec x) (f : JobFits j) w
   unfolding addressOf
   inside = units-inside (rec .model) to (mod-lt _ (omega (arith, row-rules (rec .model) .some)))
 
-  sector-in : base rec j + 4096 ≤ length (x .cells)
-  sector-in = omega (arith, inside .sector, b .whole)
+  sector-in : base rec j + 4096 ≤ length c0
+  sector-in = omega (arith, inside .sector, rests .bench .whole)
 
   page-in : pageStart to + 256 ≤ length cleared
-  page-in = omega (arith, inside .page, b .whole, length-sectorErased (x .cells) (sectorOf to) sector-in)
+  page-in = omega (arith, inside .page, rests .bench .whole, length-sectorErased c0 (sectorOf to) sector-in)
 
   long : length stored ≡ length cleared
-  long = length-programmed cleared to (j .bytes) page-in
+  long = length-programmed cleared (pageAddress to) folded (omega (arith, page-in))
 
   offset : pageOffset to ≡ j .low
   unfolding addressOf
@@ -231,11 +308,11 @@ module _ (rec : Record) (j : Job) (x : Chip) (b : Bench rec x) (f : JobFits j) w
   in-sector = (omega arith, omega arith)
 
   -- the page was fresh, so the data lies in it as it was sent
+  fresh : part cleared (pageStart to) 256 ≡ blankPage
+  fresh = part-sectorErased c0 (sectorOf to) sector-in (pageStart to) 256 (in-sector .0) (in-sector .1)
+
   laid : stored ≡ lay cleared (to .0) (j .bytes)
-  laid =
-      programmed-fresh cleared to (j .bytes) page-in
-      (part-sectorErased (x .cells) (sectorOf to) sector-in (pageStart to) 256 (in-sector .0) (in-sector .1))
-      (omega (arith, offset, f .page)) (f .bytes)
+  laid = page-laid cleared to (j .bytes) page-in fresh (omega (arith, offset, f .page)) (f .bytes)
 
   abbrev n : ℕ
   n = length (j .bytes)
@@ -252,8 +329,8 @@ module _ (rec : Record) (j : Job) (x : Chip) (b : Bench rec x) (f : JobFits j) w
   driven : ring stored (to .0) n ≡ j .bytes
   driven = ring-straight stored (to .0) n (omega (arith, room, long)) ∙ held
 
-  sector : ErasesOnly (base rec j) 4096 (x .cells) cleared
-  sector = sector-erase (x .cells) (sectorOf to) sector-in
+  sector : ErasesOnly (base rec j) 4096 c0 cleared
+  sector = sector-erase c0 (sectorOf to) sector-in
 
   -- outside the data the array is as after the erase
   before-data : (k : ℕ) → k < to .0 → getD stored k 0 ≡ getD cleared k 0
@@ -265,7 +342,7 @@ module _ (rec : Record) (j : Job) (x : Chip) (b : Bench rec x) (f : JobFits j) w
   length-reads : length (readBack j .bytes) - 4 ≡ n
   length-reads = omega (arith, f .more)
 
-  won : Won rec j x ended shows
+  won : Won rec j start ended shows
   unfolding readFrom drives
   won =
       record {
@@ -288,8 +365,9 @@ module _ (rec : Record) (j : Job) (x : Chip) (b : Bench rec x) (f : JobFits j) w
       record {
         answered = goes-answers [] whole-list;
         won =
-            subst (λ (y : Chip). Won rec j x y (effectAfter ours rec (toRead rec j) x (readBack j))) (sym (goes-run [] whole-list))
-            (subst (λ (e : Effect). Won rec j x ended e) (sym (ap (λ (y : Chip). frameOf rec y (readBack j)) (goes-run [] to-read) ∙ read)) won);
+            subst (λ (u : Chip). Won rec j u (run ours rec [] (recovery rec j) x) (effectAfter ours rec (toRead rec j) x (readBack j))) (sym (rests .leads))
+            (subst (λ (y : Chip). Won rec j start y (effectAfter ours rec (toRead rec j) x (readBack j))) (sym (goes-run [] whole-list))
+            (subst (λ (e : Effect). Won rec j start ended e) (sym (ap (λ (y : Chip). frameOf rec y (readBack j)) (goes-run [] to-read) ∙ read)) won));
       }
 
 pub wins-back : WinsBack ours

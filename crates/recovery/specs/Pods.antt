@@ -12,9 +12,9 @@ use Rattle.states.specs.declared.Record.{Record}
 use Rattle.answers.specs.declared.Answer.the-variants.{Done}
 use Rattle.effects.specs.declared.Reply.{Reply}
 use Rattle.effects.specs.Effects.{Effect, Gives, stateOnly}
-use Rattle.chip.specs.Frames.{Chip, Sent, frameOf}
-use Rattle.chip.specs.Units.{drivenBytes}
-use Rattle.calls.specs.Calls.{Call, sends, waits, cycles, Pod}
+use Rattle.chip.specs.Frames.{Sent}
+use Rattle.states.specs.States.{Chip}
+use Rattle.calls.specs.Calls.{Call, sends, waits, cycles, cuts, Pod}
 use Rattle.recovery.specs.Recovery.{WinsBack}
 
 -- a frame was sent before
@@ -23,6 +23,7 @@ sentBefore [] = false
 sentBefore (sends f ∷ cs) = true
 sentBefore (waits us ∷ cs) = sentBefore cs
 sentBefore (cycles ∷ cs) = sentBefore cs
+sentBefore (cuts pattern ∷ cs) = sentBefore cs
 
 module _ (p : Pod) where
   -- it refuses every frame
@@ -35,19 +36,24 @@ module _ (p : Pod) where
       (seen : List Call) (rec : Record) (x : Chip) (f : Sent) (k : ℕ)
       → (let e : Effect = p .frame seen rec x f in k < e .reply .count → getD (e .out) (e .reply .from + k) 0 ≡ b)
 
-  -- it changes no cell
+  -- no wait and no cut of it changes a cell; a frame cannot
   abbrev pub KeepsCells : Type 0
-  KeepsCells = (seen : List Call) (rec : Record) (x : Chip) (f : Sent) → p .frame seen rec x f .cells ≡ x .cells
+  KeepsCells =
+      ((seen : List Call) (rec : Record) (x : Chip) (us : ℕ) → p .wait seen rec x us .chip .cells ≡ x .cells)
+      × ((seen : List Call) (rec : Record) (x : Chip) (pattern : List ℕ) → p .cut seen rec x pattern .chip .cells ≡ x .cells)
 
   -- whatever it does with the first frame, it answers 0 to the others and does nothing
   abbrev pub OnlyOnce : Type 0
-  OnlyOnce = (seen : List Call) (rec : Record) (x : Chip) (f : Sent) → sentBefore seen ≡ true → p .frame seen rec x f ≡ stateOnly Done (x .state) (x .cells) (f .out)
+  OnlyOnce = (seen : List Call) (rec : Record) (x : Chip) (f : Sent) → sentBefore seen ≡ true → p .frame seen rec x f ≡ stateOnly Done (x .state) (x .page) (f .out)
 
   -- it can erase cells and no more; what it was sent it may remember, and drive it back when it is asked to read
+  abbrev pub AsItWas : List ℕ → List ℕ → Type 0
+  AsItWas xs ys = (k : ℕ) → (getD ys k 0 ≡ getD xs k 0) ⊎ (getD ys k 0 ≡ FF)
+
   abbrev pub OnlyReplays : Type 0
   OnlyReplays =
-      (seen : List Call) (rec : Record) (x : Chip) (f : Sent) (k : ℕ)
-      → (let ys : List ℕ = p .frame seen rec x f .cells in (getD ys k 0 ≡ getD (x .cells) k 0) ⊎ (getD ys k 0 ≡ FF))
+      ((seen : List Call) (rec : Record) (x : Chip) (us : ℕ) → AsItWas (x .cells) (p .wait seen rec x us .chip .cells))
+      × ((seen : List Call) (rec : Record) (x : Chip) (pattern : List ℕ) → AsItWas (x .cells) (p .cut seen rec x pattern .chip .cells))
 
 -- the four of 01 fall, and the one that replays
 pub record Worthless : Type 0 where

@@ -1,4 +1,5 @@
--- The calls that win a chip back, whatever firmware did to it: 01, "The twelve calls", and the wait after AB, which makes them thirteen. Assumes nothing.
+-- The calls that win a chip back, whatever firmware did to it: 01, "The twelve calls", and the wait after AB, which makes them thirteen. The first wait may
+-- end an operation that runs, so the array is compared with what that wait left (Req 05). Assumes nothing.
 use mathlib.Core.Path.{_≡_}
 use mathlib.Core.Bool.{true}
 use mathlib.Core.List.{List, [], _∷_, _++_}
@@ -9,12 +10,12 @@ use Rattle.units.specs.Kinds.{sectorOf, sectorStart}
 use Rattle.models.specs.Models.{modelOf, addressOf}
 use Rattle.cells.specs.Cell.{FF}
 use Rattle.parts.specs.Parts.{Bytes, part}
-use Rattle.states.specs.States.{recordOk, stateOk, longestOf}
+use Rattle.states.specs.States.{longestOf, Chip}
 use Rattle.states.specs.declared.Record.{Record}
 use Rattle.answers.specs.declared.Answer.the-variants.{Done}
 use Rattle.effects.specs.Effects.{Effect}
-use Rattle.chip.specs.Frames.{Chip, Sent, sentOf}
-use Rattle.calls.specs.Calls.{Call, sends, waits, Pod, run, answers, effectAfter, frame, Roomy, Bench}
+use Rattle.chip.specs.Frames.{Sent, sentOf}
+use Rattle.calls.specs.Calls.{Call, sends, waits, Pod, after, run, answers, effectAfter, frame, Roomy, Bench}
 
 -- the output lent to each frame of the list
 pub record Outs : Type 0 where
@@ -125,7 +126,7 @@ pub record JobFits (j : Job) : Type 0 where
   pub rooms : Rooms j
 
 -- ---- what it gives
--- what has come of the chip x, which is now y, and what the last frame did
+-- what has come of the chip x, which the first wait left and which is now y, and what the last frame did
 pub record Won (rec : Record) (j : Job) (x y : Chip) (last : Effect) : Type 0 where
   -- the last frame drives exactly the n data bytes, from position 4
   pub from : last .reply .from ≡ 4
@@ -143,7 +144,7 @@ pub record Won (rec : Record) (j : Job) (x y : Chip) (last : Effect) : Type 0 wh
 -- every call is answered 0, and the chip is won back
 pub record Recovers (p : Pod) (rec : Record) (j : Job) (x : Chip) : Type 0 where
   pub answered : answers p rec [] (recovery rec j) x ≡ replicate (length (recovery rec j)) Done
-  pub won : Won rec j x (run p rec [] (recovery rec j) x) (effectAfter p rec (toRead rec j) x (readBack j))
+  pub won : Won rec j (after p rec [] (waitLongest rec j) x) (run p rec [] (recovery rec j) x) (effectAfter p rec (toRead rec j) x (readBack j))
 
 -- demand 3, of any pod
 abbrev pub WinsBack : Pod → Type 0

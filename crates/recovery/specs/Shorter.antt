@@ -6,13 +6,13 @@ use mathlib.Core.Logic.{_⊎_}
 use Prim.Native.Nat.{ℕ, _-_}
 use lib.ListN.{length, replicate}
 use Rattle.models.specs.Models.{modelOf}
-use Rattle.states.specs.States.{recordOk, stateOk, longestOf, powerOn}
+use Rattle.states.specs.States.{recordOk, longestOf, Chip}
 use Rattle.states.specs.declared.Record.{Record}
-use Rattle.states.specs.declared.State.{State}
 use Rattle.answers.specs.declared.Answer.{Answer}
 use Rattle.answers.specs.declared.Answer.the-variants.{Done, Settling, Busy}
-use Rattle.chip.specs.Frames.{Chip, Sent, chipOf}
+use Rattle.chip.specs.Frames.{Sent}
 use Rattle.calls.specs.Calls.{Call, sends, waits, ours, run, answers, Bench}
+use Rattle.recovery.specs.Histories.{factory}
 use Rattle.recovery.specs.Recovery.{Job, JobFits, waitLongest, enableUnlock, toUnlock, toErase, toProgram, wakeUp, enableErase, enableProgram, readBack}
 
 -- the calls are answered 0, and the frame after them so
@@ -49,14 +49,14 @@ abbrev pub TooShort : Record → Job → Chip → Type 0
 TooShort rec j x =
     Then Busy rec (waits (longestOf rec - 1) ∷ []) (wakeUp j) x ⊎ Then Settling rec (waits (longestOf rec - 1) ∷ []) (wakeUp j) x
 
--- there is a valid state for which it is
+-- there is a chip with a valid state for which it is
 abbrev pub ShorterFirst : Type 0
 ShorterFirst =
     (rec : Record) (cells : List ℕ) (j : Job) → recordOk rec ≡ true → length cells ≡ modelOf (rec .model) .length → JobFits j
-    → (s : State) × (stateOk rec s ≡ true) × TooShort rec j (chipOf s cells)
+    → (x : Chip) × Bench rec x × TooShort rec j x
 
 -- and calls from power-on on one array that lead to one, for every record
 abbrev pub ReachedFirst : Type 0
 ReachedFirst =
     (rec : Record) (cells : List ℕ) (j : Job) → recordOk rec ≡ true → length cells ≡ modelOf (rec .model) .length → JobFits j
-    → (calls : List Call) × TooShort rec j (run ours rec [] calls (chipOf powerOn cells))
+    → (calls : List Call) × TooShort rec j (run ours rec [] calls (factory cells))

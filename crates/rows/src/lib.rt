@@ -55,7 +55,21 @@ fn say_note(fold: bool) {
     }
 }
 
-// The status byte, the deep power-down flag, the busy time and the time still to settle.
+// The command byte and the address of the operation that runs.
+fn say_operation(command: u8, address: u32) {
+    let byte = [command];
+    say_hex(&byte);
+    say(b"\t");
+    let place = [
+        (address / 65536 % 256) as u8,
+        (address / 256 % 256) as u8,
+        (address % 256) as u8,
+    ];
+    say_hex(&place);
+    say(b"\t");
+}
+
+// The status byte, the deep power-down flag, the busy time, the time still to settle, and the operation.
 fn say_state(st: State) {
     if st.bp < 32 {
         let byte = [states::status(st)];
@@ -65,6 +79,7 @@ fn say_state(st: State) {
     say_number(st.asleep as u64);
     say_number(st.busy as u64);
     say_number(st.settle as u64);
+    say_operation(st.command, st.address);
 }
 
 // Eight cells from an address on, after the last one those from 0 on; none of an empty array.

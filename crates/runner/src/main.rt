@@ -105,6 +105,7 @@ fn feed_block(
     held: &mut [u8; 641],
     bytes: &[u8],
     n: usize,
+    page: &mut [u8; 256],
     array: &mut [u8; 65536],
     log: &mut [u8; 65536],
 ) -> Turn
@@ -115,7 +116,7 @@ fn feed_block(
     let mut run = at_block(first);
     let mut at = 0;
     while at < block.len() {
-        let fed = feed::feed(run, rec, held, block, array, log);
+        let fed = feed::feed(run, rec, held, block, page, array, log);
         at = fed.at;
         run = emptied(fed);
         if !flush(log, fed.filled) {
@@ -131,6 +132,7 @@ fn read_block(
     rec: Record,
     held: &mut [u8; 641],
     block: &mut [u8; 65536],
+    page: &mut [u8; 256],
     array: &mut [u8; 65536],
     log: &mut [u8; 65536],
 ) -> Turn
@@ -144,10 +146,10 @@ fn read_block(
     }
     let n = io::count(got, block);
     if n == 0 {
-        finish(run, rec, held, array, log);
+        finish(run, rec, held, page, array, log);
         return Turn { run, on: false };
     }
-    feed_block(run, rec, held, block, n, array, log)
+    feed_block(run, rec, held, block, n, page, array, log)
 }
 
 // The input has ended: a last line without its newline.
@@ -155,12 +157,13 @@ fn finish(
     run: Run,
     rec: Record,
     held: &mut [u8; 641],
+    page: &mut [u8; 256],
     array: &mut [u8; 65536],
     log: &mut [u8; 65536],
 )
     requires { ⌜ run .used ≤ 641 ⌝ }
 {
-    let filled = feed::finish(at_block(run), rec, held, array, log);
+    let filled = feed::finish(at_block(run), rec, held, page, array, log);
     flush(log, filled);
 }
 
@@ -172,6 +175,7 @@ fn play_input() {
         return;
     }
     let rec = states::bench_kh25l512();
+    let mut page = [0xFFu8; 256];
     let mut array = [0xFFu8; 65536];
     let mut held = [0u8; 641];
     let mut block = io::large_buffer();
@@ -184,7 +188,15 @@ fn play_input() {
     };
     let mut blocks = u64::MAX;
     while blocks > 0 {
-        let next = read_block(run, rec, &mut held, &mut block, &mut array, &mut log);
+        let next = read_block(
+            run,
+            rec,
+            &mut held,
+            &mut block,
+            &mut page,
+            &mut array,
+            &mut log,
+        );
         run = next.run;
         if !next.on {
             return;

@@ -11,15 +11,15 @@ use Rattle.models.specs.Models.{modelOf}
 use Rattle.cells.specs.Cell.{erased}
 use Rattle.parts.specs.Parts.{part}
 use Rattle.answers.specs.Answers.{numberOf}
-use Rattle.states.specs.States.{statusOf, powerOn, benchKH25L512, benchKH25L2006E, benchKH25L12845G}
+use Rattle.states.specs.States.{statusOf, noCommand, noAddress, blankPage, Chip, chipOf, powerOn, benchKH25L512, benchKH25L2006E, benchKH25L12845G}
 use Rattle.states.specs.declared.Record.{Record}
 use Rattle.states.specs.declared.State.{State}
 use Rattle.effects.specs.Effects.{Effect}
-use Rattle.chip.specs.Frames.{Sent, chipOf, sentOf, frameOf}
-use Rattle.time.specs.Time.{later, cycled}
+use Rattle.chip.specs.Frames.{Sent, sentOf, frameOf}
+use Rattle.time.specs.Time.{waited, cycled}
 
 -- what comes out: the answer, the first driven position, the driven bytes, the status byte, the register and the time still to settle after, all three after
--- a wait, the register after a power cycle, and the first cells of the array
+-- a wait, the register after a power cycle, and the first cells of the array after the wait
 pub record Outcome : Type 0 where
   pub answer : ℕ
   pub from : ℕ
@@ -47,9 +47,10 @@ pub record Case : Type 0 where
 abbrev pub bench : ℕ → Record
 bench m = cond (eqb m 3) benchKH25L12845G (cond (eqb m 2) benchKH25L2006E benchKH25L512)
 
-abbrev pub comesOut : Case → List ℕ → Outcome
-comesOut c array =
-    let e : Effect = frameOf (bench (c .model)) (chipOf (c .state) array) (c .sent) in
+-- what is seen of a frame, and of the wait after it
+abbrev pub seen : Case → List ℕ → Effect → Outcome
+seen c array e =
+    let y : Chip = waited (c .model) (chipOf (e .reply .state) (e .page) array) (c .wait) in
     record {
       answer = numberOf (e .reply .answer);
       from = e .reply .from;
@@ -57,12 +58,15 @@ comesOut c array =
       status = statusOf (e .reply .state);
       config = e .reply .state .config;
       settle = e .reply .state .settle;
-      then = statusOf (later (e .reply .state) (c .wait));
-      then-config = later (e .reply .state) (c .wait) .config;
-      then-settle = later (e .reply .state) (c .wait) .settle;
-      last-config = cycled (later (e .reply .state) (c .wait)) .config;
-      cells = take (c .look) (e .cells);
+      then = statusOf (y .state);
+      then-config = y .state .config;
+      then-settle = y .state .settle;
+      last-config = cycled (y .state) .config;
+      cells = take (c .look) (y .cells);
     }
+
+abbrev pub comesOut : Case → List ℕ → Outcome
+comesOut c array = seen c array (frameOf (bench (c .model)) (chipOf (c .state) blankPage array) (c .sent))
 
 -- every case comes out as it should, whatever the rest of the array is
 abbrev pub AllRight : List Case → Type 0
@@ -74,16 +78,16 @@ AllRight (c ∷ cs) =
 -- states of the sheet: SRWD, BP and WEL of an idle chip that is awake; one with TB 1; one in deep power-down, and one awake, that still have so long to
 -- settle
 abbrev pub idle : Bool → ℕ → Bool → State
-idle srwd bp wel = record { srwd = srwd; bp = bp; config = 0; wel = wel; asleep = false; busy = 0; settle = 0 }
+idle srwd bp wel = record { srwd = srwd; bp = bp; config = 0; wel = wel; asleep = false; busy = 0; settle = 0; command = noCommand; address = noAddress }
 
 abbrev pub bottomUp : ℕ → Bool → State
-bottomUp bp wel = record { srwd = false; bp = bp; config = 0x08; wel = wel; asleep = false; busy = 0; settle = 0 }
+bottomUp bp wel = record { srwd = false; bp = bp; config = 0x08; wel = wel; asleep = false; busy = 0; settle = 0; command = noCommand; address = noAddress }
 
 abbrev pub sleeping : ℕ → State
-sleeping left = record { srwd = false; bp = 0; config = 0; wel = false; asleep = true; busy = 0; settle = left }
+sleeping left = record { srwd = false; bp = 0; config = 0; wel = false; asleep = true; busy = 0; settle = left; command = noCommand; address = noAddress }
 
 abbrev pub waking : ℕ → State
-waking left = record { srwd = false; bp = 0; config = 0; wel = false; asleep = false; busy = 0; settle = left }
+waking left = record { srwd = false; bp = 0; config = 0; wel = false; asleep = false; busy = 0; settle = left; command = noCommand; address = noAddress }
 
 -- an output of 300 bytes AA
 abbrev pub blank : List ℕ
@@ -127,7 +131,7 @@ smallCases =
     ∷ simple 1 powerOn (sentOf [] 7 true blank) 10 0 [] 0x00
     -- 02 with WEL 0 and BP 1: 15
     ∷ simple 1 (idle false 1 false) (frame (0x02 ∷ 0 ∷ 0 ∷ 0 ∷ 0x11 ∷ []) blank) 15 0 [] 0x04
-    -- fresh page, 257 data bytes at 0, the first 11, the others 22: all 256 hold 22
+    -- fresh page, 257 data bytes at 0, the first 11, the others 22: after the wait all 256 hold 22
     ∷ record {
       model = 1;
       state = idle false 0 true;
@@ -137,7 +141,7 @@ smallCases =
       look = 256;
       wants = λ (array : List ℕ). record { answer = 0; from = 0; drives = []; status = 0x03; config = 0; settle = 0; then = 0x00; then-config = 0; then-settle = 0; last-config = 0; cells = replicate 256 0x22 };
     }
-    -- cell F0, data 3C: 30
+    -- cell F0, data 3C: after the wait 30
     ∷ record {
       model = 1;
       state = idle false 0 true;
@@ -154,8 +158,8 @@ smallCases =
     ∷ simple 2 (idle false 1 true) (frame (0x20 ∷ 0x03 ∷ 0x00 ∷ 0x00 ∷ []) blank) 17 0 [] 0x06
     -- SRWD 1, WEL 1, 01 00: WP# low 16, high 0
     ∷ simple 1 (idle true 0 true) (sentOf (0x01 ∷ 0x00 ∷ []) 0 false blank) 16 0 [] 0x82
-    ∷ simple 1 (idle true 0 true) (frame (0x01 ∷ 0x00 ∷ []) blank) 0 0 [] 0x03
-    -- 01 FF accepted: status 8F, after the wait 8C
+    ∷ simple 1 (idle true 0 true) (frame (0x01 ∷ 0x00 ∷ []) blank) 0 0 [] 0x83
+    -- 01 FF accepted: status 03, after the wait 8C
     ∷ record {
       model = 1;
       state = idle false 0 true;
@@ -163,7 +167,7 @@ smallCases =
       sent = frame (0x01 ∷ 0xFF ∷ []) blank;
       wait = 15000;
       look = 0;
-      wants = λ (array : List ℕ). record { answer = 0; from = 0; drives = []; status = 0x8F; config = 0; settle = 0; then = 0x8C; then-config = 0; then-settle = 0; last-config = 0; cells = [] };
+      wants = λ (array : List ℕ). record { answer = 0; from = 0; drives = []; status = 0x03; config = 0; settle = 0; then = 0x8C; then-config = 0; then-settle = 0; last-config = 0; cells = [] };
     }
     -- 03 00FFFF and two bytes: the last cell, then the first
     ∷ record {
@@ -208,7 +212,7 @@ largeCases =
     -- 15 drives the register, and on model 1 it is 13
     ∷ simple 3 (bottomUp 0 false) (frame (0x15 ∷ 0x00 ∷ 0x00 ∷ []) blank) 0 1 (0x08 ∷ 0x08 ∷ []) 0x00
     ∷ simple 1 powerOn (frame (0x15 ∷ 0x00 ∷ []) blank) 13 0 [] 0x00
-    -- 01 FF FF: status BF and register DB, after the wait BC and DB; after a power cycle the register is 08
+    -- 01 FF FF: status 03 and register 00, after the wait BC and DB; after a power cycle the register is 08
     ∷ record {
       model = 3;
       state = idle false 0 true;
@@ -216,7 +220,7 @@ largeCases =
       sent = frame (0x01 ∷ 0xFF ∷ 0xFF ∷ []) blank;
       wait = 40000;
       look = 0;
-      wants = λ (array : List ℕ). record { answer = 0; from = 0; drives = []; status = 0xBF; config = 0xDB; settle = 0; then = 0xBC; then-config = 0xDB; then-settle = 0; last-config = 0x08; cells = [] };
+      wants = λ (array : List ℕ). record { answer = 0; from = 0; drives = []; status = 0x03; config = 0; settle = 0; then = 0xBC; then-config = 0xDB; then-settle = 0; last-config = 0x08; cells = [] };
     }
     ∷ []
 

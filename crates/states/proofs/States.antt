@@ -7,51 +7,109 @@ use Prim.Native.Nat.{ℕ, zero, suc, _*_, _/_, _%_, max, _≤_, _<_}
 use native.Mathlib.Nat.{le-refl, le-trans, le-of-lt, le-max-left, le-max-right, max-le, max-eq-left, max-eq-right, not-suc-le-zero, le-of-suc-le-suc}
 use native.Mathlib.Omega.{arith}
 use lib.Dec.{eqb, leb, lit≤}
-use lib.ListN.{length, getD}
-use borrow.Author.Tests.{eqb-true, leb-true, leb-false, not-true, eq-eqb, le-leb}
-use Rattle.models.specs.Models.{isModel, modelOf}
+use lib.ListN.{length, getD, replicate}
+use Rattle.parts.specs.Parts.{allAre}
+use Rattle.commands.specs.Commands.{startedBy}
+use Rattle.commands.specs.declared.Operation.{Operation}
+use Rattle.commands.specs.declared.Operation.the-variants.{Idle, WritesStatus, Programs, ErasesSector, ErasesHalf, ErasesBlock, ErasesChip}
+use borrow.Author.Tests.{eqb-true, eqb-false, leb-true, leb-false, not-true, eq-eqb, ne-eqb, le-leb}
+use Rattle.models.specs.Models.{isModel, partOf, modelOf}
 use Rattle.units.proofs.Bools.{both, either}
-use Rattle.states.specs.States.{commonTimes, busyTimes, settleTimes, timesOf, inRange, all, halfOk, recordOk, largest, longestBusy, longestSettle, longestOf, configOk, stateOk}
+use Rattle.states.specs.States.{commonTimes, busyTimes, settleTimes, timesOf, inRange, all, halfOk, recordOk, largest, longestBusy, longestSettle, longestOf, configOk, noCommand, noAddress, operationTime, placeOk, idleOk, busyOk, stateOk, usedPage, pageOk, blankPage}
 use Rattle.states.specs.declared.Record.{Record}
 use Rattle.states.specs.declared.State.{State}
 
--- a valid state, in parts
+-- a list that is one byte over and over
+all-same : (xs : List ℕ) (n : ℕ) → length xs ≡ n → allAre 0xFF xs ≡ true → xs ≡ replicate n 0xFF
+all-same [] zero l e = refl
+all-same [] (suc n) l e = absurd (omega arith)
+all-same (x ∷ xs) zero l e = absurd (omega arith)
+all-same (x ∷ xs) (suc n) l e =
+    let k = both (eqb x 0xFF) (allAre 0xFF xs) e in
+    rw (eqb-true x 0xFF (k .0), all-same xs n (omega arith) (k .1))
+
+-- a valid state, in parts: what an idle chip and what a busy one is like
+pub record Resting (s : State) : Type 0 where
+  pub idle : s .busy ≡ 0
+  pub command : s .command ≡ noCommand
+  pub address : s .address ≡ noAddress
+
+pub record Running (rec : Record) (s : State) : Type 0 where
+  pub busy : 0 < s .busy
+  pub time : s .busy ≤ operationTime rec (startedBy (rec .model) (s .command))
+  pub place : placeOk (rec .model) (startedBy (rec .model) (s .command)) (s .address) ≡ true
+  pub latch : s .wel ≡ true
+  pub awake : s .asleep ≡ false
+  pub settled : s .settle ≡ 0
+
 pub record Sound (rec : Record) (s : State) : Type 0 where
   pub level : s .bp ≤ modelOf (rec .model) .«highest_bp»
   pub register : configOk (modelOf (rec .model) .register) (s .config) ≡ true
   pub settle : s .settle ≤ longestSettle rec
-  pub time : s .busy ≤ longestBusy rec
-  pub mood : (s .busy ≡ 0) ⊎ (((s .wel ≡ true) × (s .asleep ≡ false)) × (s .settle ≡ 0))
+  pub mood : Resting s ⊎ Running rec s
+
+module _ (rec : Record) (s : State) where
+  resting : s .busy ≡ 0 → idleOk rec s ≡ true → (s .settle ≤ longestSettle rec) × Resting s
+  unfolding idleOk
+  resting z e =
+      let k = both (leb (s .settle) (longestSettle rec)) _ e in
+      let l = both (eqb (s .command) noCommand) (eqb (s .address) noAddress) (k .1) in
+      (leb-true (s .settle) (longestSettle rec) (k .0), record { idle = z; command = eqb-true (s .command) noCommand (l .0); address = eqb-true (s .address) noAddress (l .1) })
+
+  running : (s .busy ≡ 0 → ⊥) → busyOk rec s ≡ true → Running rec s
+  unfolding busyOk
+  running z e =
+      let op = startedBy (rec .model) (s .command) in
+      let k = both (leb (s .busy) (operationTime rec op) && placeOk (rec .model) op (s .address)) _ e in
+      let l = both (leb (s .busy) (operationTime rec op)) (placeOk (rec .model) op (s .address)) (k .0) in
+      let m = both (s .wel && not (s .asleep)) (eqb (s .settle) 0) (k .1) in
+      let a = both (s .wel) (not (s .asleep)) (m .0) in
+      record { busy = omega arith; time = leb-true (s .busy) (operationTime rec op) (l .0); place = l .1; latch = a .0; awake = not-true (s .asleep) (a .1); settled = eqb-true (s .settle) 0 (m .1) }
 
 pub sound : (rec : Record) (s : State) → stateOk rec s ≡ true → Sound rec s
 unfolding stateOk
-sound rec s e =
-    let top = modelOf (rec .model) .«highest_bp» in
-    let has = modelOf (rec .model) .register in
-    let k = both (((leb (s .bp) top && configOk has (s .config)) && leb (s .settle) (longestSettle rec)) && leb (s .busy) (longestBusy rec)) _ e in
-    let b = both ((leb (s .bp) top && configOk has (s .config)) && leb (s .settle) (longestSettle rec)) _ (k .0) in
-    let l = both (leb (s .bp) top && configOk has (s .config)) _ (b .0) in
-    let m = both (leb (s .bp) top) (configOk has (s .config)) (l .0) in
-    record {
-      level = leb-true (s .bp) top (m .0);
-      register = m .1;
-      settle = leb-true (s .settle) (longestSettle rec) (l .1);
-      time = leb-true (s .busy) (longestBusy rec) (b .1);
-      mood =
-          ⊎-elim (λ p. inl (eqb-true (s .busy) 0 p))
-          (λ p.
-          let q = both (s .wel && not (s .asleep)) (eqb (s .settle) 0) p in
-          let a = both (s .wel) (not (s .asleep)) (q .0) in
-          inr ((a .0, not-true (s .asleep) (a .1)), eqb-true (s .settle) 0 (q .1)))
-          (either (eqb (s .busy) 0) ((s .wel && not (s .asleep)) && eqb (s .settle) 0) (k .1));
-    }
+sound rec s e = go (eqb (s .busy) 0) refl (k .1)
+  where
+    k : ((leb (s .bp) (modelOf (rec .model) .«highest_bp») && configOk (modelOf (rec .model) .register) (s .config)) ≡ true) × (cond (eqb (s .busy) 0) (idleOk rec s) (busyOk rec s) ≡ true)
+    k = both (leb (s .bp) (modelOf (rec .model) .«highest_bp») && configOk (modelOf (rec .model) .register) (s .config)) (cond (eqb (s .busy) 0) (idleOk rec s) (busyOk rec s)) e
+
+    m : (leb (s .bp) (modelOf (rec .model) .«highest_bp») ≡ true) × (configOk (modelOf (rec .model) .register) (s .config) ≡ true)
+    m = both (leb (s .bp) (modelOf (rec .model) .«highest_bp»)) (configOk (modelOf (rec .model) .register) (s .config)) (k .0)
+
+    go : (b : Bool) → eqb (s .busy) 0 ≡ b → cond b (idleOk rec s) (busyOk rec s) ≡ true → Sound rec s
+    go true z t =
+        let r = resting rec s (eqb-true (s .busy) 0 z) t in
+        record { level = leb-true (s .bp) (modelOf (rec .model) .«highest_bp») (m .0); register = m .1; settle = r .0; mood = inl (r .1) }
+    go false z t =
+        let r = running rec s (eqb-false (s .busy) 0 z) t in
+        record { level = leb-true (s .bp) (modelOf (rec .model) .«highest_bp») (m .0); register = m .1; settle = omega (arith, r .settled); mood = inr r }
 
 -- and back
 pub valid : (rec : Record) (s : State) → Sound rec s → stateOk rec s ≡ true
-unfolding stateOk
+unfolding stateOk idleOk busyOk
 valid rec s p =
-    rw (le-leb (s .bp) (modelOf (rec .model) .«highest_bp») (p .level), p .register, le-leb (s .settle) (longestSettle rec) (p .settle), le-leb (s .busy) (longestBusy rec) (p .time))
-    (⊎-elim (λ e. rw (eq-eqb (s .busy) 0 e)) (λ e. rw (e .0 .0, e .0 .1, eq-eqb (s .settle) 0 (e .1)) (or-true (eqb (s .busy) 0))) (p .mood))
+    rw (le-leb (s .bp) (modelOf (rec .model) .«highest_bp») (p .level), p .register)
+    (⊎-elim
+    (λ q. rw (eq-eqb (s .busy) 0 (q .idle), le-leb (s .settle) (longestSettle rec) (p .settle), eq-eqb (s .command) noCommand (q .command), eq-eqb (s .address) noAddress (q .address)))
+    (λ q. rw (ne-eqb (s .busy) 0 (λ z. omega (arith, q .busy)), le-leb (s .busy) (operationTime rec (startedBy (rec .model) (s .command))) (q .time), q .place, q .latch, q .awake, eq-eqb (s .settle) 0 (q .settled)))
+    (p .mood))
+
+-- ---- the page data
+module _ (n : ℕ) (s : State) (page : List ℕ) where
+  pub page-length : pageOk n s page ≡ true → length page ≡ 256
+  unfolding pageOk
+  page-length e = eqb-true (length page) 256 (both (eqb (length page) 256) _ e .0)
+
+  -- an idle chip's are blank
+  pub blank-page : pageOk n s page ≡ true → s .busy ≡ 0 → page ≡ blankPage
+  unfolding pageOk usedPage
+  blank-page e z =
+      let k = both (eqb (length page) 256) _ e in
+      all-same page 256 (eqb-true (length page) 256 (k .0)) (rw (eq-eqb (s .busy) 0 z) at (k .1))
+
+pub blank-ok : (n : ℕ) (s : State) → s .busy ≡ 0 → pageOk n s blankPage ≡ true
+unfolding pageOk usedPage
+blank-ok n s z = rw (eq-eqb (s .busy) 0 z)
 
 -- ---- the register
 pub config-0-ok : (r : Bool) → configOk r 0 ≡ true
@@ -118,6 +176,15 @@ module _ (r : Record) where
 
   pub half-le : r .half ≤ longestBusy r
   half-le = time-le r 5
+
+  pub operation-le : (op : Operation) → operationTime r op ≤ longestBusy r
+  operation-le Idle = omega arith
+  operation-le WritesStatus = status-write-le
+  operation-le Programs = page-le
+  operation-le ErasesSector = sector-le
+  operation-le ErasesHalf = half-le
+  operation-le ErasesBlock = block-le
+  operation-le ErasesChip = chip-le
 
   pub sleep-le : r .sleep ≤ longestSettle r
   sleep-le = settle-le r 0
@@ -201,6 +268,13 @@ has-half r e h = go (modelOf (r .model) .«half_erase») refl (good r e .last)
     go true p t = p
     go false p t = let z = eqb-true (r .half) 0 t in absurd (omega arith)
 
+-- and on model 3 it is one of them
+pub half-some : (r : Record) → recordOk r ≡ true → r .model ≡ 3 → 0 < r .half
+unfolding halfOk partOf
+half-some r e m =
+    let t : modelOf (r .model) .«half_erase» ≡ true = rw m in
+    ranged (r .half) (rw t at (good r e .last)) .some
+
 half-short : (r : Record) → recordOk r ≡ true → r .half ≤ 1000000000
 unfolding halfOk
 half-short r e = go (modelOf (r .model) .«half_erase») (good r e .last)
@@ -231,6 +305,10 @@ times r e =
       wake = all-ranged (settleTimes r) (good r e .three) 1 (lit≤ tt) .some;
       sign = all-ranged (settleTimes r) (good r e .three) 2 (lit≤ tt) .some;
     }
+
+-- a busy time of a valid state is at most the longest
+pub busy-le : (r : Record) (s : State) → Sound r s → s .busy ≤ longestBusy r
+busy-le r s p = ⊎-elim (λ q. omega (arith, q .idle)) (λ q. le-trans (q .time) (operation-le r (startedBy (r .model) (s .command)))) (p .mood)
 
 -- and so is the longest
 Short : List ℕ → Type 0

@@ -1,8 +1,13 @@
--- Records, states and the status byte: 01, "Record, state, frame". Assumes nothing.
+-- Records, states, page data and the status byte: 01, "Record, state, frame". Assumes nothing.
 use mathlib.Core.Bool.{Bool, true, false, not, _&&_, _||_, cond}
 use mathlib.Core.List.{List, [], _∷_, _++_}
 use Prim.Native.Nat.{ℕ, _+_, _*_, _/_, _%_, max}
-use lib.Dec.{eqb, leb}
+use lib.Dec.{eqb, leb, ltb}
+use lib.ListN.{length, drop, replicate}
+use Rattle.parts.specs.Parts.{allAre}
+use Rattle.commands.specs.Commands.{startedBy}
+use Rattle.commands.specs.declared.Operation.{Operation}
+use Rattle.commands.specs.declared.Operation.the-variants.{Idle, WritesStatus, Programs, ErasesSector, ErasesHalf, ErasesBlock, ErasesChip}
 use Rattle.models.specs.Models.{isModel, modelOf}
 use Rattle.states.specs.declared.Record.{Record}
 use Rattle.states.specs.declared.State.{State}
@@ -59,13 +64,80 @@ configOk register config = cond register (eqb (config / 32 % 2) 0 && eqb (config
 unfoldable pub tbOf : State → Bool
 tbOf s = eqb (s .config / 8 % 2) 1
 
--- BP and the register are in their range, the busy time is at most the longest of those, and what is left to settle at most the longest of these; a busy chip has WEL set, is not in
--- deep power-down, and does not settle
+-- ---- the operation that runs
+-- an idle chip's command byte and address
+abbrev pub noCommand : ℕ
+noCommand = 0xFF
+
+abbrev pub noAddress : ℕ
+noAddress = 0xFFFFFF
+
+-- how long each runs
+abbrev pub operationTime : Record → Operation → ℕ
+operationTime r Idle = 0
+operationTime r WritesStatus = r .«status_write»
+operationTime r Programs = r .page
+operationTime r ErasesSector = r .sector
+operationTime r ErasesHalf = r .half
+operationTime r ErasesBlock = r .block
+operationTime r ErasesChip = r .chip
+
+-- what stands in the address's place: an address below the array's length, or the number of a status write's data bytes: one, and with the register one or
+-- two; or nothing
+abbrev pub placeOk : ℕ → Operation → ℕ → Bool
+placeOk n Idle place = eqb place noAddress
+placeOk n WritesStatus place = eqb place 1 || (modelOf n .register && eqb place 2)
+placeOk n Programs place = ltb place (modelOf n .length)
+placeOk n ErasesSector place = ltb place (modelOf n .length)
+placeOk n ErasesHalf place = ltb place (modelOf n .length)
+placeOk n ErasesBlock place = ltb place (modelOf n .length)
+placeOk n ErasesChip place = eqb place noAddress
+
+-- a chip that is not busy remembers no operation, and may settle
+unfoldable pub idleOk : Record → State → Bool
+idleOk r s = leb (s .settle) (longestSettle r) && (eqb (s .command) noCommand && eqb (s .address) noAddress)
+
+-- a busy one runs an operation whose time is not over; it has WEL set, is not in deep power-down, and does not settle
+unfoldable pub busyOk : Record → State → Bool
+busyOk r s =
+    let op : Operation = startedBy (r .model) (s .command) in
+    (leb (s .busy) (operationTime r op) && placeOk (r .model) op (s .address)) && ((s .wel && not (s .asleep)) && eqb (s .settle) 0)
+
+-- BP and the register are in their range, and the rest as it has to be while idle or while busy
 unfoldable pub stateOk : Record → State → Bool
 stateOk r s =
-    (((leb (s .bp) (modelOf (r .model) .«highest_bp») && configOk (modelOf (r .model) .register) (s .config)) && leb (s .settle) (longestSettle r))
-    && leb (s .busy) (longestBusy r))
-    && (eqb (s .busy) 0 || ((s .wel && not (s .asleep)) && eqb (s .settle) 0))
+    (leb (s .bp) (modelOf (r .model) .«highest_bp») && configOk (modelOf (r .model) .register) (s .config))
+    && cond (eqb (s .busy) 0) (idleOk r s) (busyOk r s)
+
+-- ---- the page data: 256 bytes, FF where they are not used
+-- how many are used, from the first on: a program uses all, a status write one for each data byte
+abbrev pub usedBytes : Operation → ℕ → ℕ
+usedBytes Idle place = 0
+usedBytes WritesStatus place = place
+usedBytes Programs place = 256
+usedBytes ErasesSector place = 0
+usedBytes ErasesHalf place = 0
+usedBytes ErasesBlock place = 0
+usedBytes ErasesChip place = 0
+
+unfoldable pub usedPage : ℕ → State → ℕ
+usedPage n s = cond (eqb (s .busy) 0) 0 (usedBytes (startedBy n (s .command)) (s .address))
+
+unfoldable pub pageOk : ℕ → State → List ℕ → Bool
+pageOk n s page = eqb (length page) 256 && allAre 0xFF (drop (usedPage n s) page)
+
+-- no page data
+abbrev pub blankPage : List ℕ
+blankPage = replicate 256 0xFF
+
+-- what lies between two calls: the chip's state, its page data and its array
+pub record Chip : Type 0 where
+  pub state : State
+  pub page : List ℕ
+  pub cells : List ℕ
+
+abbrev pub chipOf : State → List ℕ → List ℕ → Chip
+chipOf s page cells = record { state = s; page = page; cells = cells }
 
 -- 128·SRWD + 4·BP + 2·WEL + WIP, and WIP is 1 exactly when busy time is left (000 L250-253, 004 M289, 003 L813-816)
 abbrev pub flag : Bool → ℕ → ℕ
@@ -77,7 +149,7 @@ statusOf s = flag (s .srwd) 128 + (4 * s .bp + (flag (s .wel) 2 + flag (not (eqb
 
 -- power-on from the factory (000 L548)
 abbrev pub powerOn : State
-powerOn = record { srwd = false; bp = 0; config = 0; wel = false; asleep = false; busy = 0; settle = 0 }
+powerOn = record { srwd = false; bp = 0; config = 0; wel = false; asleep = false; busy = 0; settle = 0; command = noCommand; address = noAddress }
 
 -- the sheets' maxima: 000 L521-525; 002 L807-812; 003 L2135-2141. The settling times of model 1 are house, the others the sheets' in whole
 -- microseconds, rounded up (002 L802-806, 003 L2132-2134)

@@ -1,8 +1,9 @@
-// Records, states and the status byte.
+// Records, states, page data and the status byte.
 ghost use mathlib.Core.Path.{_≡_};
 ghost use Prim.Native.Nat.{max, _<_, _≤_};
 ghost use lib.Dec.{leb};
-ghost use Rattle.states.specs.States.{inRange, halfOk, recordOk, longestBusy, longestSettle, configOk, stateOk, tbOf, flag as States·flag, statusOf, powerOn, benchKH25L512, benchKH25L2006E, benchKH25L12845G};
+ghost use Rattle.states.specs.States.{inRange, halfOk, recordOk, longestSettle, configOk, operationTime, placeOk, idleOk, busyOk, stateOk, usedBytes, usedPage, pageOk, tbOf, flag as States·flag, statusOf, powerOn, benchKH25L512, benchKH25L2006E, benchKH25L12845G};
+use commands::Operation;
 
 // The model's number, and its times in microseconds: busy after each operation (that of a half block's erase is 0 on a model that has none), and
 // settling after B9, the short AB and the long AB.
@@ -19,8 +20,9 @@ pub struct Record {
     pub sign: u32,
 }
 
-// SRWD, BP, the write enable latch, the deep power-down flag, the microseconds still busy, the configuration register, and the
-// microseconds still to settle.
+// SRWD, BP, the write enable latch, the deep power-down flag, the microseconds still busy, the configuration register, the
+// microseconds still to settle; and of the operation that runs its command byte and its address, or how many data bytes a status write has. An idle chip has
+// FF and FFFFFF there.
 pub struct State {
     pub srwd: bool,
     pub bp: u8,
@@ -29,6 +31,8 @@ pub struct State {
     pub busy: u32,
     pub config: u8,
     pub settle: u32,
+    pub command: u8,
+    pub address: u32,
 }
 
 fn in_range(us: u32) -> bool
@@ -60,23 +64,25 @@ pub fn record_ok(rec: Record) -> bool
                 & (in_range(rec.sleep) & (in_range(rec.wake) & in_range(rec.sign)))))
 }
 
+// How long an operation runs.
+pub fn operation_time(rec: Record, op: Operation) -> u32
+    ensures { λ r. ⌜ r ≡ operationTime rec op ⌝ }
+{
+    match op {
+        Operation::Idle => 0,
+        Operation::WritesStatus => rec.status_write,
+        Operation::Programs => rec.page,
+        Operation::ErasesSector => rec.sector,
+        Operation::ErasesHalf => rec.half,
+        Operation::ErasesBlock => rec.block,
+        Operation::ErasesChip => rec.chip,
+    }
+}
+
 fn larger(a: u32, b: u32) -> u32
     ensures { λ r. ⌜ r ≡ max a b ⌝ }
 {
     if a <= b { b } else { a }
-}
-
-// The longest of the busy times.
-fn longest_busy(rec: Record) -> u32
-    ensures { λ r. ⌜ r ≡ longestBusy rec ⌝ }
-{
-    larger(
-        rec.status_write,
-        larger(
-            rec.page,
-            larger(rec.sector, larger(rec.block, larger(rec.chip, rec.half))),
-        ),
-    )
 }
 
 // The longest of the settling times.
@@ -113,18 +119,86 @@ fn settle_ok(rec: Record, us: u32) -> bool
     us <= longest_settle(rec)
 }
 
+// Whether the address fits the operation: below the array's length where it has one; a status write has one data byte, or where there is the register two.
+fn place_ok(model: u32, op: Operation, place: u32) -> bool
+    ensures { λ r. ⌜ r ≡ placeOk model op place ⌝ }
+{
+    let row = models::model_of(model);
+    match op {
+        Operation::Idle => place == 0xFFFFFF,
+        Operation::WritesStatus => (place == 1) | (row.register & (place == 2)),
+        Operation::Programs => place < row.length,
+        Operation::ErasesSector => place < row.length,
+        Operation::ErasesHalf => place < row.length,
+        Operation::ErasesBlock => place < row.length,
+        Operation::ErasesChip => place == 0xFFFFFF,
+    }
+}
+
+// A chip that is not busy remembers no operation, and may settle.
+fn idle_ok(rec: Record, st: State) -> bool
+    ensures { λ r. ⌜ r ≡ idleOk rec st ⌝ }
+{
+    settle_ok(rec, st.settle) & ((st.command == 0xFF) & (st.address == 0xFFFFFF))
+}
+
+// A busy one has an operation whose time is not over; WEL is set, it is not in deep power-down, and does not settle.
+fn busy_ok(rec: Record, st: State) -> bool
+    ensures { λ r. ⌜ r ≡ busyOk rec st ⌝ }
+{
+    let op = commands::started_by(rec.model, st.command);
+    ((st.busy <= operation_time(rec, op)) & place_ok(rec.model, op, st.address))
+        & ((st.wel & !st.asleep) & (st.settle == 0))
+}
+
 // Whether the state is valid under the record.
 pub fn state_ok(rec: Record, st: State) -> bool
     ensures { λ r. ⌜ r ≡ stateOk rec st ⌝ }
 {
     let row = models::model_of(rec.model);
     let level = (st.bp <= row.highest_bp) & config_ok(row.register, st.config);
-    let settled = settle_ok(rec, st.settle);
     if st.busy == 0 {
-        return level & settled;
+        return level & idle_ok(rec, st);
     }
-    ((level & settled) & (st.busy <= longest_busy(rec)))
-        & ((st.wel & !st.asleep) & (st.settle == 0))
+    level & busy_ok(rec, st)
+}
+
+// How many bytes of the page data the operation uses, from the first on.
+fn used_bytes(op: Operation, place: u32) -> u32
+    ensures { λ r. ⌜ r ≡ usedBytes op place ⌝ }
+{
+    match op {
+        Operation::Idle => 0,
+        Operation::WritesStatus => place,
+        Operation::Programs => 256,
+        Operation::ErasesSector => 0,
+        Operation::ErasesHalf => 0,
+        Operation::ErasesBlock => 0,
+        Operation::ErasesChip => 0,
+    }
+}
+
+fn used_of(model: u32, st: State) -> u32
+    ensures { λ r. ⌜ r ≡ usedPage model st ⌝ }
+{
+    if st.busy == 0 {
+        return 0;
+    }
+    used_bytes(commands::started_by(model, st.command), st.address)
+}
+
+// Whether the page data are 256 bytes, FF where they are not used. They are looked at in one pass.
+pub fn page_ok(model: u32, st: State, page: &[u8]) -> bool
+    ensures { λ r. ⌜ r ≡ pageOk model st (now (page .entry)) ⌝ }
+{
+    if page.len() != 256 {
+        return false;
+    }
+    let used = used_of(model, st) as usize;
+    if 256 <= used {
+        return true;
+    }
+    parts::all_are(&page[used..256], 0xFF)
 }
 
 // The value where the flag is on, and 0 where it is off.
@@ -154,6 +228,8 @@ pub fn power_on() -> State
         asleep: false,
         busy: 0,
         settle: 0,
+        command: 0xFF,
+        address: 0xFFFFFF,
     }
 }
 

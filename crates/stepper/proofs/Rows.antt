@@ -10,26 +10,27 @@ use borrow.Author.Tests.{le-leb}
 use Rattle.parts.specs.Parts.{part}
 use Rattle.states.specs.declared.Record.{Record}
 use Rattle.states.specs.declared.State.{State}
+use Rattle.states.specs.States.{Chip}
 use Rattle.text.specs.Put.{Put}
 use Rattle.log.specs.Row.{logText, roomOf, Rowed, longestRow}
 use Rattle.log.proofs.Laws.{row-most}
 use Rattle.play.specs.declared.Played.{Played}
 use Rattle.play.specs.Play.{Turn, Plays}
-use Rattle.chip.specs.Frames.{chipOf}
 use Rattle.play.proofs.Laws.{played-within}
 use Rattle.stepper.specs.Steps.{OneSteps}
 use Rattle.stepper.specs.Rows.{lineTurn, rowText, Logs, OneLogs}
 
-pub row-logs : (rec : Record) (s : State) (cells : List ℕ) (number : ℕ) (line d : List ℕ) (at : ℕ) {r : Played} {next : ℕ} {xs os e : List ℕ} → at + longestRow ≤ length d
-    → Plays (lineTurn rec s cells line) r xs os → length os ≡ 300
+pub row-logs : (rec : Record) (x : Chip) (number : ℕ) (line d : List ℕ) (at : ℕ) {r : Played} {next : ℕ} {ps xs os e : List ℕ} → at + longestRow ≤ length d
+    → Plays (lineTurn rec x line) r ps xs os → length os ≡ 300
     → Rowed (roomOf (length (take (r .from + r .count - r .from) (drop (r .from) os)))) (logText number (r .answer) (r .from) (take (r .from + r .count - r .from) (drop (r .from) os)) (r .fold)) d at e next
-    → Logs rec s cells number line d at (record { next = next; state = r .state }) xs e
+    → Logs rec x number line d at (record { next = next; state = r .state }) ps xs e
 unfolding rowText
-row-logs rec s cells number line d at {r} {next} {xs} {os} {e} room p l w =
+row-logs rec x number line d at {r} {next} {ps} {xs} {os} {e} room p l w =
     record {
       row = subst (λ (z : List ℕ). Put z d at e next) text put;
       most = omega (arith, put .next, few, long);
       state = ap (λ (q : Played). q .state) (p .played);
+      page′ = p .page;
       cells′ = p .cells;
     }
   where
@@ -37,7 +38,7 @@ row-logs rec s cells number line d at {r} {next} {xs} {os} {e} room p l w =
     shown = take (r .from + r .count - r .from) (drop (r .from) os)
 
     within : r .from + r .count ≤ 300
-    within = played-within rec (chipOf s cells) (replicate 300 0) line (p .played)
+    within = played-within rec x (replicate 300 0) line (p .played)
 
     long : length shown ≤ 300
     long = omega (arith, length-take (r .from + r .count - r .from) (drop (r .from) os), length-drop (r .from) os)
@@ -56,29 +57,29 @@ row-logs rec s cells number line d at {r} {next} {xs} {os} {e} room p l w =
           next = w .next ∙ rw fits;
         }
 
-    text : logText number (r .answer) (r .from) shown (r .fold) ≡ logText number (lineTurn rec s cells line .played .answer) (lineTurn rec s cells line .played .from) (part (lineTurn rec s cells line .shown) (lineTurn rec s cells line .played .from) (lineTurn rec s cells line .played .count)) (lineTurn rec s cells line .played .fold)
+    text : logText number (r .answer) (r .from) shown (r .fold) ≡ logText number (lineTurn rec x line .played .answer) (lineTurn rec x line .played .from) (part (lineTurn rec x line .shown) (lineTurn rec x line .played .from) (lineTurn rec x line .played .count)) (lineTurn rec x line .played .fold)
     text =
         let k : r .from + r .count - r .from ≡ r .count = omega arith in
         ap (λ (n : ℕ). logText number (r .answer) (r .from) (take n (drop (r .from) os)) (r .fold)) k
         ∙ ap (λ (z : List ℕ). logText number (r .answer) (r .from) (part z (r .from) (r .count)) (r .fold)) (p .shown)
-        ∙ ap (λ (q : Played). logText number (q .answer) (q .from) (part (lineTurn rec s cells line .shown) (q .from) (q .count)) (q .fold)) (p .played)
+        ∙ ap (λ (q : Played). logText number (q .answer) (q .from) (part (lineTurn rec x line .shown) (q .from) (q .count)) (q .fold)) (p .played)
 
 -- no row of a line is longer than `longestRow`
-pub row-short : (rec : Record) (s : State) (cells : List ℕ) (number : ℕ) (line : List ℕ) → length (rowText rec s cells number line) ≤ longestRow
+pub row-short : (rec : Record) (x : Chip) (number : ℕ) (line : List ℕ) → length (rowText rec x number line) ≤ longestRow
 unfolding rowText
-row-short rec s cells number line =
-    let t : Turn = lineTurn rec s cells line in
-    let within : t .played .from + t .played .count ≤ 300 = played-within rec (chipOf s cells) (replicate 300 0) line refl in
+row-short rec x number line =
+    let t : Turn = lineTurn rec x line in
+    let within : t .played .from + t .played .count ≤ 300 = played-within rec x (replicate 300 0) line refl in
     let few = row-most number (t .played .answer) (t .played .from) (part (t .shown) (t .played .from) (t .played .count)) (t .played .fold) in
     let long : length (part (t .shown) (t .played .from) (t .played .count)) ≤ t .played .count = omega (arith, length-take (t .played .count) (drop (t .played .from) (t .shown))) in
     omega (arith, few, long, within)
 
 -- ---- no second answer
 pub one-steps : OneSteps
-one-steps t r r′ s s′ xs xs′ os os′ p q = (p .played ∙ sym (q .played), p .state ∙ sym (q .state), p .cells ∙ sym (q .cells), p .shown ∙ sym (q .shown))
+one-steps t r r′ s s′ ps ps′ xs xs′ os os′ p q = (p .played ∙ sym (q .played), p .state ∙ sym (q .state), p .page ∙ sym (q .page), p .cells ∙ sym (q .cells), p .shown ∙ sym (q .shown))
 
 pub one-logs : OneLogs
-one-logs rec s cells number line d at r r′ xs xs′ e e′ p q =
+one-logs rec x number line d at r r′ ps ps′ xs xs′ e e′ p q =
     let n : r .next ≡ r′ .next = p .row .next ∙ sym (q .row .next) in
     let t : r .state ≡ r′ .state = p .state ∙ sym (q .state) in
-    (ap (λ (k : ℕ). record { next = k; state = r .state }) n ∙ ap (λ (z : State). record { next = r′ .next; state = z }) t, p .cells′ ∙ sym (q .cells′), p .row .is ∙ sym (q .row .is))
+    (ap (λ (k : ℕ). record { next = k; state = r .state }) n ∙ ap (λ (z : State). record { next = r′ .next; state = z }) t, p .page′ ∙ sym (q .page′), p .cells′ ∙ sym (q .cells′), p .row .is ∙ sym (q .row .is))

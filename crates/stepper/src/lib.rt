@@ -2,7 +2,7 @@
 // parameters, so that whoever calls that one needs no proof by hand; and the line's row of the log.
 ghost use Prim.Native.Nat.{_+_, _≤_};
 ghost use lib.ListN.{length};
-ghost use Rattle.chip.specs.Frames.{chipOf};
+ghost use Rattle.states.specs.States.{chipOf};
 ghost use Rattle.play.specs.Play.{Plays, playOf};
 ghost use Rattle.log.specs.Row.{longestRow};
 ghost use Rattle.stepper.specs.Steps.{Steps};
@@ -12,20 +12,34 @@ use states::Record;
 use states::State;
 
 // A line is played: the state is altered where it lies.
-pub fn step(st: &mut State, rec: Record, line: &[u8], array: &mut [u8], shown: &mut [u8]) -> Played
-    ensures { λ r. ⌜ Steps (playOf rec (chipOf (now (st .entry)) (now (array .entry))) (now (shown .entry)) (now (line .entry))) r (now (st .exit)) (now (array .exit)) (now (shown .exit)) ⌝ }
+pub fn step(
+    st: &mut State,
+    rec: Record,
+    line: &[u8],
+    page: &mut [u8],
+    array: &mut [u8],
+    shown: &mut [u8],
+) -> Played
+    ensures { λ r. ⌜ Steps (playOf rec (chipOf (now (st .entry)) (now (page .entry)) (now (array .entry))) (now (shown .entry)) (now (line .entry))) r (now (st .exit)) (now (page .exit)) (now (array .exit)) (now (shown .exit)) ⌝ }
 {
-    let p = play::play(line, rec, *st, array, shown);
+    let p = play::play(line, rec, *st, page, array, shown);
     *st = p.state;
     p
 }
 
 // The same with the state by value: it lies in a local that is lent to the step.
-pub fn stepped(st: State, rec: Record, line: &[u8], array: &mut [u8], shown: &mut [u8]) -> Played
-    ensures { λ r. ⌜ Plays (playOf rec (chipOf st (now (array .entry))) (now (shown .entry)) (now (line .entry))) r (now (array .exit)) (now (shown .exit)) ⌝ }
+pub fn stepped(
+    st: State,
+    rec: Record,
+    line: &[u8],
+    page: &mut [u8],
+    array: &mut [u8],
+    shown: &mut [u8],
+) -> Played
+    ensures { λ r. ⌜ Plays (playOf rec (chipOf st (now (page .entry)) (now (array .entry))) (now (shown .entry)) (now (line .entry))) r (now (page .exit)) (now (array .exit)) (now (shown .exit)) ⌝ }
 {
     let mut s = st;
-    let p = step(&mut s, rec, line, array, shown);
+    let p = step(&mut s, rec, line, page, array, shown);
     Played {
         answer: p.answer,
         from: p.from,
@@ -47,15 +61,16 @@ pub fn log_line(
     line: &[u8],
     rec: Record,
     st: State,
+    page: &mut [u8],
     array: &mut [u8],
     log: &mut [u8],
     at: usize,
 ) -> Logged
     requires { ⌜ at + longestRow ≤ length (now log) ⌝ }
-    ensures { λ r. ⌜ Logs rec st (now (array .entry)) number (now (line .entry)) (now (log .entry)) at r (now (array .exit)) (now (log .exit)) ⌝ }
+    ensures { λ r. ⌜ Logs rec (chipOf st (now (page .entry)) (now (array .entry))) number (now (line .entry)) (now (log .entry)) at r (now (page .exit)) (now (array .exit)) (now (log .exit)) ⌝ }
 {
     let mut shown = [0u8; 300];
-    let p = stepped(st, rec, line, array, &mut shown);
+    let p = stepped(st, rec, line, page, array, &mut shown);
     let from = p.from as usize;
     let end = from + p.count as usize;
     let next = log::put_row(number, p.answer, p.from, &shown[from..end], p.fold, log, at);

@@ -1,31 +1,77 @@
--- Waiting and power cycles: 01, "Commands", last paragraphs. Assumes nothing.
+-- Waiting, power cycles and cuts of the power: 01, "Commands", last paragraphs, and Req 05. Assumes nothing.
 use mathlib.Core.Bool.{false, _&&_, _||_, cond}
+use mathlib.Core.List.{List}
+use mathlib.Core.Path.{_≡_}
 use Prim.Native.Nat.{ℕ, _-_, _*_, _/_, _%_}
 use lib.Dec.{eqb, ltb}
-use Rattle.states.specs.States.{recordOk, stateOk}
+use lib.ListN.{length}
+use Rattle.models.specs.Models.{modelOf}
+use Rattle.answers.specs.Answers.{isDone}
+use Rattle.answers.specs.declared.Answer.{Answer}
+use Rattle.answers.specs.declared.Answer.the-variants.{Done, BadRecord, BadArray, BadState, Busy, BadPattern}
+use Rattle.states.specs.States.{recordOk, stateOk, pageOk, noCommand, noAddress, Chip, chipOf}
 use Rattle.states.specs.declared.Record.{Record}
 use Rattle.states.specs.declared.State.{State}
-use Rattle.answers.specs.declared.Answer.the-variants.{Done, BadRecord, BadState}
+use Rattle.operations.specs.Operations.{runs, patternLength, finished, tornChip}
 use Rattle.time.specs.declared.After.{After}
 
--- the busy time and what is left to settle fall, never below 0; when the busy time goes from above 0 to 0, WEL clears
+-- ---- what time and power do to a chip
+-- the busy time and what is left to settle fall, never below 0
 unfoldable pub later : State → ℕ → State
 later s us =
-    record { srwd = s .srwd; bp = s .bp; config = s .config; wel = s .wel && (eqb (s .busy) 0 || ltb us (s .busy)); asleep = s .asleep; busy = s .busy - us; settle = s .settle - us }
+    record { srwd = s .srwd; bp = s .bp; config = s .config; wel = s .wel; asleep = s .asleep; busy = s .busy - us; settle = s .settle - us; command = s .command; address = s .address }
 
--- a power cycle keeps SRWD, BP and TB (bit 3 of the register) and zeroes the rest, also while busy (000 L246-248, L399-400, 003 L828-864)
+-- when the busy time runs out the operation has finished, and not before
+unfoldable pub waited : ℕ → Chip → ℕ → Chip
+waited n x us = cond (eqb (x .state .busy) 0 || ltb us (x .state .busy)) (chipOf (later (x .state) us) (x .page) (x .cells)) (finished n x)
+
+-- a power cycle keeps SRWD, BP and TB (bit 3 of the register) and zeroes the rest (000 L246-248, L399-400, 003 L828-864)
 unfoldable pub cycled : State → State
-cycled s = record { srwd = s .srwd; bp = s .bp; config = s .config / 8 % 2 * 8; wel = false; asleep = false; busy = 0; settle = 0 }
+cycled s =
+    record { srwd = s .srwd; bp = s .bp; config = s .config / 8 % 2 * 8; wel = false; asleep = false; busy = 0; settle = 0; command = noCommand; address = noAddress }
 
--- wait and power cycle take no array and no frame: only 1 and 3 apply
-unfoldable pub ifValid : Record → State → State → After
-ifValid rec s next =
-    cond (recordOk rec)
-    (cond (stateOk rec s) (record { answer = Done; state = next }) (record { answer = BadState; state = s }))
-    (record { answer = BadRecord; state = s })
+-- a cut leaves what the pattern says of the running operation; then it is as after a power cycle
+unfoldable pub cutOff : ℕ → Chip → List ℕ → Chip
+cutOff n x pattern = let y : Chip = tornChip n x pattern in chipOf (cycled (y .state)) (y .page) (y .cells)
 
-unfoldable pub waitOf : Record → State → ℕ → After
-waitOf rec s us = ifValid rec s (later s us)
+-- ---- what is refused
+-- 1, 2 and 3: wait and cut take the array; 1 and 3, and 11 while busy: a power cycle takes none; 23: a pattern of another length
+abbrev pub fits : Record → State → List ℕ → Answer → Answer
+fits rec s page next = cond (stateOk rec s && pageOk (rec .model) s page) next BadState
 
-unfoldable pub powerOf : Record → State → After
-powerOf rec s = ifValid rec s (cycled s)
+unfoldable pub chipRefusal : Record → Chip → Answer
+chipRefusal rec x = cond (recordOk rec) (cond (eqb (length (x .cells)) (modelOf (rec .model) .length)) (fits rec (x .state) (x .page) Done) BadArray) BadRecord
+
+unfoldable pub powerRefusal : Record → State → List ℕ → Answer
+powerRefusal rec s page = cond (recordOk rec) (fits rec s page (cond (eqb (s .busy) 0) Done Busy)) BadRecord
+
+unfoldable pub cutRefusal : Record → Chip → List ℕ → Answer
+cutRefusal rec x pattern =
+    let a : Answer = chipRefusal rec x in
+    cond (isDone a) (cond (eqb (length pattern) (patternLength (runs (rec .model) (x .state)) (x .state .address) (length (x .cells)))) Done BadPattern) a
+
+-- ---- the calls
+-- what comes of a wait or a cut: the answer and the chip, which a refusal leaves as it was
+pub record Aftermath : Type 0 where
+  pub answer : Answer
+  pub chip : Chip
+
+abbrev pub unless : Answer → Chip → Chip → Aftermath
+unless a x y = record { answer = a; chip = cond (isDone a) y x }
+
+unfoldable pub waitOf : Record → Chip → ℕ → Aftermath
+waitOf rec x us = unless (chipRefusal rec x) x (waited (rec .model) x us)
+
+unfoldable pub powerCutOf : Record → Chip → List ℕ → Aftermath
+powerCutOf rec x pattern = unless (cutRefusal rec x pattern) x (cutOff (rec .model) x pattern)
+
+-- a power cycle leaves page data and array alone
+unfoldable pub powerOf : Record → State → List ℕ → After
+powerOf rec s page = let a : Answer = powerRefusal rec s page in record { answer = a; state = cond (isDone a) (cycled s) s }
+
+-- what a function's result and its lent buffers at exit have to be
+pub record Ends (o : Aftermath) (r : After) (page cells : List ℕ) : Type 0 where
+  pub answer-is : r .answer ≡ o .answer
+  pub state-is : r .state ≡ o .chip .state
+  pub page-is : page ≡ o .chip .page
+  pub cells-are : cells ≡ o .chip .cells

@@ -1,23 +1,30 @@
 -- `chip::frame` meets its contract. Assumes nothing.
-use mathlib.Core.Path.{sym, _∙_}
+use mathlib.Core.Path.{_≡_, sym, ap, _∙_}
+use mathlib.Core.Bool.{Bool}
+use denote.Ref.{now}
 use borrow.Author.Needs.{needs}
-use Rattle.chip.specs.Frames.{chipOf, sentOf}
-use Rattle.chip.proofs.Ready.{let-pass, refuse-given}
+use Rattle.states.specs.States.{chipOf}
+use Rattle.chip.specs.Frames.{sentOf}
+use Rattle.chip.proofs.Ready.{first-rows, let-pass, refuse-given}
 use Rattle.chip.proofs.frame.Statement.{statement}
 use Rattle.chip.proofs.frame.Tie as tie
 
 -- the first five rows let it pass
 spoken-requires : tie.Need-spoken-requires
 spoken-requires c κs =
-    let g = c .before .before .before .before in
-    let a = g .before .before .before .before .args in
-    let-pass (a .rec) (chipOf (a .st) (a .array .now)) (sentOf (a .bytes .now) (a .tail) (a .wp) (a .out .now)) (g .given .ensures) (sym (c .before .before .before .is-done .ensures) ∙ c .before .before .if1 .taken)
+    let t = c .before .before in
+    let g = t .before .before in
+    let p = g .before in
+    let a = p .before .before .before .before .before .before .args in
+    let-pass (a .rec) (chipOf (a .st) (now (a .page)) (now (a .array))) (sentOf (now (a .bytes)) (a .tail) (a .wp) (now (a .out))) (first-rows (a .rec) (chipOf (a .st) (now (a .page)) (now (a .array))) (sentOf (now (a .bytes)) (a .tail) (a .wp) (now (a .out))) (g .given .ensures) (p .page-ok .ensures)) (sym (t .before .is-done .ensures) ∙ t .if1 .taken)
 
 returns-2 : tie.Need-returns-2
 returns-2 c =
-    let g = c .before .before .before in
-    let a = g .before .before .before .before .args in
-    refuse-given (a .rec) (chipOf (a .st) (a .array .now)) (sentOf (a .bytes .now) (a .tail) (a .wp) (a .out .now)) (g .given .ensures) (sym (c .before .before .is-done .ensures) ∙ c .before .if1 .left) (c .quiet .ensures)
+    let t = c .before in
+    let g = t .before .before in
+    let p = g .before in
+    let a = p .before .before .before .before .before .before .args in
+    refuse-given (a .rec) (chipOf (a .st) (now (a .page)) (now (a .array))) (sentOf (now (a .bytes)) (a .tail) (a .wp) (now (a .out))) (first-rows (a .rec) (chipOf (a .st) (now (a .page)) (now (a .array))) (sentOf (now (a .bytes)) (a .tail) (a .wp) (now (a .out))) (g .given .ensures) (p .page-ok .ensures)) (sym (t .before .is-done .ensures) ∙ t .if1 .left) (c .quiet .ensures)
 
 pub frame-spec : {M : Type 1} → statement M
 frame-spec =
@@ -25,8 +32,10 @@ frame-spec =
     (tie.spec
     (λ c κs. search needs)
     (λ c κs. search needs)
+    (λ c κs. search needs)
     spoken-requires
     (λ c κs. search needs)
+    (λ c. search needs)
     (λ c. search needs)
     (λ c. search needs)
     (λ c. search needs)

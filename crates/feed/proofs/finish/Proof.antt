@@ -1,21 +1,20 @@
 -- `feed::finish` meets its contract. Assumes nothing.
+use Rattle.feed.specs.Feed.{standing}
 use Rattle.feed.proofs.Turns.{front}
-use Rattle.feed.proofs.Feeds.{ends-none, ends-line}
+use Rattle.feed.proofs.Feeds.{finishes-none, finishes-line}
 use borrow.Author.Needs.{needs}
 use Rattle.feed.proofs.finish.Statement.{statement}
 use Rattle.feed.proofs.finish.Tie as tie
 
 returns : tie.Need-returns
 returns c =
-    let s = c .before .before .before .before .before in
-    let a = s .args in
-    ends-none (a .rec) (a .run) (a .held .now) (a .array .now) (a .log .now) (c .if1 .taken)
+    let a = c .before .before .before .before .before .before .args in
+    finishes-none (a .rec) (standing (a .run) (a .held .now) (a .page .now) (a .array .now) (a .log .now)) (c .if1 .taken)
 
 returns-2 : tie.Need-returns-2
 returns-2 c =
-    let s = c .before .before .before .before .before .before .before .before .before .before .before .before .before in
-    let a = s .args in
-    ends-line (a .rec) (a .run) (a .held .now) (a .array .now) (a .log .now) (c .before .before .before .before .before .before .before .before .if1 .left) (front (a .run .used) (a .held .now)) (c .before .before .before .before .log-line .ensures)
+    let a = c .before .before .before .before .before .before .before .before .before .before .before .before .before .before .before .before .before .args in
+    finishes-line (a .rec) (standing (a .run) (a .held .now) (a .page .now) (a .array .now) (a .log .now)) (c .before .before .before .before .before .before .before .before .before .before .before .if1 .left) (front (a .run .used) (a .held .now)) (c .before .before .before .before .before .before .log-line .ensures)
 
 pub finish-spec : {M : Type 1} → statement M
 finish-spec =
@@ -26,6 +25,7 @@ finish-spec =
     (λ c. search needs)
     (λ c. search needs)
     (λ c κs. search needs)
+    (λ c. search needs)
     (λ c. search needs)
     (λ c. search needs)
     returns-2)

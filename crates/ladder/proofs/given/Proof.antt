@@ -1,6 +1,6 @@
 -- `ladder::given` meets its contract: a fact a row passed, and a line a row that refuses. Assumes nothing.
 use mathlib.Core.Path.{_≡_, sym, ap, _∙_}
-use mathlib.Core.Bool.{true, false}
+use mathlib.Core.Bool.{true, false, _&&_}
 use lib.Dec.{eqb}
 use borrow.Author.Needs.{needs}
 use borrow.Author.Tests.{not-true, not-false, eq-eqb, ne-eqb, lt-ltb, le-ltb}
@@ -17,8 +17,13 @@ right c = sym (c .before .record-ok .ensures) ∙ not-false _ (c .if1 .left)
 whole : (c : tie.Else2) → eqb (c .before .before .before .before .before .before .args .head .cells) (modelOf (c .before .before .before .before .before .before .args .rec .model) .length) ≡ true
 whole c = eq-eqb _ _ (c .if2 .left ∙ ap (λ (m : Model). m .length) (c .before .before .before .model-of .ensures))
 
-valid : (c : tie.Else3) → stateOk (c .before .before .before .before .before .before .before .before .args .rec) (c .before .before .before .before .before .before .before .before .args .st) ≡ true
-valid c = sym (c .before .state-ok .ensures) ∙ not-false _ (c .if3 .left)
+valid : (c : tie.Else3)
+    → (let given = c .before .before .before .before .before .before .before .before .before .args in (stateOk (given .rec) (given .st) && given .head .page) ≡ true)
+valid c = rw (← (c .before .before .state-ok .ensures)) (not-false _ (c .if3 .left))
+
+invalid : (c : tie.Then3)
+    → (let given = c .before .before .before .before .before .before .before .before .before .args in (stateOk (given .rec) (given .st) && given .head .page) ≡ false)
+invalid c = rw (← (c .before .before .state-ok .ensures)) (not-true _ (c .if3 .taken))
 
 returns : tie.Need-returns
 unfolding givenOf
@@ -31,20 +36,20 @@ returns-2 c = rw (right (c .before .before .before .before), ← (ap (λ (m : Mo
 returns-3 : tie.Need-returns-3
 unfolding givenOf
 returns-3 c =
-    let e = sym (c .before .state-ok .ensures) ∙ not-true _ (c .if3 .taken) in
-    rw (right (c .before .before .before .before .before .before), whole (c .before .before), e)
+    let w = c .before .before .before in
+    rw (right (w .before .before .before .before), whole w, invalid c)
 
 returns-4 : tie.Need-returns-4
 unfolding givenOf
-returns-4 c = let l = c .before .before in rw (right (l .before .before .before .before .before .before), whole (l .before .before), valid l, c .if4 .taken)
+returns-4 c = let l = c .before .before in rw (right (l .before .before .before .before .before .before .before), whole (l .before .before .before), valid l, c .if4 .taken)
 
 returns-5 : tie.Need-returns-5
 unfolding givenOf
-returns-5 c = let l = c .before .before .before .before in rw (right (l .before .before .before .before .before .before), whole (l .before .before), valid l, c .before .before .if4 .left, lt-ltb _ _ (c .if5 .taken))
+returns-5 c = let l = c .before .before .before .before in rw (right (l .before .before .before .before .before .before .before), whole (l .before .before .before), valid l, c .before .before .if4 .left, lt-ltb _ _ (c .if5 .taken))
 
 returns-6 : tie.Need-returns-6
 unfolding givenOf
-returns-6 c = let l = c .before .before .before .before in rw (right (l .before .before .before .before .before .before), whole (l .before .before), valid l, c .before .before .if4 .left, le-ltb _ _ (c .if5 .left))
+returns-6 c = let l = c .before .before .before .before in rw (right (l .before .before .before .before .before .before .before), whole (l .before .before .before), valid l, c .before .before .if4 .left, le-ltb _ _ (c .if5 .left))
 
 pub given-spec : {M : Type 1} → statement M
 given-spec =

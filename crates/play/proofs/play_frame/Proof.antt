@@ -2,14 +2,14 @@
 use mathlib.Core.Path.{refl}
 use Rattle.play.proofs.Laws.{unhexed-front, frame-plays}
 use borrow.Author.Needs.{needs}
-use Rattle.chip.specs.Frames.{chipOf}
+use Rattle.states.specs.States.{chipOf}
 use Rattle.play.proofs.play_frame.Statement.{statement}
 use Rattle.play.proofs.play_frame.Tie as tie
 
 returns : tie.Need-returns
 returns c =
-    let a = c .before .before .before .before .before .before .before .before .before .before .before .before .before .before .before .before .before .args in
-    frame-plays (a .rec) (chipOf (a .st) (a .array .now)) (a .shown .now) (a .line .now) (a .wp) (a .tail) (unhexed-front 300 refl (c .before .before .before .before .before .before .before .before .before .before .before .before .frame-bytes .ensures)) (c .before .before .before .before .before .before .frame .ensures) (c .number-of .ensures)
+    let a = c .before .before .before .before .before .before .before .before .before .before .before .before .before .before .before .before .before .before .args in
+    frame-plays (a .rec) (chipOf (a .st) (a .page .now) (a .array .now)) (a .shown .now) (a .line .now) (a .wp) (a .tail) (unhexed-front 300 refl (c .before .before .before .before .before .before .before .before .before .before .before .before .frame-bytes .ensures)) (c .before .before .before .before .before .before .frame .ensures) (c .number-of .ensures)
 
 pub play-frame-spec : {M : Type 1} → statement M
 play-frame-spec =

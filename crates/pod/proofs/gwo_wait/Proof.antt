@@ -1,51 +1,62 @@
 -- `pod::gwo_wait` meets its contract. Assumes nothing.
 use mathlib.Core.Path.{_≡_, sym, _∙_}
-use mathlib.Core.Bool.{true, false}
+use mathlib.Core.Bool.{true}
 use borrow.Author.Needs.{needs}
 use borrow.Author.Tests.{not-true, not-false}
+use native.Mathlib.Omega.{arith}
+use lib.ListN.{length}
+use Rattle.states.specs.declared.Record.{Record}
 use Rattle.pod.specs.Packing.{isPacking}
 use Rattle.pod.specs.Calls.{recordOf}
 use Rattle.pod.proofs.Packing.{packing-length, unpack-read}
-use Rattle.pod.proofs.Calls.{bad-bytes-wait, fits-wait, answers-wait}
+use Rattle.pod.proofs.Calls.{bad-bytes-wait, fits-wait, alters-wait}
 use Rattle.pod.proofs.gwo_wait.Statement.{statement}
 use Rattle.pod.proofs.gwo_wait.Tie as tie
 
-returns : tie.Need-returns
-returns c =
-    let t = c .before .before in
-    let given = t .before .before .before .before .before .before .before .args in
-    bad-bytes-wait (recordOf (given .model) (given .status-us) (given .page-us) (given .sector-us) (given .block-us) (given .chip-us) (given .half-us) (given .sleep-us) (given .wake-us) (given .sign-us)) (given .state .now) true (t .before .before .before .before .before .record-of .ensures) (sym (t .before .is-packed .ensures) ∙ not-true _ (t .if1 .taken)) (sym (c .before .record-ok .ensures) ∙ c .if2 .taken) (given .us)
-
-returns-2 : tie.Need-returns-2
-returns-2 c =
-    let t = c .before .before in
-    let given = t .before .before .before .before .before .before .before .args in
-    bad-bytes-wait (recordOf (given .model) (given .status-us) (given .page-us) (given .sector-us) (given .block-us) (given .chip-us) (given .half-us) (given .sleep-us) (given .wake-us) (given .sign-us)) (given .state .now) false (t .before .before .before .before .before .record-of .ensures) (sym (t .before .is-packed .ensures) ∙ not-true _ (t .if1 .taken)) (sym (c .before .record-ok .ensures) ∙ c .if2 .left) (given .us)
+-- the record of the ten numbers
+abbrev numbers : tie.Start → Record
+numbers c =
+    let given = c .args in
+    recordOf (given .model) (given .status-us) (given .page-us) (given .sector-us) (given .block-us) (given .chip-us) (given .half-us) (given .sleep-us) (given .wake-us) (given .sign-us)
 
 -- the bytes are a packing
-packed : (c : tie.Else1) → (let given = c .before .before .before .before .before .before .before .args in isPacking (given .state .now) ≡ true)
-packed c = sym (c .before .is-packed .ensures) ∙ not-false _ (c .if1 .left)
+packing : (c : tie.Else1) → isPacking (c .before .before .before .before .before .before .before .before .args .state .now) ≡ true
+packing c = sym (c .before .is-packed .ensures) ∙ not-false _ (c .if1 .left)
+
+whole : (c : tie.Else1) → length (c .before .before .before .before .before .before .before .before .args .state .now) ≡ 272
+whole c = packing-length _ (packing c)
 
 is-packed-requires : tie.Need-is-packed-requires
 is-packed-requires c κs = c .before .busy-in .ensures
 
+returns : tie.Need-returns
+returns c =
+    let t = c .before in
+    let start = t .before .before .before .before .before .before .before .before in
+    let given = start .args in
+    bad-bytes-wait (numbers start) (given .state .now) (given .array .now) (sym (t .before .is-packed .ensures) ∙ not-true _ (t .if1 .taken)) (t .before .before .before .before .before .record-of .ensures) (c .bytes-refusal .ensures) (given .us)
+
 unpack-requires : tie.Need-unpack-requires
-unpack-requires c κs = (packing-length _ (packed (c .before)), c .before .before .before .before .busy-in .ensures)
+unpack-requires c κs = (whole (c .before), c .before .before .before .before .busy-in .ensures)
+
+part-end : tie.Need-part-wait-end
+part-end c = omega (arith, whole (c .before .before))
 
 keep-requires : tie.Need-keep-requires
 keep-requires c κs =
-    let u = c .before .before .before in
+    let u = c .before .before .before .before .before .before .before .before .before in
     let e = u .before .before in
-    let given = e .before .before .before .before .before .before .before .args in
-    fits-wait (recordOf (given .model) (given .status-us) (given .page-us) (given .sector-us) (given .block-us) (given .chip-us) (given .half-us) (given .sleep-us) (given .wake-us) (given .sign-us)) (given .state .now) (e .before .before .before .before .before .record-of .ensures) (u .unpack .ensures ∙ sym (unpack-read _ (packed e))) (given .us) (c .before .before .wait .ensures)
+    let start = e .before .before .before .before .before .before .before .before in
+    let given = start .args in
+    fits-wait (numbers start) (given .state .now) (given .array .now) (whole e) (e .before .before .before .before .before .record-of .ensures) (u .unpack .ensures ∙ sym (unpack-read _ (packing e))) (given .us) (c .before .before .before .before .before .before .wait .ensures)
 
-returns-3 : tie.Need-returns-3
-returns-3 c =
-    let u = c .before .before .before .before .before .before in
+returns-2 : tie.Need-returns-2
+returns-2 c =
+    let u = c .before .before .before .before .before .before .before .before .before .before .before .before in
     let e = u .before .before in
-    let given = e .before .before .before .before .before .before .before .args in
-    answers-wait (recordOf (given .model) (given .status-us) (given .page-us) (given .sector-us) (given .block-us) (given .chip-us) (given .half-us) (given .sleep-us) (given .wake-us) (given .sign-us)) (given .state .now) (e .before .before .before .before .before .record-of .ensures) (u .unpack .ensures ∙ sym (unpack-read _ (packed e))) (given .us) (c .before .before .before .before .before .wait .ensures)
-    (c .before .before .keep .ensures .0) (c .before .before .keep .ensures .1)
+    let start = e .before .before .before .before .before .before .before .before in
+    let given = start .args in
+    alters-wait (numbers start) (given .state .now) (given .array .now) (whole e) (e .before .before .before .before .before .record-of .ensures) (u .unpack .ensures ∙ sym (unpack-read _ (packing e))) (given .us) (c .before .before .before .before .before .before .before .before .before .wait .ensures) (c .before .before .keep .ensures .0) (c .before .before .keep .ensures .1)
 
 pub gwo-wait-spec : {M : Type 1} → statement M
 gwo-wait-spec =
@@ -57,10 +68,12 @@ gwo-wait-spec =
     (λ c κs. search needs)
     (λ c. search needs)
     returns
-    (λ c. search needs)
-    returns-2
     unpack-requires
+    (λ c. search needs)
+    (λ c. search needs)
+    part-end
     (λ c κs. search needs)
     keep-requires
     (λ c. search needs)
-    returns-3)
+    (λ c. search needs)
+    returns-2)

@@ -1,4 +1,4 @@
--- `pod::is_packed` meets its contract: the tests are right for every twelve bytes. Assumes nothing.
+-- `pod::is_packed` meets its contract: the tests are right for every run of bytes. Assumes nothing.
 use mathlib.Core.Path.{sym}
 use Rattle.pod.proofs.Packing.{wrong-length, tested}
 use borrow.Author.Needs.{needs}

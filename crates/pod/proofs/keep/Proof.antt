@@ -18,7 +18,7 @@ pack-requires : tie.Need-pack-requires
 pack-requires c κs =
     let given = c .before .before .before .before in
     let d = moves-if (given .args .answer) _ true (c .before .before .number-of .ensures) (c .before .if1 .taken) in
-    (given .pre .level d, given .pre .room d)
+    (given .pre .level d, given .pre .room)
 
 returns : tie.Need-returns
 unfolding keptOf

@@ -9,11 +9,11 @@ use Rattle.runner.proofs.feed_block.Statement.{statement}
 use Rattle.runner.proofs.feed_block.Tie as tie
 
 abbrev Inv-loop : tie.InvT-loop
-Inv-loop rec held₀ bytes n array₀ log₀ block run₀ at₀ held array log run at =
+Inv-loop rec held₀ bytes n page₀ array₀ log₀ block run₀ at₀ held page array log run at =
     (at ≡ run .at) × (run .at ≤ length block) × (run .used ≤ 641) × (run .filled ≡ 0)
 
 abbrev μ-loop : tie.MeasureT-loop
-μ-loop rec held₀ bytes n array₀ log₀ block run₀ at₀ held array log run at = length block - at
+μ-loop rec held₀ bytes n page₀ array₀ log₀ block run₀ at₀ held page array log run at = length block - at
 
 loop-holds : tie.Need-loop-holds Inv-loop μ-loop
 loop-holds c = rw (c .at-block .ensures) (refl, omega arith, c .before .before .before .pre .0, refl)
@@ -23,7 +23,7 @@ returns c = rw (c .before .before .before .before .emptied .ensures) (stands-fed
 
 loop-less : tie.Need-loop-less Inv-loop μ-loop
 loop-less c =
-    let h = c .before .before .before .before .before .before .before .before .before .before .loop in
+    let h = c .before .before .before .before .before .before .before .before .before .before .before .loop in
     let n : length (h .log) ≡ 65536 = search needs in
     let o = stands-fed (c .before .before .before .before .before .feed .ensures) (search needs) .on (omega (arith, h .inv .0)) (omega (arith, h .inv .3)) in
     omega (arith, h .inv .0)

@@ -8,8 +8,8 @@ use Rattle.runner.proofs.finish.Tie as tie
 
 finish-requires : tie.Need-finish-requires
 finish-requires c κs =
-    let n : length (c .before .before .before .before .before .args .log .now) ≡ 65536 = search needs in
-    (search needs, rw (c .before .before .before .before .at-block .ensures) (c .before .before .before .before .before .pre), rw (c .before .before .before .before .at-block .ensures) (omega arith))
+    let n : length (c .before .before .before .before .before .before .args .log .now) ≡ 65536 = search needs in
+    (search needs, rw (c .before .before .before .before .before .at-block .ensures) (c .before .before .before .before .before .before .pre), rw (c .before .before .before .before .before .at-block .ensures) (omega arith))
 
 pub finish-spec : {M : Type 1} → statement M
 finish-spec = tie.close (tie.spec (λ c κs. search needs) finish-requires (λ c κs. search needs) (λ c. search needs))

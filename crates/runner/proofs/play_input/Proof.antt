@@ -5,10 +5,10 @@ use Rattle.runner.proofs.play_input.Statement.{statement}
 use Rattle.runner.proofs.play_input.Tie as tie
 
 abbrev Inv-loop : tie.InvT-loop
-Inv-loop log₀ headed rec array₀ held₀ block₀ run₀ blocks₀ log array held block run blocks = run .used ≤ 641
+Inv-loop log₀ headed rec page₀ array₀ held₀ block₀ run₀ blocks₀ log page array held block run blocks = run .used ≤ 641
 
 abbrev μ-loop : tie.MeasureT-loop
-μ-loop log₀ headed rec array₀ held₀ block₀ run₀ blocks₀ log array held block run blocks = blocks
+μ-loop log₀ headed rec page₀ array₀ held₀ block₀ run₀ blocks₀ log page array held block run blocks = blocks
 
 pub play-input-spec : {M : Type 1} → statement M
 play-input-spec =

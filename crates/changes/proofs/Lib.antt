@@ -1,2 +1,0 @@
--- `Fits`: the units of an address of the array lie in it.
-pub mod Fits

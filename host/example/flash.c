@@ -1,0 +1,78 @@
+#include "flash.h"
+
+#include <stdio.h>
+#include <stdlib.h>
+#include <string.h>
+
+void flash_power_on(struct flash *f)
+{
+    f->record = gwo_bench_model_1;
+    gwo_factory_state(f->state);
+    memset(f->array, 0xFF, sizeof f->array);
+}
+
+void stop_unless_done(uint32_t number)
+{
+    if (number == GWO_DONE)
+        return;
+    printf("the chip refused: %lu, %s\n", (unsigned long)number, gwo_text(number));
+    exit(1);
+}
+
+size_t addressed(uint8_t *frame, uint8_t command, uint32_t address)
+{
+    frame[0] = command;
+    frame[1] = (uint8_t)(address >> 16);
+    frame[2] = (uint8_t)(address >> 8);
+    frame[3] = (uint8_t)address;
+    return 4;
+}
+
+uint32_t transfer(struct flash *f, const uint8_t *out, uint8_t *in, size_t n)
+{
+    uint32_t from, count, fold;
+
+    memset(in, 0, n);
+    stop_unless_done(gwo_record_frame_fold(&f->record, f->state, sizeof f->state, f->array, sizeof f->array,
+                                           out, n, 0, 1, in, n, &from, &count, &fold));
+    return fold;
+}
+
+void write_enable(struct flash *f)
+{
+    static const uint8_t frame[] = {0x06};
+    uint8_t in[1];
+
+    transfer(f, frame, in, 1);
+}
+
+void wait_until_ready(struct flash *f)
+{
+    static const uint8_t frame[] = {0x05, 0x00};
+    uint8_t in[2];
+
+    transfer(f, frame, in, 2);
+    while ((in[1] & 1) != 0) {
+        stop_unless_done(gwo_record_wait(&f->record, f->state, sizeof f->state, f->array, sizeof f->array, 100));
+        transfer(f, frame, in, 2);
+    }
+}
+
+void erase_sector(struct flash *f, uint32_t address)
+{
+    uint8_t frame[4], in[4];
+
+    write_enable(f);
+    transfer(f, frame, in, addressed(frame, 0x20, address));
+    wait_until_ready(f);
+}
+
+void read_bytes(struct flash *f, uint32_t address, uint8_t *bytes, size_t n)
+{
+    uint8_t frame[4 + GWO_PAGE_LENGTH], in[4 + GWO_PAGE_LENGTH];
+    size_t at = addressed(frame, 0x03, address);
+
+    memset(frame + at, 0, n);
+    transfer(f, frame, in, at + n);
+    memcpy(bytes, in + at, n);
+}
