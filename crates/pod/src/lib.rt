@@ -6,7 +6,7 @@ ghost use Prim.Native.Nat.{_≤_};
 ghost use lib.ListN.{length};
 ghost use Rattle.answers.specs.Answers.{numberOf};
 ghost use Rattle.pod.specs.Packing.{spelt, placeSpelt, packed, pageIn, readOf, isPacking, Timed};
-ghost use Rattle.pod.specs.Calls.{recordOf, bytesRefusal, keptOf, Packs, sentBy, Leaves, Alters, Answers, calledFrame, calledWait, calledCut, calledCycle};
+ghost use Rattle.pod.specs.Calls.{recordOf, cellsRefusal, keptOf, Packs, sentBy, Leaves, Alters, Answers, calledFrame, calledWait, calledCut, calledCycle};
 use answers::Answer;
 use parts::wide;
 use states::Record;
@@ -109,14 +109,11 @@ fn keep(answer: Answer, next: State, state: &mut [u8]) -> u32
     number
 }
 
-// What bytes that are no packing are answered, by a call with an array of that many cells: 1, 2 or 3.
-fn bytes_refusal(rec: Record, cells: usize) -> u32
-    ensures { λ r. ⌜ r ≡ bytesRefusal rec cells ⌝ }
+// What bytes that are no packing are answered under a right record, by a call with an array of that many cells: 2 or 3.
+fn bytes_refusal(model: u32, cells: usize) -> u32
+    ensures { λ r. ⌜ r ≡ cellsRefusal model cells ⌝ }
 {
-    if !states::record_ok(rec) {
-        return 1;
-    }
-    let row = models::model_of(rec.model);
+    let row = models::model_of(model);
     if cells != row.length as usize {
         return 2;
     }
@@ -191,12 +188,18 @@ pub extern "C" fn gwo_frame(
         wake_us,
         sign_us,
     );
+    if !states::record_ok(rec) {
+        *from = 0;
+        *count = 0;
+        *fold = 0;
+        return 1;
+    }
     let busy = busy_in(state);
     if !is_packed(state, busy) {
         *from = 0;
         *count = 0;
         *fold = 0;
-        return bytes_refusal(rec, array.len());
+        return bytes_refusal(rec.model, array.len());
     }
     let st = unpack(state, busy);
     let reply = chip::frame(
@@ -248,9 +251,12 @@ pub extern "C" fn gwo_wait(
         wake_us,
         sign_us,
     );
+    if !states::record_ok(rec) {
+        return 1;
+    }
     let busy = busy_in(state);
     if !is_packed(state, busy) {
-        return bytes_refusal(rec, array.len());
+        return bytes_refusal(rec.model, array.len());
     }
     let st = unpack(state, busy);
     let waited = time::wait(rec, st, &mut state[16..272], array, us);
@@ -290,9 +296,12 @@ pub extern "C" fn gwo_cut(
         wake_us,
         sign_us,
     );
+    if !states::record_ok(rec) {
+        return 1;
+    }
     let busy = busy_in(state);
     if !is_packed(state, busy) {
-        return bytes_refusal(rec, array.len());
+        return bytes_refusal(rec.model, array.len());
     }
     let st = unpack(state, busy);
     let torn = time::cut(rec, st, &mut state[16..272], array, pattern);
@@ -330,9 +339,12 @@ pub extern "C" fn gwo_power_cycle(
         wake_us,
         sign_us,
     );
+    if !states::record_ok(rec) {
+        return 1;
+    }
     let busy = busy_in(state);
     if !is_packed(state, busy) {
-        return if states::record_ok(rec) { 3 } else { 1 };
+        return 3;
     }
     let st = unpack(state, busy);
     let cycled = time::power_cycle(rec, st, &state[16..272]);
