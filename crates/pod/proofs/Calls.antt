@@ -22,10 +22,11 @@ use Rattle.effects.specs.Effects.{Gives}
 use Rattle.chip.specs.Frames.{Sent, headFor, frameOf}
 use Rattle.time.specs.declared.After.{After}
 use Rattle.time.specs.Time.{waited, cutOff, chipRefusal, powerRefusal, cutRefusal, Aftermath, unless, waitOf, powerOf, powerCutOf, Ends}
-use Rattle.pod.specs.Packing.{packed, pageIn, isPacking, unpackOf}
+use Rattle.packing.specs.Packing.{packed, pageIn, isPacking, unpackOf}
 use Rattle.pod.specs.Calls.{chipIn, cellsRefusal, bytesRefusal, mayMove, keptOf, called, calledFrame, altered, alteredOf, calledWait, calledCut, answered, calledCycle, Leaves, Alters, Answers, Packs}
-use Rattle.pod.proofs.Status.{flag-byte}
-use Rattle.pod.proofs.Valid.{invalid, Keeps, frame-keeps, chip-spared, power-spared, wait-keeps, cut-keeps, cycle-keeps}
+use Rattle.packing.proofs.Status.{flag-byte}
+use Rattle.packing.proofs.Valid.{invalid}
+use Rattle.pod.proofs.Valid.{Keeps, frame-keeps, chip-spared, power-spared, wait-keeps, cut-keeps, cycle-keeps}
 
 -- ---- the page data are lent, and what comes back stands in their place
 module _ (xs : List ℕ) (n : length xs ≡ 272) where

@@ -15,7 +15,7 @@ use Rattle.time.specs.declared.After.{After}
 use Rattle.effects.specs.Effects.{Effect}
 use Rattle.chip.specs.Frames.{Sent, sentOf, frameOf}
 use Rattle.time.specs.Time.{Aftermath, waitOf, powerOf, powerCutOf}
-use Rattle.pod.specs.Packing.{packed, pageIn, unpackOf}
+use Rattle.packing.specs.Packing.{packed, pageIn, unpackOf}
 
 -- the record of ten numbers
 abbrev pub recordOf : ℕ → ℕ → ℕ → ℕ → ℕ → ℕ → ℕ → ℕ → ℕ → ℕ → Record

@@ -1,6 +1,6 @@
 -- What a wait or a cut that is not refused has shown of the chip, and what comes of each. Assumes nothing.
 use mathlib.Core.Path.{_≡_, refl, sym, ap, _∙_}
-use mathlib.Core.Bool.{Bool, true, false, _&&_, _||_, cond, or-true, false≢true}
+use mathlib.Core.Bool.{Bool, true, false, _&&_, _||_, or-true, false≢true}
 use mathlib.Core.List.{List}
 use mathlib.Core.Logic.{⊎-elim}
 use Prim.Native.Nat.{ℕ, _≤_, _<_}
@@ -8,7 +8,6 @@ use lib.Dec.{eqb, ltb}
 use lib.ListN.{length}
 use native.Mathlib.Omega.{arith}
 use borrow.Author.Tests.{eqb-true, eq-eqb, ne-eqb, lt-ltb, le-ltb}
-use Rattle.units.proofs.Bools.{both}
 use Rattle.models.specs.Models.{modelOf}
 use Rattle.answers.specs.Answers.{isDone}
 use Rattle.answers.specs.declared.Answer.{Answer}
@@ -17,7 +16,7 @@ use Rattle.commands.specs.Commands.{startedBy}
 use Rattle.commands.specs.declared.Operation.{Operation}
 use Rattle.commands.specs.declared.Operation.the-variants.{Idle}
 use Rattle.commands.proofs.Rows.{none-started}
-use Rattle.states.specs.States.{recordOk, levelOk, idleOk, runsOk, stateOk, pageFits, pageOk, placeOk, noAddress, Chip}
+use Rattle.states.specs.States.{recordOk, levelOk, idleOk, runsOk, stateOk, pageFits, pageOk, placeOk, Chip}
 use Rattle.states.specs.declared.Record.{Record}
 use Rattle.states.specs.declared.State.{State}
 use Rattle.time.specs.declared.After.{After}

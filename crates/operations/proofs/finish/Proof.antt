@@ -1,10 +1,9 @@
 -- `operations::finish` meets its contract. Assumes nothing.
-use mathlib.Core.Path.{_≡_, ap, _∙_}
+use mathlib.Core.Path.{ap, _∙_}
 use Prim.Native.Nat.{ℕ}
-use lib.ListN.{length, replicate}
+use lib.ListN.{replicate}
 use denote.Ref.{now}
 use Rattle.commands.specs.declared.Operation.{Operation}
-use Rattle.states.specs.declared.State.{State}
 use Rattle.operations.specs.Operations.{finishedCells, finishedBits, forgotten, finished, runsAt}
 use borrow.Author.Needs.{needs}
 use Rattle.operations.proofs.finish.Statement.{statement}

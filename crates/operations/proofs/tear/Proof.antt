@@ -1,11 +1,10 @@
 -- `operations::tear` meets its contract. Assumes nothing.
-use mathlib.Core.Path.{_≡_, ap, _∙_}
+use mathlib.Core.Path.{ap, _∙_}
 use Prim.Native.Nat.{ℕ}
-use lib.ListN.{length, replicate}
+use lib.ListN.{replicate}
 use denote.Ref.{now}
 use Rattle.commands.specs.declared.Operation.{Operation}
-use Rattle.states.specs.declared.State.{State}
-use Rattle.operations.specs.Operations.{cutCells, cutBits, tornChip, patternLength, runsAt}
+use Rattle.operations.specs.Operations.{cutCells, cutBits, tornChip, runsAt}
 use borrow.Author.Needs.{needs}
 use Rattle.operations.proofs.tear.Statement.{statement}
 use Rattle.operations.proofs.tear.Tie as tie

@@ -1,5 +1,5 @@
 -- `states::page_fits` meets its contract. Assumes nothing.
-use mathlib.Core.Path.{_≡_, refl, sym, ap, _∙_}
+use mathlib.Core.Path.{_≡_, ap, _∙_}
 use mathlib.Core.Bool.{true}
 use mathlib.Core.List.{List}
 use Prim.Native.Nat.{ℕ, _-_, _≤_}
@@ -10,7 +10,7 @@ use denote.Ref.{now}
 use borrow.Author.Needs.{needs}
 use borrow.Author.Tests.{ne-eqb, eq-eqb}
 use Rattle.parts.specs.Parts.{allAre}
-use Rattle.states.specs.States.{usedBytes, pageFits}
+use Rattle.states.specs.States.{usedBytes}
 use Rattle.states.proofs.page_fits.Statement.{statement}
 use Rattle.states.proofs.page_fits.Tie as tie
 

@@ -1,7 +1,6 @@
 -- `time::cut` meets its contract. Assumes nothing.
 use mathlib.Core.Path.{_≡_, refl, sym, ap, _∙_}
 use mathlib.Core.Bool.{true, false}
-use Prim.Native.Nat.{ℕ}
 use lib.Dec.{eqb}
 use lib.ListN.{length}
 use borrow.Author.Tests.{not-true, not-false, eq-eqb, ne-eqb}
@@ -12,7 +11,7 @@ use Rattle.commands.specs.declared.Operation.{Operation}
 use Rattle.states.specs.States.{recordOk, Chip, chipOf}
 use Rattle.operations.specs.Operations.{patternLength}
 use Rattle.time.specs.Time.{chipRefusal, cutRefusal}
-use Rattle.time.proofs.Time.{Fits, idle-fits, busy-fits, no-record, no-array, no-state, all-fit, ready, low-level, no-chip, no-pattern, may-cut, no-unit, idle-torn, taken-cut, refused-cut, done-cut}
+use Rattle.time.proofs.Time.{idle-fits, busy-fits, no-record, no-array, no-state, all-fit, ready, low-level, no-chip, no-pattern, may-cut, no-unit, idle-torn, taken-cut, refused-cut, done-cut}
 use borrow.Author.Needs.{needs}
 use Rattle.time.proofs.cut.Statement.{statement}
 use Rattle.time.proofs.cut.Tie as tie

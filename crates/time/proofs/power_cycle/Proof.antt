@@ -4,7 +4,7 @@ use mathlib.Core.Bool.{true, false}
 use denote.Ref.{now}
 use borrow.Author.Tests.{not-true, not-false}
 use Rattle.states.specs.States.{recordOk}
-use Rattle.time.proofs.Time.{Fits, idle-fits, busy-fits, no-power-record, no-power-state, no-power-busy, may-cycle, refused-cycle, done-cycle}
+use Rattle.time.proofs.Time.{idle-fits, busy-fits, no-power-record, no-power-state, no-power-busy, may-cycle, refused-cycle, done-cycle}
 use borrow.Author.Needs.{needs}
 use Rattle.time.proofs.power_cycle.Statement.{statement}
 use Rattle.time.proofs.power_cycle.Tie as tie

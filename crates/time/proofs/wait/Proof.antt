@@ -1,6 +1,6 @@
 -- `time::wait` meets its contract. Assumes nothing.
 use mathlib.Core.Path.{_≡_, refl, sym, _∙_}
-use mathlib.Core.Bool.{Bool, true, false}
+use mathlib.Core.Bool.{true, false}
 use lib.Dec.{eqb}
 use lib.ListN.{length}
 use borrow.Author.Tests.{not-true, not-false}
@@ -9,7 +9,7 @@ use Rattle.models.specs.Models.{modelOf}
 use Rattle.answers.specs.declared.Answer.the-variants.{Done}
 use Rattle.states.specs.States.{recordOk, Chip, chipOf}
 use Rattle.time.specs.Time.{chipRefusal}
-use Rattle.time.proofs.Time.{Fits, idle-fits, busy-fits, no-record, no-array, no-state, all-fit, none-ends, too-short, one-ends, taken-fits, ready, refused-wait, rested-wait, finished-wait}
+use Rattle.time.proofs.Time.{idle-fits, busy-fits, no-record, no-array, no-state, all-fit, none-ends, too-short, one-ends, taken-fits, ready, refused-wait, rested-wait, finished-wait}
 use borrow.Author.Needs.{needs}
 use Rattle.time.proofs.wait.Statement.{statement}
 use Rattle.time.proofs.wait.Tie as tie
