@@ -11,7 +11,7 @@ use Rattle.ladder.specs.Ladder.{refusalOf}
 use Rattle.ladder.specs.declared.Head.{Head}
 use Rattle.ladder.proofs.Passed.{passed, stopped}
 use Rattle.effects.specs.Effects.{Effect, refusalLeaves}
-use Rattle.chip.specs.Frames.{Sent, Ready, headFor, headOf, acceptedOf, refusedOf, frameOf}
+use Rattle.chip.specs.Frames.{Sent, Ready, headFor, headOf, acceptedOf, refusedOf, frameOf, wornBy}
 use Rattle.chip.specs.Driven.{drivenBytes, foldOf}
 use Rattle.models.specs.Models.{modelOf}
 use Rattle.commands.specs.Commands.{traitsOf, lengthOk}
@@ -29,7 +29,7 @@ module _ (rec : Record) (x : Chip) (f : Sent) where
   refusal = refusalOf rec (x .state) head
 
   abbrev pub accepted : Effect
-  accepted = acceptedOf rec x (head .command) (head .address) (f .bytes) (f .out)
+  accepted = acceptedOf rec x (head .command) (head .address) (f .bytes) (f .wear) (f .out)
 
   pub frame-cases : (P : Effect → Type 0) → (isDone refusal ≡ true → P accepted) → (isDone refusal ≡ false → P (refusedOf rec refusal x f)) → P (frameOf rec x f)
   unfolding frameOf
@@ -40,11 +40,11 @@ module _ (rec : Record) (x : Chip) (f : Sent) where
       go false e = stopped e
 
   -- the sort of an accepted frame, and what the refusals have shown of it
-  pub sort : Kind rec x (head .command) (head .address) (f .bytes) (f .out) (drivenBytes (head .command) (length (f .bytes))) (foldOf (head .command) (head .address) (length (f .bytes))) accepted
-  sort = kind rec x (head .address) (f .bytes) (f .out) (head .command)
+  pub sort : Kind rec x (head .command) (head .address) (f .bytes) (f .wear) (f .out) (drivenBytes (head .command) (length (f .bytes))) (foldOf (head .command) (head .address) (length (f .bytes))) accepted
+  sort = kind rec x (head .address) (f .bytes) (f .wear) (f .out) (head .command)
 
-  pub shown-ready : isDone refusal ≡ true → Ready rec x (head .command) (head .address) (f .bytes) (f .out)
-  shown-ready e = arrived rec x f (passed rec (x .state) head e)
+  pub shown-ready : isDone refusal ≡ true → Ready rec x (head .command) (head .address) (f .bytes) (f .wear) (f .out)
+  shown-ready e = arrived rec x f (wornBy (rec .model) (f .bytes) (f .wear)) (passed rec (x .state) head e)
 
   pub shown-asked : isDone refusal ≡ true → Asked rec (x .state) (head .command) (head .address) (f .bytes)
   unfolding headFor

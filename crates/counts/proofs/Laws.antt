@@ -9,8 +9,12 @@ use lib.ListN.{length, getD, take, drop}
 use borrow.Author.Tests.{leb-false, eq-eqb, ne-eqb, eqb-true}
 use mathlib.Core.Logic.{⊎-elim}
 use Rattle.units.proofs.Bools.{neither, either}
-use Rattle.models.specs.Models.{isSectors}
-use Rattle.counts.specs.Counts.{topCount, atTop, firstWith}
+use Rattle.models.specs.Models.{isSectors, modelOf}
+use Rattle.counts.specs.Counts.{topCount, atTop, firstWith, covered, InTable, counted, sectors}
+use Rattle.commands.specs.declared.Operation.{Operation}
+use Rattle.commands.specs.declared.Operation.the-variants.{Idle, WritesStatus, Programs, ErasesSector, ErasesHalf, ErasesBlock, ErasesChip}
+use Rattle.models.proofs.Rules.{row-rules}
+use Rattle.parts.proofs.Lay.{lay-none}
 
 -- no count at its top: each is below it
 pub below-top : (counts : List ℕ) → atTop counts ≡ false → (k : ℕ) → k < length counts → getD counts k 0 < topCount
@@ -36,3 +40,24 @@ sectors-range n e =
     (λ q. ⊎-elim (λ a. let k : n ≡ 4096 = eqb-true n 4096 a in (omega arith, omega arith)) (λ f. absurd (false≢true f)) (either (eqb n 4096) false q))
     (either (eqb n 64) (eqb n 4096 || false) r))
     (either (eqb n 16) (eqb n 64 || (eqb n 4096 || false)) e)
+
+-- ---- the covered sectors lie in the table of the chip
+pub in-table : (n : ℕ) (op : Operation) (place : ℕ) (wear : List ℕ) → length wear ≡ modelOf n .sectors → place < modelOf n .length → InTable op place wear
+unfolding covered
+in-table n Idle place wear e l = omega arith
+in-table n WritesStatus place wear e l = omega arith
+in-table n Programs place wear e l = omega arith
+in-table n ErasesSector place wear e l = omega (arith, row-rules n .sectors)
+in-table n ErasesHalf place wear e l = omega (arith, row-rules n .sectors, row-rules n .half-blocks)
+in-table n ErasesBlock place wear e l = omega (arith, row-rules n .sectors, row-rules n .blocks)
+in-table n ErasesChip place wear e l = omega arith
+
+-- an erase of the chip lies in every table
+pub chip-in-table : (place : ℕ) (wear : List ℕ) → InTable ErasesChip place wear
+unfolding covered
+chip-in-table place wear = omega arith
+
+-- an operation that covers no sector counts nothing
+pub uncounted : (op : Operation) (place : ℕ) (wear : List ℕ) → covered op place (length wear) ≡ sectors 0 0 → counted op place wear ≡ wear
+unfolding counted
+uncounted op place wear e = rw e (lay-none wear 0)
