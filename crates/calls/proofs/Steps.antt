@@ -15,7 +15,7 @@ use Rattle.models.specs.Models.{modelOf, addressOf, rangeOf, isProtected}
 use Rattle.models.proofs.Rules.{range-none, half-erase-model}
 use Rattle.parts.proofs.Lay.{lay-none}
 use Rattle.answers.specs.Answers.{isDone}
-use Rattle.commands.specs.Commands.{decodeOf, traitsOf, lengthOk}
+use Rattle.commands.specs.Commands.{decodeOf, traitsOf, lengthOk, operationOf}
 use Rattle.commands.specs.declared.Command.{Command}
 use Rattle.commands.specs.declared.Command.the-variants.{EraseHalf, Read, Program, WriteStatus}
 use Rattle.commands.proofs.Rows.{between, least-on, one-byte-write}
@@ -29,12 +29,13 @@ use Rattle.ladder.specs.Ladder.{ladder, refusalOf, asks}
 use Rattle.ladder.specs.declared.Head.{Head}
 use Rattle.ladder.proofs.Passed.{Clear, unrefused}
 use Rattle.commands.specs.declared.Operation.the-variants.{ErasesSector, ErasesHalf, ErasesBlock, ErasesChip}
-use Rattle.effects.specs.Effects.{Effect, stateOnly, turned, started, shown, drives, latched, dozing, writeEnable, writeStatus, eraseStarts, programPage, readFrom, wake, wakingTime, sleep}
+use Rattle.counts.specs.Counts.{covered, wornOut}
+use Rattle.effects.specs.Effects.{Effect, stateOnly, worn, started, shown, drives, latched, dozing, writeEnable, writeStatus, eraseStarts, programPage, readFrom, wake, wakingTime, sleep}
 use Rattle.chip.specs.Frames.{Sent, headFor, headOf, acceptedOf, refusedOf, frameOf}
 use Rattle.time.specs.Time.{Aftermath, later, waited, waitOf}
 use Rattle.time.proofs.Time.{Fit, fit-taken}
 use Rattle.operations.specs.Operations.{finished}
-use Rattle.calls.specs.Calls.{Call, sends, waits, cycles, cuts, ours, left, after, answer, run, answers, Bench, Roomy, frame}
+use Rattle.calls.specs.Calls.{Call, sends, waits, cycles, cuts, ours, left, after, answer, run, answers, Bench, Roomy, Tabled, frame}
 use Rattle.calls.proofs.Valid.{call-fine, call-length}
 
 -- a busy chip does not settle
@@ -46,24 +47,25 @@ module _ (rec : Record) (x : Chip) (b : Bench rec x) (f : Sent) where
   abbrev h : Head
   h = headOf rec x f
 
-  -- the first five rows of the table ask for a bench, a short enough frame and room; where the others stop nothing it is accepted
-  pub taken : length (f .bytes) ≤ 65541 → f .tail ≤ 7 → Roomy f → Clear (drop 5 (ladder rec (x .state) h (asks rec h)))
-      → frameOf rec x f ≡ acceptedOf rec x (h .command) (h .address) (f .bytes) (f .out)
+  -- the first six rows of the table ask for a bench, a table, a short enough frame and room; where the others stop nothing it is accepted
+  pub taken : length (f .bytes) ≤ 65541 → f .tail ≤ 7 → Roomy f → Tabled rec f → Clear (drop 6 (ladder rec (x .state) h (asks rec h)))
+      → frameOf rec x f ≡ acceptedOf rec x (h .command) (h .address) (f .bytes) (f .wear) (f .out)
   unfolding frameOf refusalOf headFor
-  taken l t r c =
+  taken l t r w c =
       let long : (ltb 65541 (length (f .bytes)) || ltb 7 (f .tail)) ≡ false = rw (le-ltb 65541 (length (f .bytes)) l, le-ltb 7 (f .tail) t) in
       let valid-page : (stateOk rec (x .state) && pageOk (rec .model) (x .state) (x .page)) ≡ true = rw (b .valid, b .page) in
       rw (unrefused (ladder rec (x .state) h (asks rec h))
-      (ap not (b .right), (ap not (eq-eqb (length (x .cells)) (modelOf (rec .model) .length) (b .whole)), (ap not valid-page, (long, (le-ltb (length (f .out)) (length (f .bytes)) r, c))))))
+      (ap not (b .right), (ap not (eq-eqb (length (x .cells)) (modelOf (rec .model) .length) (b .whole)), (ap not (eq-eqb (length (f .wear)) (modelOf (rec .model) .sectors) w), (ap not valid-page, (long, (le-ltb (length (f .out)) (length (f .bytes)) r, c)))))))
 
   -- on a busy chip it is answered 11, unless its command is taken while busy
-  busy-refusal : 0 < x .state .busy → 0 < length (f .bytes) → length (f .bytes) ≤ 65541 → f .tail ≤ 7 → Roomy f
+  busy-refusal : 0 < x .state .busy → 0 < length (f .bytes) → length (f .bytes) ≤ 65541 → f .tail ≤ 7 → Roomy f → Tabled rec f
       → traitsOf (modelOf (rec .model) .register) (decodeOf (rec .model) (getD (f .bytes) 0 0)) .«while_busy» ≡ false → refusalOf rec (x .state) h ≡ Busy
   unfolding refusalOf headFor
-  busy-refusal busy some l t r w =
+  busy-refusal busy some l t r k w =
       rw (
         b .right,
         eq-eqb (length (x .cells)) (modelOf (rec .model) .length) (b .whole),
+        eq-eqb (length (f .wear)) (modelOf (rec .model) .sectors) k,
         b .valid,
         b .page,
         le-ltb 65541 (length (f .bytes)) l,
@@ -76,12 +78,13 @@ module _ (rec : Record) (x : Chip) (b : Bench rec x) (f : Sent) where
       )
 
   -- on a settling chip it is answered 22, whatever its command
-  settling-refusal : 0 < x .state .settle → 0 < length (f .bytes) → length (f .bytes) ≤ 65541 → f .tail ≤ 7 → Roomy f → refusalOf rec (x .state) h ≡ Settling
+  settling-refusal : 0 < x .state .settle → 0 < length (f .bytes) → length (f .bytes) ≤ 65541 → f .tail ≤ 7 → Roomy f → Tabled rec f → refusalOf rec (x .state) h ≡ Settling
   unfolding refusalOf headFor
-  settling-refusal settling some l t r =
+  settling-refusal settling some l t r k =
       rw (
         b .right,
         eq-eqb (length (x .cells)) (modelOf (rec .model) .length) (b .whole),
+        eq-eqb (length (f .wear)) (modelOf (rec .model) .sectors) k,
         b .valid,
         b .page,
         le-ltb 65541 (length (f .bytes)) l,
@@ -97,20 +100,20 @@ pub refused-frame : (rec : Record) (x : Chip) (f : Sent) (a : Answer) → refusa
 unfolding frameOf
 refused-frame rec x f a e d = rw (e, d)
 
-pub while-busy : (rec : Record) (x : Chip) (b : Bench rec x) (bytes out : List ℕ) → 0 < x .state .busy
-    → 0 < length bytes → length bytes ≤ 65541 → Roomy (frame bytes out) → traitsOf (modelOf (rec .model) .register) (decodeOf (rec .model) (getD bytes 0 0)) .«while_busy» ≡ false
-    → answer ours rec [] (sends (frame bytes out)) x ≡ Busy
+pub while-busy : (rec : Record) (x : Chip) (b : Bench rec x) (bytes wear out : List ℕ) → 0 < x .state .busy
+    → 0 < length bytes → length bytes ≤ 65541 → Roomy (frame bytes wear out) → Tabled rec (frame bytes wear out) → traitsOf (modelOf (rec .model) .register) (decodeOf (rec .model) (getD bytes 0 0)) .«while_busy» ≡ false
+    → answer ours rec [] (sends (frame bytes wear out)) x ≡ Busy
 unfolding answer
-while-busy rec x b bytes out busy some l r w =
+while-busy rec x b bytes wear out busy some l r k w =
     ap (λ (e : Effect). e .reply .answer)
-    (refused-frame rec x (frame bytes out) Busy (busy-refusal rec x b (frame bytes out) busy some l (lit≤ tt) r w) refl)
+    (refused-frame rec x (frame bytes wear out) Busy (busy-refusal rec x b (frame bytes wear out) busy some l (lit≤ tt) r k w) refl)
 
-pub while-settling : (rec : Record) (x : Chip) (b : Bench rec x) (bytes out : List ℕ) → 0 < x .state .settle
-    → 0 < length bytes → length bytes ≤ 65541 → Roomy (frame bytes out) → answer ours rec [] (sends (frame bytes out)) x ≡ Settling
+pub while-settling : (rec : Record) (x : Chip) (b : Bench rec x) (bytes wear out : List ℕ) → 0 < x .state .settle
+    → 0 < length bytes → length bytes ≤ 65541 → Roomy (frame bytes wear out) → Tabled rec (frame bytes wear out) → answer ours rec [] (sends (frame bytes wear out)) x ≡ Settling
 unfolding answer
-while-settling rec x b bytes out settling some l r =
+while-settling rec x b bytes wear out settling some l r k =
     ap (λ (e : Effect). e .reply .answer)
-    (refused-frame rec x (frame bytes out) Settling (settling-refusal rec x b (frame bytes out) settling some l (lit≤ tt) r) refl)
+    (refused-frame rec x (frame bytes wear out) Settling (settling-refusal rec x b (frame bytes wear out) settling some l (lit≤ tt) r k) refl)
 
 -- at BP 0 no block is protected
 pub unprotected : (n : ℕ) (tb : Bool) (b : Block) → isProtected n tb 0 b ≡ false
@@ -126,103 +129,103 @@ decodes-half : (n : ℕ) → n ≡ 3 → decodeOf n 0x52 ≡ EraseHalf
 unfolding decodeOf
 decodes-half n e = rw e
 
--- the last nine tests of the table, by name
-pub tests : {a q b c d e f g h : Bool} → a ≡ false → q ≡ false → b ≡ false → c ≡ false → d ≡ false → e ≡ false → f ≡ false → g ≡ false → h ≡ false
-    → (a ≡ false) × ((q ≡ false) × ((b ≡ false) × ((c ≡ false) × ((d ≡ false) × ((e ≡ false) × ((f ≡ false) × ((g ≡ false) × ((h ≡ false) × Unit {0}))))))))
-tests a q b c d e f g h = (a, (q, (b, (c, (d, (e, (f, (g, (h, tt)))))))))
+-- the last ten tests of the table, by name
+pub tests : {a q b c d e f g h w : Bool} → a ≡ false → q ≡ false → b ≡ false → c ≡ false → d ≡ false → e ≡ false → f ≡ false → g ≡ false → h ≡ false → w ≡ false
+    → (a ≡ false) × ((q ≡ false) × ((b ≡ false) × ((c ≡ false) × ((d ≡ false) × ((e ≡ false) × ((f ≡ false) × ((g ≡ false) × ((h ≡ false) × ((w ≡ false) × Unit {0})))))))))
+tests a q b c d e f g h w = (a, (q, (b, (c, (d, (e, (f, (g, (h, (w, tt))))))))))
 
 -- ---- the frames of the list
-module _ (rec : Record) (x : Chip) (b : Bench rec x) (z : x .state .busy ≡ 0) (q : x .state .settle ≡ 0) (out : List ℕ) where
-  pub wake-taken : 1 ≤ length out → frameOf rec x (frame (0xAB ∷ []) out) ≡ stateOnly Done (dozing (x .state) false (cond (x .state .asleep) (rec .wake) 0)) (x .page) out
-  unfolding acceptedOf decodeOf traitsOf headFor lengthOk wake wakingTime drives
+module _ (rec : Record) (x : Chip) (b : Bench rec x) (z : x .state .busy ≡ 0) (q : x .state .settle ≡ 0) (wear out : List ℕ) (k : length wear ≡ modelOf (rec .model) .sectors) where
+  pub wake-taken : 1 ≤ length out → frameOf rec x (frame (0xAB ∷ []) wear out) ≡ stateOnly Done (dozing (x .state) false (cond (x .state .asleep) (rec .wake) 0)) (x .page) wear out
+  unfolding acceptedOf decodeOf traitsOf headFor lengthOk wake wakingTime drives covered wornOut
   wake-taken r =
-      taken rec x b (frame (0xAB ∷ []) out) (lit≤ tt) (lit≤ tt) r
-      (tests refl (rw (eq-eqb (x .state .settle) 0 q)) (rw (eq-eqb (x .state .busy) 0 z)) (and-false (x .state .asleep)) refl refl refl refl refl)
+      taken rec x b (frame (0xAB ∷ []) wear out) (lit≤ tt) (lit≤ tt) r k
+      (tests refl (rw (eq-eqb (x .state .settle) 0 q)) (rw (eq-eqb (x .state .busy) 0 z)) (and-false (x .state .asleep)) refl refl refl refl refl refl)
       ∙ rw (lay-none out 4)
 
-  pub sign-taken : 5 ≤ length out → frameOf rec x (frame (0xAB ∷ 0 ∷ 0 ∷ 0 ∷ 0 ∷ []) out)
-      ≡ shown (x .page) (wake rec (x .state) (0xAB ∷ 0 ∷ 0 ∷ 0 ∷ 0 ∷ []) out)
-  unfolding acceptedOf decodeOf traitsOf headFor lengthOk
+  pub sign-taken : 5 ≤ length out → frameOf rec x (frame (0xAB ∷ 0 ∷ 0 ∷ 0 ∷ 0 ∷ []) wear out)
+      ≡ shown (x .page) wear (wake rec (x .state) (0xAB ∷ 0 ∷ 0 ∷ 0 ∷ 0 ∷ []) out)
+  unfolding acceptedOf decodeOf traitsOf headFor lengthOk covered wornOut
   sign-taken r =
-      taken rec x b (frame (0xAB ∷ 0 ∷ 0 ∷ 0 ∷ 0 ∷ []) out) (lit≤ tt) (lit≤ tt) r
-      (tests refl (rw (eq-eqb (x .state .settle) 0 q)) (rw (eq-eqb (x .state .busy) 0 z)) (and-false (x .state .asleep)) refl refl refl refl refl)
+      taken rec x b (frame (0xAB ∷ 0 ∷ 0 ∷ 0 ∷ 0 ∷ []) wear out) (lit≤ tt) (lit≤ tt) r k
+      (tests refl (rw (eq-eqb (x .state .settle) 0 q)) (rw (eq-eqb (x .state .busy) 0 z)) (and-false (x .state .asleep)) refl refl refl refl refl refl)
 
   pub sleep-taken : x .state .asleep ≡ false → 1 ≤ length out
-      → frameOf rec x (frame (0xB9 ∷ []) out) ≡ stateOnly Done (dozing (x .state) true (rec .sleep)) (x .page) out
-  unfolding acceptedOf sleep decodeOf traitsOf headFor lengthOk
+      → frameOf rec x (frame (0xB9 ∷ []) wear out) ≡ stateOnly Done (dozing (x .state) true (rec .sleep)) (x .page) wear out
+  unfolding acceptedOf sleep decodeOf traitsOf headFor lengthOk covered wornOut
   sleep-taken a r =
-      taken rec x b (frame (0xB9 ∷ []) out) (lit≤ tt) (lit≤ tt) r
-      (tests refl (rw (eq-eqb (x .state .settle) 0 q)) (rw (eq-eqb (x .state .busy) 0 z)) (rw a) refl refl refl refl refl)
+      taken rec x b (frame (0xB9 ∷ []) wear out) (lit≤ tt) (lit≤ tt) r k
+      (tests refl (rw (eq-eqb (x .state .settle) 0 q)) (rw (eq-eqb (x .state .busy) 0 z)) (rw a) refl refl refl refl refl refl)
 
   pub enable-taken : x .state .asleep ≡ false → 1 ≤ length out
-      → frameOf rec x (frame (0x06 ∷ []) out) ≡ stateOnly Done (latched (x .state) true) (x .page) out
-  unfolding acceptedOf writeEnable decodeOf traitsOf headFor lengthOk
+      → frameOf rec x (frame (0x06 ∷ []) wear out) ≡ stateOnly Done (latched (x .state) true) (x .page) wear out
+  unfolding acceptedOf writeEnable decodeOf traitsOf headFor lengthOk covered wornOut
   enable-taken a r =
-      taken rec x b (frame (0x06 ∷ []) out) (lit≤ tt) (lit≤ tt) r
-      (tests refl (rw (eq-eqb (x .state .settle) 0 q)) (rw (eq-eqb (x .state .busy) 0 z)) (rw a) refl refl refl refl refl)
+      taken rec x b (frame (0x06 ∷ []) wear out) (lit≤ tt) (lit≤ tt) r k
+      (tests refl (rw (eq-eqb (x .state .settle) 0 q)) (rw (eq-eqb (x .state .busy) 0 z)) (rw a) refl refl refl refl refl refl)
 
   pub write-taken : (v : ℕ) → x .state .asleep ≡ false → x .state .wel ≡ true → 2 ≤ length out
-      → frameOf rec x (frame (0x01 ∷ v ∷ []) out) ≡ started out (writeStatus rec (x .state) (x .page) (0x01 ∷ v ∷ []))
-  unfolding acceptedOf decodeOf traitsOf headFor
+      → frameOf rec x (frame (0x01 ∷ v ∷ []) wear out) ≡ started wear out (writeStatus rec (x .state) (x .page) (0x01 ∷ v ∷ []))
+  unfolding acceptedOf decodeOf traitsOf headFor covered wornOut
   write-taken v a w r =
       let has = modelOf (rec .model) .register in
-      taken rec x b (frame (0x01 ∷ v ∷ []) out) (lit≤ tt) (lit≤ tt) r
-      (tests refl (rw (eq-eqb (x .state .settle) 0 q)) (rw (eq-eqb (x .state .busy) 0 z)) (rw a) refl (ap not (between (traitsOf has WriteStatus) 2 (lit≤ tt) (one-byte-write has))) (rw w) (and-false (x .state .srwd)) refl)
+      taken rec x b (frame (0x01 ∷ v ∷ []) wear out) (lit≤ tt) (lit≤ tt) r k
+      (tests refl (rw (eq-eqb (x .state .settle) 0 q)) (rw (eq-eqb (x .state .busy) 0 z)) (rw a) refl (ap not (between (traitsOf has WriteStatus) 2 (lit≤ tt) (one-byte-write has))) (rw w) (and-false (x .state .srwd)) refl refl)
 
   module _ (high middle low : ℕ) where
     abbrev pub to : Address
     to = addressOf (rec .model) high middle low
 
-    pub erase-taken : x .state .asleep ≡ false → x .state .wel ≡ true → x .state .bp ≡ 0 → 4 ≤ length out
-        → frameOf rec x (frame (0x20 ∷ high ∷ middle ∷ low ∷ []) out) ≡ turned (x .page) out (eraseStarts rec (x .state) ErasesSector (to .0) (0x20 ∷ high ∷ middle ∷ low ∷ []))
-    unfolding acceptedOf decodeOf traitsOf headFor lengthOk tbOf
-    erase-taken a w p r =
-        taken rec x b (frame (0x20 ∷ high ∷ middle ∷ low ∷ []) out) (lit≤ tt) (lit≤ tt) r
-        (tests refl (rw (eq-eqb (x .state .settle) 0 q)) (rw (eq-eqb (x .state .busy) 0 z)) (rw a) refl refl (rw w) refl (rw (p, unprotected (rec .model) (tbOf (x .state)) (blockOf to))))
+    pub erase-taken : x .state .asleep ≡ false → x .state .wel ≡ true → x .state .bp ≡ 0 → 4 ≤ length out → wornOut ErasesSector (to .0) wear ≡ false
+        → frameOf rec x (frame (0x20 ∷ high ∷ middle ∷ low ∷ []) wear out) ≡ worn (x .page) out (eraseStarts rec (x .state) ErasesSector (to .0) wear (0x20 ∷ high ∷ middle ∷ low ∷ []))
+    unfolding acceptedOf decodeOf traitsOf headFor lengthOk tbOf covered wornOut
+    erase-taken a w p r n =
+        taken rec x b (frame (0x20 ∷ high ∷ middle ∷ low ∷ []) wear out) (lit≤ tt) (lit≤ tt) r k
+        (tests refl (rw (eq-eqb (x .state .settle) 0 q)) (rw (eq-eqb (x .state .busy) 0 z)) (rw a) refl refl (rw w) refl (rw (p, unprotected (rec .model) (tbOf (x .state)) (blockOf to))) n)
 
     pub program-taken : (sent : List ℕ) → x .state .asleep ≡ false → x .state .wel ≡ true → x .state .bp ≡ 0
-        → 1 ≤ length sent → 4 + length sent ≤ 65541 → Roomy (frame (0x02 ∷ high ∷ middle ∷ low ∷ sent) out)
-        → frameOf rec x (frame (0x02 ∷ high ∷ middle ∷ low ∷ sent) out)
-        ≡ started out (programPage rec (x .state) (x .page) to (0x02 ∷ high ∷ middle ∷ low ∷ sent))
-    unfolding acceptedOf decodeOf traitsOf headFor lengthOk tbOf
+        → 1 ≤ length sent → 4 + length sent ≤ 65541 → Roomy (frame (0x02 ∷ high ∷ middle ∷ low ∷ sent) wear out)
+        → frameOf rec x (frame (0x02 ∷ high ∷ middle ∷ low ∷ sent) wear out)
+        ≡ started wear out (programPage rec (x .state) (x .page) to (0x02 ∷ high ∷ middle ∷ low ∷ sent))
+    unfolding acceptedOf decodeOf traitsOf headFor lengthOk tbOf covered wornOut
     program-taken sent a w p n l r =
-        taken rec x b (frame (0x02 ∷ high ∷ middle ∷ low ∷ sent) out) (omega arith) (lit≤ tt) r
+        taken rec x b (frame (0x02 ∷ high ∷ middle ∷ low ∷ sent) wear out) (omega arith) (lit≤ tt) r k
         (tests (eqb·suc-zero (suc (suc (suc (length sent))))) (rw (eq-eqb (x .state .settle) 0 q)) (rw (eq-eqb (x .state .busy) 0 z)) (rw a) refl (ap not (between (traitsOf (modelOf (rec .model) .register) Program) (suc (suc (suc (suc (length sent))))) (omega arith) (omega arith))) (rw w) refl
-        (rw (p, unprotected (rec .model) (tbOf (x .state)) (blockOf to))))
+        (rw (p, unprotected (rec .model) (tbOf (x .state)) (blockOf to))) refl)
 
-    pub read-taken : (more : List ℕ) → x .state .asleep ≡ false → 4 + length more ≤ 65541 → Roomy (frame (0x03 ∷ high ∷ middle ∷ low ∷ more) out)
-        → frameOf rec x (frame (0x03 ∷ high ∷ middle ∷ low ∷ more) out)
-        ≡ shown (x .page) (readFrom 4 (x .state) (x .cells) to (0x03 ∷ high ∷ middle ∷ low ∷ more) out)
-    unfolding acceptedOf decodeOf traitsOf headFor lengthOk
+    pub read-taken : (more : List ℕ) → x .state .asleep ≡ false → 4 + length more ≤ 65541 → Roomy (frame (0x03 ∷ high ∷ middle ∷ low ∷ more) wear out)
+        → frameOf rec x (frame (0x03 ∷ high ∷ middle ∷ low ∷ more) wear out)
+        ≡ shown (x .page) wear (readFrom 4 (x .state) (x .cells) to (0x03 ∷ high ∷ middle ∷ low ∷ more) out)
+    unfolding acceptedOf decodeOf traitsOf headFor lengthOk covered wornOut
     read-taken more a l r =
-        taken rec x b (frame (0x03 ∷ high ∷ middle ∷ low ∷ more) out) (omega arith) (lit≤ tt) r
-        (tests (eqb·suc-zero (suc (suc (suc (length more))))) (rw (eq-eqb (x .state .settle) 0 q)) (rw (eq-eqb (x .state .busy) 0 z)) (rw a) refl (ap not (least-on (traitsOf (modelOf (rec .model) .register) Read) (suc (suc (suc (suc (length more))))) 0 (omega arith))) refl refl refl)
+        taken rec x b (frame (0x03 ∷ high ∷ middle ∷ low ∷ more) wear out) (omega arith) (lit≤ tt) r k
+        (tests (eqb·suc-zero (suc (suc (suc (length more))))) (rw (eq-eqb (x .state .settle) 0 q)) (rw (eq-eqb (x .state .busy) 0 z)) (rw a) refl (ap not (least-on (traitsOf (modelOf (rec .model) .register) Read) (suc (suc (suc (suc (length more))))) 0 (omega arith))) refl refl refl refl)
 
     -- the other operations, for a chip that waits too short a time after them
-    pub half-taken : modelOf (rec .model) .«half_erase» ≡ true → x .state .asleep ≡ false → x .state .wel ≡ true → x .state .bp ≡ 0 → 4 ≤ length out
-        → frameOf rec x (frame (0x52 ∷ high ∷ middle ∷ low ∷ []) out) ≡ turned (x .page) out (eraseStarts rec (x .state) ErasesHalf (to .0) (0x52 ∷ high ∷ middle ∷ low ∷ []))
-    unfolding acceptedOf traitsOf headFor lengthOk tbOf
-    half-taken m a w p r =
-        let sent : Sent = frame (0x52 ∷ high ∷ middle ∷ low ∷ []) out in
-        let k : decodeOf (rec .model) 0x52 ≡ EraseHalf = decodes-half (rec .model) (half-erase-model (rec .model) m) in
-        taken rec x b sent (lit≤ tt) (lit≤ tt) r
-        (subst (λ (c : Command). Clear (drop 5 (ladder rec (x .state) (headOf rec x sent) (traitsOf (modelOf (rec .model) .register) c)))) (sym k)
-        (tests refl (rw (eq-eqb (x .state .settle) 0 q)) (rw (eq-eqb (x .state .busy) 0 z)) (rw a) refl refl (rw w) refl (rw (p, unprotected (rec .model) (tbOf (x .state)) (blockOf to)))))
-        ∙ ap (λ (c : Command). acceptedOf rec x c to (sent .bytes) out) k
+    pub half-taken : modelOf (rec .model) .«half_erase» ≡ true → x .state .asleep ≡ false → x .state .wel ≡ true → x .state .bp ≡ 0 → 4 ≤ length out → wornOut ErasesHalf (to .0) wear ≡ false
+        → frameOf rec x (frame (0x52 ∷ high ∷ middle ∷ low ∷ []) wear out) ≡ worn (x .page) out (eraseStarts rec (x .state) ErasesHalf (to .0) wear (0x52 ∷ high ∷ middle ∷ low ∷ []))
+    unfolding acceptedOf traitsOf headFor lengthOk tbOf covered wornOut
+    half-taken m a w p r n =
+        let sent : Sent = frame (0x52 ∷ high ∷ middle ∷ low ∷ []) wear out in
+        let d : decodeOf (rec .model) 0x52 ≡ EraseHalf = decodes-half (rec .model) (half-erase-model (rec .model) m) in
+        taken rec x b sent (lit≤ tt) (lit≤ tt) r k
+        (subst (λ (c : Command). Clear (drop 6 (ladder rec (x .state) (headOf rec x sent) (traitsOf (modelOf (rec .model) .register) c)))) (sym d)
+        (tests refl (rw (eq-eqb (x .state .settle) 0 q)) (rw (eq-eqb (x .state .busy) 0 z)) (rw a) refl refl (rw w) refl (rw (p, unprotected (rec .model) (tbOf (x .state)) (blockOf to))) (ap (λ (c : Command). wornOut (operationOf c) (to .0) wear) d ∙ n)))
+        ∙ ap (λ (c : Command). acceptedOf rec x c to (sent .bytes) wear out) d
 
-    pub block-taken : x .state .asleep ≡ false → x .state .wel ≡ true → x .state .bp ≡ 0 → 4 ≤ length out
-        → frameOf rec x (frame (0xD8 ∷ high ∷ middle ∷ low ∷ []) out) ≡ turned (x .page) out (eraseStarts rec (x .state) ErasesBlock (to .0) (0xD8 ∷ high ∷ middle ∷ low ∷ []))
-    unfolding acceptedOf decodeOf traitsOf headFor lengthOk tbOf
-    block-taken a w p r =
-        taken rec x b (frame (0xD8 ∷ high ∷ middle ∷ low ∷ []) out) (lit≤ tt) (lit≤ tt) r
-        (tests refl (rw (eq-eqb (x .state .settle) 0 q)) (rw (eq-eqb (x .state .busy) 0 z)) (rw a) refl refl (rw w) refl (rw (p, unprotected (rec .model) (tbOf (x .state)) (blockOf to))))
+    pub block-taken : x .state .asleep ≡ false → x .state .wel ≡ true → x .state .bp ≡ 0 → 4 ≤ length out → wornOut ErasesBlock (to .0) wear ≡ false
+        → frameOf rec x (frame (0xD8 ∷ high ∷ middle ∷ low ∷ []) wear out) ≡ worn (x .page) out (eraseStarts rec (x .state) ErasesBlock (to .0) wear (0xD8 ∷ high ∷ middle ∷ low ∷ []))
+    unfolding acceptedOf decodeOf traitsOf headFor lengthOk tbOf covered wornOut
+    block-taken a w p r n =
+        taken rec x b (frame (0xD8 ∷ high ∷ middle ∷ low ∷ []) wear out) (lit≤ tt) (lit≤ tt) r k
+        (tests refl (rw (eq-eqb (x .state .settle) 0 q)) (rw (eq-eqb (x .state .busy) 0 z)) (rw a) refl refl (rw w) refl (rw (p, unprotected (rec .model) (tbOf (x .state)) (blockOf to))) n)
 
-  pub chip-taken : x .state .asleep ≡ false → x .state .wel ≡ true → x .state .bp ≡ 0 → 1 ≤ length out
-      → frameOf rec x (frame (0xC7 ∷ []) out) ≡ turned (x .page) out (eraseStarts rec (x .state) ErasesChip noAddress (0xC7 ∷ []))
-  unfolding acceptedOf decodeOf traitsOf headFor lengthOk
-  chip-taken a w p r =
-      taken rec x b (frame (0xC7 ∷ []) out) (lit≤ tt) (lit≤ tt) r
-      (tests refl (rw (eq-eqb (x .state .settle) 0 q)) (rw (eq-eqb (x .state .busy) 0 z)) (rw a) refl refl (rw w) refl (rw p))
+  pub chip-taken : x .state .asleep ≡ false → x .state .wel ≡ true → x .state .bp ≡ 0 → 1 ≤ length out → wornOut ErasesChip noAddress wear ≡ false
+      → frameOf rec x (frame (0xC7 ∷ []) wear out) ≡ worn (x .page) out (eraseStarts rec (x .state) ErasesChip noAddress wear (0xC7 ∷ []))
+  unfolding acceptedOf decodeOf traitsOf headFor lengthOk covered wornOut
+  chip-taken a w p r n =
+      taken rec x b (frame (0xC7 ∷ []) wear out) (lit≤ tt) (lit≤ tt) r k
+      (tests refl (rw (eq-eqb (x .state .settle) 0 q)) (rw (eq-eqb (x .state .busy) 0 z)) (rw a) refl refl (rw w) refl (rw p) n)
 
 -- ---- one call
 -- our model does not look at the calls seen
