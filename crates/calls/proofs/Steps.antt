@@ -1,7 +1,7 @@
 -- Laws of single calls of the model, and how calls compose. Assumes nothing.
 use mathlib.Core.Path.{_≡_, refl, sym, ap, subst, _∙_}
 use mathlib.Core.Bool.{Bool, true, false, not, _&&_, _||_, and-false, cond}
-use mathlib.Core.List.{List, [], _∷_, _++_}
+use mathlib.Core.List.{List, [], _∷_, _++_, append-assoc}
 use mathlib.Core.Logic.{⊎-elim}
 use Prim.Native.Nat.{ℕ, suc, _+_, _-_, _≤_, _<_}
 use native.Mathlib.Omega.{arith}
@@ -35,7 +35,7 @@ use Rattle.chip.specs.Frames.{Sent, headFor, headOf, acceptedOf, refusedOf, fra
 use Rattle.time.specs.Time.{Aftermath, later, waited, waitOf}
 use Rattle.time.proofs.Time.{Fit, fit-taken}
 use Rattle.operations.specs.Operations.{finished}
-use Rattle.calls.specs.Calls.{Call, sends, waits, cycles, cuts, ours, left, after, answer, run, answers, Bench, Roomy, Tabled, frame}
+use Rattle.calls.specs.Calls.{Call, sends, waits, cycles, cuts, ours, left, after, answer, run, answers, tables, Bench, Roomy, Tabled, frame}
 use Rattle.calls.proofs.Valid.{call-fine, call-length}
 
 -- a busy chip does not settle
@@ -243,10 +243,11 @@ after-any rec seen (waits us) x = refl
 after-any rec seen cycles x = refl
 after-any rec seen (cuts pattern) x = refl
 
--- a call on a bench, answered 0, that leaves a bench
-pub record Step (rec : Record) (c : Call) (x y : Chip) : Type 0 where
+-- a call on a bench, answered 0, that leaves a bench; and the wear table that it leaves, if it is a frame
+pub record Step (rec : Record) (c : Call) (x y : Chip) (ts : List (List ℕ)) : Type 0 where
   pub done : answer ours rec [] c x ≡ Done
   pub leads : after ours rec [] c x ≡ y
+  pub leaves : tables ours rec [] (c ∷ []) x ≡ ts
   pub bench : Bench rec y
 
 fit : {rec : Record} {x : Chip} → Bench rec x → Fit rec x
@@ -264,26 +265,26 @@ module _ (rec : Record) (x : Chip) (b : Bench rec x) where
       subst (Bench rec) e
       (record { right = b .right; whole = call-length rec [] c x ∙ b .whole; valid = valid rec _ (k .sound); page = k .page-data })
 
-  step : (c : Call) (y : Chip) → answer ours rec [] c x ≡ Done → after ours rec [] c x ≡ y → Step rec c x y
-  step c y d e = record { done = d; leads = e; bench = bench-next c y e }
+  step : (c : Call) (y : Chip) (ts : List (List ℕ)) → answer ours rec [] c x ≡ Done → after ours rec [] c x ≡ y → tables ours rec [] (c ∷ []) x ≡ ts → Step rec c x y ts
+  step c y ts d e w = record { done = d; leads = e; leaves = w; bench = bench-next c y e }
 
-  pub sends-to : (f : Sent) (e : Effect) → frameOf rec x f ≡ e → e .reply .answer ≡ Done → Step rec (sends f) x (left x e)
+  pub sends-to : (f : Sent) (e : Effect) → frameOf rec x f ≡ e → e .reply .answer ≡ Done → Step rec (sends f) x (left x e) (e .wear ∷ [])
   unfolding answer after
-  sends-to f e p d = step (sends f) (left x e) (ap (λ (g : Effect). g .reply .answer) p ∙ d) (ap (left x) p)
+  sends-to f e p d = step (sends f) (left x e) (e .wear ∷ []) (ap (λ (g : Effect). g .reply .answer) p ∙ d) (ap (left x) p) (ap (λ (g : Effect). g .wear ∷ []) p)
 
   -- to a chip that the wait is known to lead to
-  pub waits-to : (us : ℕ) (y : Chip) → waited (rec .model) x us ≡ y → Step rec (waits us) x y
+  pub waits-to : (us : ℕ) (y : Chip) → waited (rec .model) x us ≡ y → Step rec (waits us) x y []
   unfolding answer after
   waits-to us y e =
       let k = wait-taken rec x us b in
-      step (waits us) y (ap (λ (f : Aftermath). f .answer) k) (ap (λ (f : Aftermath). f .chip) k ∙ e)
+      step (waits us) y [] (ap (λ (f : Aftermath). f .answer) k) (ap (λ (f : Aftermath). f .chip) k ∙ e) refl
 
   -- a wait that does not run the time out, and one that does
-  pub waits-on : (us : ℕ) → (eqb (x .state .busy) 0 || ltb us (x .state .busy)) ≡ true → Step rec (waits us) x (chipOf (later (x .state) us) (x .page) (x .cells))
+  pub waits-on : (us : ℕ) → (eqb (x .state .busy) 0 || ltb us (x .state .busy)) ≡ true → Step rec (waits us) x (chipOf (later (x .state) us) (x .page) (x .cells)) []
   unfolding waited
   waits-on us t = waits-to us _ (rw t)
 
-  pub waits-out : (us : ℕ) → (eqb (x .state .busy) 0 || ltb us (x .state .busy)) ≡ false → Step rec (waits us) x (finished (rec .model) x)
+  pub waits-out : (us : ℕ) → (eqb (x .state .busy) 0 || ltb us (x .state .busy)) ≡ false → Step rec (waits us) x (finished (rec .model) x) []
   unfolding waited
   waits-out us t = waits-to us _ (rw t)
 
@@ -293,21 +294,22 @@ pub run-bench : (rec : Record) (seen cs : List Call) (x : Chip) → Bench rec x 
 run-bench rec seen [] x b = b
 run-bench rec seen (c ∷ cs) x b = run-bench rec (c ∷ seen) cs (after ours rec seen c x) (bench-next rec x b c _ (sym (after-any rec seen c x)))
 
--- a list of calls, each answered 0, and where it leads
-pub data Goes (rec : Record) : List Call → Chip → Chip → Type 0 where
-  ends : {x : Chip} → Goes rec [] x x
-  goes : {c : Call} {cs : List Call} {x y w : Chip} → Step rec c x y → Goes rec cs y w → Goes rec (c ∷ cs) x w
+-- a list of calls, each answered 0, where it leads, and the wear tables that its frames leave
+pub data Goes (rec : Record) : List Call → Chip → Chip → List (List ℕ) → Type 0 where
+  ends : {x : Chip} → Goes rec [] x x []
+  goes : {c : Call} {cs : List Call} {x y w : Chip} {ts us : List (List ℕ)} → Step rec c x y ts → Goes rec cs y w us → Goes rec (c ∷ cs) x w (ts ++ us)
 
-pub goes-on : {rec : Record} {cs ds : List Call} {x y w : Chip} → Goes rec cs x y → Goes rec ds y w → Goes rec (cs ++ ds) x w
+pub goes-on : {rec : Record} {cs ds : List Call} {x y w : Chip} {ts us : List (List ℕ)} → Goes rec cs x y ts → Goes rec ds y w us → Goes rec (cs ++ ds) x w (ts ++ us)
 goes-on ends h = h
-goes-on (goes a g) h = goes a (goes-on g h)
+goes-on {rec} {ds = ds} {w = v} {us = vs} (goes {c} {cs} {x} {ts = ts} {us = us} a g) h =
+    subst (λ (all : List (List ℕ)). Goes rec (c ∷ (cs ++ ds)) x v all) (sym (append-assoc ts us vs)) (goes a (goes-on g h))
 
-pub goes-run : {rec : Record} {cs : List Call} {x w : Chip} (seen : List Call) → Goes rec cs x w → run ours rec seen cs x ≡ w
+pub goes-run : {rec : Record} {cs : List Call} {x w : Chip} {ts : List (List ℕ)} (seen : List Call) → Goes rec cs x w ts → run ours rec seen cs x ≡ w
 goes-run seen ends = refl
 goes-run {rec} seen (goes {c} {cs} {x} a g) = ap (run ours rec (c ∷ seen) cs) (after-any rec seen c x ∙ a .leads) ∙ goes-run (c ∷ seen) g
 
 -- the answers of the calls, and of one more
-pub goes-then : {rec : Record} {cs : List Call} {x w : Chip} (seen : List Call) (k : Call) → Goes rec cs x w
+pub goes-then : {rec : Record} {cs : List Call} {x w : Chip} {ts : List (List ℕ)} (seen : List Call) (k : Call) → Goes rec cs x w ts
     → answers ours rec seen (cs ++ (k ∷ [])) x ≡ replicate (length cs) Done ++ (answer ours rec [] k w ∷ [])
 goes-then {rec} seen k (ends {x}) = ap (λ (a : Answer). a ∷ []) (answer-any rec seen k x)
 goes-then {rec} seen k (goes {c} {cs} {x} a g) =
@@ -315,10 +317,26 @@ goes-then {rec} seen k (goes {c} {cs} {x} a g) =
     ∙ ap (λ (y : Chip). Done ∷ answers ours rec (c ∷ seen) (cs ++ (k ∷ [])) y) (after-any rec seen c x ∙ a .leads)
     ∙ ap (λ (ds : List Answer). Done ∷ ds) (goes-then (c ∷ seen) k g)
 
-pub goes-answers : {rec : Record} {cs : List Call} {x w : Chip} (seen : List Call) → Goes rec cs x w
+pub goes-answers : {rec : Record} {cs : List Call} {x w : Chip} {ts : List (List ℕ)} (seen : List Call) → Goes rec cs x w ts
     → answers ours rec seen cs x ≡ replicate (length cs) Done
 goes-answers seen ends = refl
 goes-answers {rec} seen (goes {c} {cs} {x} a g) =
     ap (λ (d : Answer). d ∷ answers ours rec (c ∷ seen) cs (after ours rec seen c x)) (answer-any rec seen c x ∙ a .done)
     ∙ ap (λ (y : Chip). Done ∷ answers ours rec (c ∷ seen) cs y) (after-any rec seen c x ∙ a .leads)
     ∙ ap (λ (ds : List Answer). Done ∷ ds) (goes-answers (c ∷ seen) g)
+
+-- the wear tables of the calls: of one, and of those after it
+tables-cons : (rec : Record) (seen cs : List Call) (c : Call) (x : Chip)
+    → tables ours rec seen (c ∷ cs) x ≡ tables ours rec [] (c ∷ []) x ++ tables ours rec (c ∷ seen) cs (after ours rec seen c x)
+tables-cons rec seen cs (sends f) x = refl
+tables-cons rec seen cs (waits us) x = refl
+tables-cons rec seen cs cycles x = refl
+tables-cons rec seen cs (cuts pattern) x = refl
+
+pub goes-tables : {rec : Record} {cs : List Call} {x w : Chip} {ts : List (List ℕ)} (seen : List Call) → Goes rec cs x w ts → tables ours rec seen cs x ≡ ts
+goes-tables seen ends = refl
+goes-tables {rec} seen (goes {c} {cs} {x} {y} {w} {ts} {us} a g) =
+    tables-cons rec seen cs c x
+    ∙ ap (λ (one : List (List ℕ)). one ++ tables ours rec (c ∷ seen) cs (after ours rec seen c x)) (a .leaves)
+    ∙ ap (λ (z : Chip). ts ++ tables ours rec (c ∷ seen) cs z) (after-any rec seen c x ∙ a .leads)
+    ∙ ap (λ (rest : List (List ℕ)). ts ++ rest) (goes-tables (c ∷ seen) g)
