@@ -1,5 +1,5 @@
 -- What holds of an accepted frame and of a refused one holds of every frame. Assumes nothing.
-use mathlib.Core.Path.{_≡_, refl, subst}
+use mathlib.Core.Path.{_≡_, refl, subst, ap, _∙_}
 use mathlib.Core.Bool.{Bool, true, false, cond}
 use Prim.Native.Nat.{_+_, _≤_}
 use native.Mathlib.Omega.{arith}
@@ -14,12 +14,14 @@ use Rattle.effects.specs.Effects.{Effect, refusalLeaves}
 use Rattle.chip.specs.Frames.{Sent, Ready, headFor, headOf, acceptedOf, refusedOf, frameOf, wornBy}
 use Rattle.chip.specs.Driven.{drivenBytes, foldOf}
 use Rattle.models.specs.Models.{modelOf}
-use Rattle.commands.specs.Commands.{traitsOf, lengthOk}
+use Rattle.commands.specs.Commands.{traitsOf, lengthOk, operationOf}
 use Rattle.commands.specs.declared.Command.{Command}
 use Rattle.commands.proofs.Rows.{write-length}
 use Rattle.states.specs.States.{Chip}
 use Rattle.chip.proofs.Ready.{arrived}
-use Rattle.chip.proofs.Sorts.{Asked, Move, Kind, kind, leaves, within}
+use Rattle.chip.proofs.Sorts.{Asked, Move, Kind, kind, leaves, within, is-done, table-after}
+use Rattle.counts.specs.Counts.{covered, counted, InTable, totalOf}
+use Rattle.counts.proofs.Laws.{in-table, total-counted}
 
 module _ (rec : Record) (x : Chip) (f : Sent) where
   abbrev pub head : Head
@@ -68,3 +70,21 @@ module _ (rec : Record) (x : Chip) (f : Sent) where
   -- what is driven lies in the frame
   pub frame-within : frameOf rec x f .reply .from + frameOf rec x f .reply .count ≤ length (f .bytes)
   frame-within = frame-cases (λ (e : Effect). e .reply .from + e .reply .count ≤ length (f .bytes)) (λ e. within sort) (λ e. omega arith)
+
+  -- the wear table after any frame
+  pub table-frame : frameOf rec x f .wear ≡ cond (isDone (frameOf rec x f .reply .answer)) (counted (operationOf (head .command)) (head .address .0) (f .wear)) (f .wear)
+  table-frame =
+      frame-cases (λ (e : Effect). e .wear ≡ cond (isDone (e .reply .answer)) (counted (operationOf (head .command)) (head .address .0) (f .wear)) (f .wear))
+      (λ d. rw (is-done sort) (table-after rec x (head .address) (f .bytes) (f .wear) (f .out) (head .command))) (λ d. rw d)
+
+  -- an accepted frame covers only sectors of the table
+  pub covers : isDone refusal ≡ true → InTable (operationOf (head .command)) (head .address .0) (f .wear)
+  covers e = let r = shown-ready e in in-table (rec .model) (operationOf (head .command)) (head .address .0) (f .wear) (r .table) (omega (arith, r .inside, r .whole))
+
+  -- the sum after any frame
+  pub total-frame : totalOf (frameOf rec x f .wear)
+      ≡ totalOf (f .wear) + cond (isDone (frameOf rec x f .reply .answer)) (covered (operationOf (head .command)) (head .address .0) (length (f .wear)) .count) 0
+  total-frame =
+      frame-cases (λ (e : Effect). totalOf (e .wear) ≡ totalOf (f .wear) + cond (isDone (e .reply .answer)) (covered (operationOf (head .command)) (head .address .0) (length (f .wear)) .count) 0)
+      (λ d. rw (is-done sort) (ap totalOf (table-after rec x (head .address) (f .bytes) (f .wear) (f .out) (head .command)) ∙ total-counted (operationOf (head .command)) (head .address .0) (f .wear) (covers d)))
+      (λ d. rw d (omega arith))

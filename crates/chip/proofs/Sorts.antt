@@ -20,7 +20,7 @@ use Rattle.rings.specs.Ring.{ring}
 use Rattle.answers.specs.Answers.{isDone, saysProtected}
 use Rattle.commands.specs.Commands.{decodeOf, traitsOf, mostWritten, operationOf, startedBy}
 use Rattle.commands.specs.declared.Operation.{Operation}
-use Rattle.commands.specs.declared.Operation.the-variants.{WritesStatus, Programs, ErasesSector, ErasesHalf, ErasesBlock, ErasesChip}
+use Rattle.commands.specs.declared.Operation.the-variants.{WritesStatus, Programs, ErasesSector, ErasesHalf, ErasesBlock, ErasesChip, Idle}
 use Rattle.states.specs.States.{recordOk, statusOf, longestSettle, operationTime, placeOk, usedBytes, noAddress, blankPage, Chip}
 use Rattle.states.specs.declared.Record.{Record}
 use Rattle.states.specs.declared.State.{State}
@@ -30,10 +30,11 @@ use Rattle.commands.specs.declared.Command.{Command}
 use Rattle.commands.specs.declared.Command.the-variants.{WriteEnable, WriteDisable, ReadStatus, ReadConfig, WriteStatus, Read, FastRead, EraseSector, EraseHalf, EraseBlock, EraseChip, Program, ReadId, Wake, ReadMaker, Sleep, Unknown}
 use Rattle.commands.proofs.Rows.{half-only-3}
 use Rattle.states.proofs.States.{sleep-le, wake-le, sign-le, times, half-some}
-use Rattle.counts.specs.Counts.{counted}
+use Rattle.counts.specs.Counts.{counted, covered, sectors}
 use Rattle.effects.specs.Effects.{Effect, stateOnly, turned, worn, drives, folding, latched, dozing, starting, refusalLeaves, writeEnable, writeDisable, writeStatus, eraseStarts, sleep, idBytes, makerBytes, readStatus, readConfig, readFrom, programPage, readId, wakingTime, wake, readMaker}
 use Rattle.chip.specs.Frames.{acceptedOf}
 use Rattle.chip.specs.Driven.{drivenBytes, foldOf}
+use Rattle.counts.proofs.Laws.{uncounted, all-counted}
 
 -- ---- how the state moves, and what a command that moves it so has been asked
 -- what the refusals 22, 11, 12, 14 and 15 have shown, and that the address is the array's
@@ -261,3 +262,28 @@ module _ {rec : Record} {x : Chip} {c : Command} {at : Address} {bytes wear out 
   notes (turns t m) = refl
   notes (drove t from ys m) = refl
   notes (begins op t page after fold m) = refl
+
+-- ---- the wear table of an accepted frame: the counts of the sectors that its operation covers are one more; only an erase covers any
+module _ (rec : Record) (x : Chip) (at : Address) (bytes wear out : List ℕ) where
+  none : (op : Operation) → covered op (at .0) (length wear) ≡ sectors 0 0 → wear ≡ counted op (at .0) wear
+  none op e = sym (uncounted op (at .0) wear e)
+
+  pub table-after : (c : Command) → acceptedOf rec x c at bytes wear out .wear ≡ counted (operationOf c) (at .0) wear
+  unfolding acceptedOf covered eraseStarts
+  table-after WriteEnable = none Idle refl
+  table-after WriteDisable = none Idle refl
+  table-after ReadStatus = none Idle refl
+  table-after ReadConfig = none Idle refl
+  table-after WriteStatus = none WritesStatus refl
+  table-after Read = none Idle refl
+  table-after FastRead = none Idle refl
+  table-after EraseSector = refl
+  table-after EraseHalf = refl
+  table-after EraseBlock = refl
+  table-after EraseChip = all-counted noAddress (at .0) wear
+  table-after Program = none Programs refl
+  table-after ReadId = none Idle refl
+  table-after Wake = none Idle refl
+  table-after ReadMaker = none Idle refl
+  table-after Sleep = none Idle refl
+  table-after Unknown = none Idle refl

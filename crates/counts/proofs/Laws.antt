@@ -145,3 +145,8 @@ total-counted op place wear l =
     let more : totalOf (raised ys) ≡ totalOf ys + length ys = total-raised 0 ys in
     let raise = rw m at up in
     omega (arith, raise, was, back, more, n)
+
+-- an erase of the chip has no address
+pub all-counted : (p q : ℕ) (wear : List ℕ) → counted ErasesChip p wear ≡ counted ErasesChip q wear
+unfolding counted covered
+all-counted p q wear = refl

@@ -45,10 +45,10 @@ use Rattle.time.proofs.Time.{chip-fits, fit-taken, ready, cuttable}
 use Rattle.chip.specs.Frames.{headFor, refusedOf, Sent, frameOf}
 use Rattle.chip.specs.Driven.{drivenBytes, foldOf}
 use Rattle.chip.proofs.Sorts.{is-done, notes, counts, moves, Move, stays, latches, dozes, Turn, moved, begun}
-use Rattle.chip.proofs.Cases.{head, refusal, frame-cases, sort, shown-asked, refused-moves}
+use Rattle.chip.proofs.Cases.{head, refusal, frame-cases, sort, shown-asked, refused-moves, table-frame}
 use Rattle.calls.specs.Calls.{sends, waits, cycles, cuts, after, Bench}
 use Rattle.calls.proofs.Steps.{wait-taken, waits-to, refused-frame}
-use Rattle.promises.specs.Laws.{WaitsAdd, RefusedFrame, RefusedWait, RefusedCut, RefusedCycle, unit, OnlyItsUnit, CutsOnlyItsUnit, ProgramFalls, NotBefore, unitCells, PatternOld, PatternFinished, OneOutcome, OneEffect, OneEnd, OneCycle, NumberFixed, FoldNoted, RefusalKeeps, RefusalClears, LatchFalls, TbStays, among, settlingNumbers, SettlingAnswers, SettlingStays}
+use Rattle.promises.specs.Laws.{WaitsAdd, RefusedFrame, RefusedWait, RefusedCut, RefusedCycle, unit, OnlyItsUnit, CutsOnlyItsUnit, ProgramFalls, NotBefore, unitCells, PatternOld, PatternFinished, OneOutcome, OneEffect, OneEnd, OneCycle, NumberFixed, FoldNoted, RefusalKeeps, RefusalClears, LatchFalls, TbStays, among, settlingNumbers, SettlingAnswers, SettlingStays, WearCounted}
 
 -- ---- waits
 -- both waits run the time out exactly where their sum does
@@ -397,3 +397,7 @@ pub fold-noted : FoldNoted
 fold-noted rec x f =
     frame-cases rec x f (λ (e : Effect). e .reply .fold ≡ (isDone (e .reply .answer) && foldOf (head rec x f .command) (head rec x f .address) (length (f .bytes))))
     (λ d. let k = sort rec x f in rw (is-done k) (notes k)) (λ d. rw d)
+
+-- ---- the wear table
+pub wear-counted : WearCounted
+wear-counted rec x f = table-frame rec x f

@@ -1,13 +1,13 @@
 -- Laws of the model that are worth having in their own right. Assumes nothing.
 use mathlib.Core.Path.{_≡_}
-use mathlib.Core.Bool.{Bool, false, true, _&&_, _||_}
+use mathlib.Core.Bool.{Bool, false, true, _&&_, _||_, cond}
 use mathlib.Core.List.{List, [], _∷_}
 use mathlib.Core.Logic.{_⊎_}
 use Prim.Native.Nat.{ℕ, _+_, _≤_, _<_}
 use lib.Dec.{eqb}
 use lib.ListN.{length, getD}
 use Rattle.models.specs.Models.{modelOf}
-use Rattle.commands.specs.Commands.{decodeOf}
+use Rattle.commands.specs.Commands.{decodeOf, operationOf}
 use Rattle.cells.specs.Cell.{bit}
 use Rattle.answers.specs.Answers.{numberOf, isDone}
 use Rattle.answers.specs.declared.Answer.{Answer}
@@ -16,6 +16,7 @@ use Rattle.states.specs.declared.Record.{Record}
 use Rattle.states.specs.declared.State.{State}
 use Rattle.commands.specs.declared.Operation.the-variants.{Programs}
 use Rattle.parts.specs.Parts.{part}
+use Rattle.counts.specs.Counts.{counted}
 use Rattle.effects.specs.declared.Reply.{Reply}
 use Rattle.time.specs.declared.After.{After}
 use Rattle.effects.specs.Effects.{Gives, latched, refusalLeaves, stateOnly}
@@ -123,6 +124,13 @@ PatternFinished =
     (rec : Record) (x : Chip)
     → (let done : List ℕ = finished (rec .model) x .cells in
     isDone (powerCutOf rec x (unitCells rec x done) .answer) ≡ true → powerCutOf rec x (unitCells rec x done) .chip .cells ≡ done)
+
+-- the wear table after a frame: one that is taken counts the sectors that its operation covers, and every other leaves the table
+abbrev pub WearCounted : Type 0
+WearCounted =
+    (rec : Record) (x : Chip) (f : Sent)
+    → (let h : Head = headOf rec x f in
+    frameOf rec x f .wear ≡ cond (isDone (frameOf rec x f .reply .answer)) (counted (operationOf (h .command)) (h .address .0) (f .wear)) (f .wear))
 
 -- no second answer satisfies a promise. Every promise of the crates below is an equation with a definition, `Gives` or `Ends`.
 abbrev pub OneOutcome : Type 1
