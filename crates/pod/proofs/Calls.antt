@@ -12,6 +12,7 @@ use borrow.Rule.Slice.PartMut.{midOf, putMid}
 use Rattle.models.specs.Models.{modelOf}
 use Rattle.answers.specs.Answers.{numberOf, isDone, saysProtected}
 use Rattle.answers.specs.declared.Answer.{Answer}
+use Rattle.answers.specs.declared.Answer.the-variants.{BadRecord}
 use Rattle.states.specs.States.{flag, recordOk, stateOk, pageOk, Chip, chipOf}
 use Rattle.states.specs.declared.Record.{Record}
 use Rattle.states.specs.declared.State.{State}
@@ -21,10 +22,11 @@ use Rattle.effects.specs.Effects.{Gives}
 use Rattle.chip.specs.Frames.{Sent, headFor, frameOf}
 use Rattle.time.specs.declared.After.{After}
 use Rattle.time.specs.Time.{waited, cutOff, chipRefusal, powerRefusal, cutRefusal, Aftermath, unless, waitOf, powerOf, powerCutOf, Ends}
-use Rattle.pod.specs.Packing.{packed, pageIn, isPacking, unpackOf}
-use Rattle.pod.specs.Calls.{chipIn, bytesRefusal, mayMove, keptOf, called, calledFrame, altered, alteredOf, calledWait, calledCut, answered, calledCycle, Leaves, Alters, Answers, Packs}
-use Rattle.pod.proofs.Status.{flag-byte}
-use Rattle.pod.proofs.Valid.{invalid, Keeps, frame-keeps, chip-spared, power-spared, wait-keeps, cut-keeps, cycle-keeps}
+use Rattle.packing.specs.Packing.{packed, pageIn, isPacking, unpackOf}
+use Rattle.pod.specs.Calls.{chipIn, cellsRefusal, bytesRefusal, mayMove, keptOf, called, calledFrame, altered, alteredOf, calledWait, calledCut, answered, calledCycle, Leaves, Alters, Answers, Packs}
+use Rattle.packing.proofs.Status.{flag-byte}
+use Rattle.packing.proofs.Valid.{invalid}
+use Rattle.pod.proofs.Valid.{Keeps, frame-keeps, chip-spared, power-spared, wait-keeps, cut-keeps, cycle-keeps}
 
 -- ---- the page data are lent, and what comes back stands in their place
 module _ (xs : List ℕ) (n : length xs ≡ 272) where
@@ -209,22 +211,61 @@ unfit-cycle rec xs u = go (recordOk rec) refl
     go true e = rw (e, u)
     go false e = rw e
 
--- what is no packing is refused before it is unpacked
-module _ (rec : Record) (xs cells : List ℕ) (n : isPacking xs ≡ false) {r : Record} {m : ℕ} (re : r ≡ rec) (e : m ≡ bytesRefusal r (length cells)) where
-  same-number : m ≡ bytesRefusal rec (length cells)
-  same-number = rw re at e
+-- a record that is not right is refused before anything else is looked at
+module _ (rec : Record) (xs : List ℕ) {r : Record} (re : r ≡ rec) (b : recordOk r ≡ false) where
+  bad : recordOk rec ≡ false
+  bad = sym (ap recordOk re) ∙ b
 
-  pub bad-bytes-frame : (f : Sent) → Leaves (calledFrame rec xs cells f) m xs (f .out) 0 0 0
-  bad-bytes-frame f =
-      rw (unfit-frame rec xs cells (no-packing rec xs n) f) (record { number-is = same-number; state-is = refl; out-is = refl; from-is = refl; count-is = refl; fold-is = refl })
+  record-frame : (cells : List ℕ) (f : Sent) → calledFrame rec xs cells f ≡ called 1 xs (f .out) 0 0 0
+  unfolding calledFrame frameOf refusalOf headFor keptOf
+  record-frame cells f = rw bad
 
-  pub bad-bytes-wait : (us : ℕ) → Alters (calledWait rec xs cells us) m xs cells
-  bad-bytes-wait us = rw (unfit-wait rec xs cells (no-packing rec xs n) us) (record { number-is = same-number; state-is = refl; cells-are = refl })
+  record-chip : (cells : List ℕ) → chipRefusal rec (chipIn xs cells) ≡ BadRecord
+  unfolding chipRefusal
+  record-chip cells = rw bad
 
-  pub bad-bytes-cut : (pattern : List ℕ) → Alters (calledCut rec xs cells pattern) m xs cells
-  bad-bytes-cut pattern = rw (unfit-cut rec xs cells (no-packing rec xs n) pattern) (record { number-is = same-number; state-is = refl; cells-are = refl })
+  record-wait : (cells : List ℕ) (us : ℕ) → calledWait rec xs cells us ≡ altered 1 xs cells
+  unfolding calledWait waitOf
+  record-wait cells us = rw (record-chip cells) (refused-altered xs cells BadRecord (waited (rec .model) (chipIn xs cells) us) refl refl)
 
-pub bad-bytes-cycle : (rec : Record) (xs : List ℕ) {r : Record} (l : Bool) → r ≡ rec → isPacking xs ≡ false → recordOk r ≡ l → Answers (calledCycle rec xs) (cond l 3 1) xs
-bad-bytes-cycle rec xs {r} l re n k =
-    let c = unfit-cycle rec xs (no-packing rec xs n) ∙ ap (λ (t : Bool). answered (cond t 3 1) xs) (ap recordOk (sym re) ∙ k) in
-    rw c (record { number-is = refl; state-is = refl })
+  record-cut : (cells pattern : List ℕ) → calledCut rec xs cells pattern ≡ altered 1 xs cells
+  unfolding calledCut powerCutOf cutRefusal
+  record-cut cells pattern = rw (record-chip cells) (refused-altered xs cells BadRecord (cutOff (rec .model) (chipIn xs cells) pattern) refl refl)
+
+  record-cycle : calledCycle rec xs ≡ answered 1 xs
+  unfolding calledCycle powerOf powerRefusal keptOf
+  record-cycle = rw bad
+
+  pub bad-record-frame : (cells : List ℕ) (f : Sent) → Leaves (calledFrame rec xs cells f) 1 xs (f .out) 0 0 0
+  bad-record-frame cells f = rw (record-frame cells f) (record { number-is = refl; state-is = refl; out-is = refl; from-is = refl; count-is = refl; fold-is = refl })
+
+  pub bad-record-wait : (cells : List ℕ) (us : ℕ) → Alters (calledWait rec xs cells us) 1 xs cells
+  bad-record-wait cells us = rw (record-wait cells us) (record { number-is = refl; state-is = refl; cells-are = refl })
+
+  pub bad-record-cut : (cells pattern : List ℕ) → Alters (calledCut rec xs cells pattern) 1 xs cells
+  bad-record-cut cells pattern = rw (record-cut cells pattern) (record { number-is = refl; state-is = refl; cells-are = refl })
+
+  pub bad-record-cycle : Answers (calledCycle rec xs) 1 xs
+  bad-record-cycle = rw record-cycle (record { number-is = refl; state-is = refl })
+
+-- under a right one what is no packing is refused before it is unpacked
+module _ (rec : Record) (xs : List ℕ) (n : isPacking xs ≡ false) {r : Record} (re : r ≡ rec) (k : recordOk r ≡ true) where
+  good : recordOk rec ≡ true
+  good = sym (ap recordOk re) ∙ k
+
+  module _ (cells : List ℕ) {m : ℕ} (e : m ≡ cellsRefusal (r .model) (length cells)) where
+    same-number : m ≡ bytesRefusal rec (length cells)
+    same-number = rw good (e ∙ ap (λ (x : Record). cellsRefusal (x .model) (length cells)) re)
+
+    pub bad-bytes-frame : (f : Sent) → Leaves (calledFrame rec xs cells f) m xs (f .out) 0 0 0
+    bad-bytes-frame f =
+        rw (unfit-frame rec xs cells (no-packing rec xs n) f) (record { number-is = same-number; state-is = refl; out-is = refl; from-is = refl; count-is = refl; fold-is = refl })
+
+    pub bad-bytes-wait : (us : ℕ) → Alters (calledWait rec xs cells us) m xs cells
+    bad-bytes-wait us = rw (unfit-wait rec xs cells (no-packing rec xs n) us) (record { number-is = same-number; state-is = refl; cells-are = refl })
+
+    pub bad-bytes-cut : (pattern : List ℕ) → Alters (calledCut rec xs cells pattern) m xs cells
+    bad-bytes-cut pattern = rw (unfit-cut rec xs cells (no-packing rec xs n) pattern) (record { number-is = same-number; state-is = refl; cells-are = refl })
+
+  pub bad-bytes-cycle : Answers (calledCycle rec xs) 3 xs
+  bad-bytes-cycle = rw (unfit-cycle rec xs (no-packing rec xs n), good) (record { number-is = refl; state-is = refl })

@@ -13,25 +13,17 @@ use Rattle.answers.specs.declared.Answer.{Answer}
 use Rattle.states.specs.States.{stateOk, pageOk, chipOf}
 use Rattle.states.specs.declared.Record.{Record}
 use Rattle.states.specs.declared.State.{State}
-use Rattle.states.proofs.States.{page-length}
 use Rattle.effects.specs.Effects.{refusalLeaves}
 use Rattle.effects.proofs.Replies.{leaves-latch, clears-latch}
 use Rattle.chip.specs.Frames.{Sent, frameOf}
 use Rattle.time.specs.Time.{waited, cutOff, chipRefusal, powerRefusal, cutRefusal, waitOf, powerOf, powerCutOf}
-use Rattle.pod.specs.Packing.{packed, pageIn, unpackOf}
+use Rattle.packing.specs.Packing.{packed, pageIn, unpackOf}
 use Rattle.pod.specs.Calls.{chipIn, mayMove, keptOf, called, calledOf, calledFrame, calledWait, calledCut, calledCycle}
-use Rattle.pod.specs.Promises.{UnpacksPacked, PacksUnpacked, NoPacking, FrameRefusesBytes, WaitRefusesBytes, CutRefusesBytes, CycleRefusesBytes, RefusedFrameStays, RefusedFrameClears, RefusedWaitStays, RefusedCutStays, RefusedCycleStays, FrameCarries, WaitCarries, CutCarries, CycleCarries, OneCalled, OneAltered, OneAnswered}
-use Rattle.pod.proofs.Packing.{page-packed, pack-unpack, unpack-pack}
-use Rattle.pod.proofs.Valid.{valid-packing, valid-small, Keeps, frame-keeps, refused, wait-keeps, cut-keeps, cycle-keeps, chip-spared, cut-spared}
+use Rattle.pod.specs.Promises.{NoPacking, FrameRefusesBytes, WaitRefusesBytes, CutRefusesBytes, CycleRefusesBytes, RefusedFrameStays, RefusedFrameClears, RefusedWaitStays, RefusedCutStays, RefusedCycleStays, FrameCarries, WaitCarries, CutCarries, CycleCarries, OneCalled, OneAltered, OneAnswered}
+use Rattle.packing.proofs.Packing.{page-packed, pack-unpack, unpack-pack}
+use Rattle.packing.proofs.Valid.{valid-packing}
+use Rattle.pod.proofs.Valid.{Keeps, frame-keeps, refused, wait-keeps, cut-keeps, cycle-keeps, chip-spared, cut-spared}
 use Rattle.pod.proofs.Calls.{Unfit, unfit-frame, unfit-wait, unfit-cut, unfit-cycle, refused-altered, refused-answered}
-
--- ---- packing and unpacking
-pub unpacks-packed : UnpacksPacked
-unpacks-packed s page v =
-    (unpack-pack s page (valid-small (v .rec) s (v .right) (v .valid)) (page-length (v .rec .model) s page (v .fits)), page-packed s page)
-
-pub packs-unpacked : PacksUnpacked
-packs-unpacked xs v = pack-unpack xs (valid-packing (v .rec) xs (v .valid))
 
 -- ---- what is no packing
 unfit : (rec : Record) (xs : List ℕ) → NoPacking rec xs → Unfit rec xs

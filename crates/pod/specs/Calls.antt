@@ -15,7 +15,7 @@ use Rattle.time.specs.declared.After.{After}
 use Rattle.effects.specs.Effects.{Effect}
 use Rattle.chip.specs.Frames.{Sent, sentOf, frameOf}
 use Rattle.time.specs.Time.{Aftermath, waitOf, powerOf, powerCutOf}
-use Rattle.pod.specs.Packing.{packed, pageIn, unpackOf}
+use Rattle.packing.specs.Packing.{packed, pageIn, unpackOf}
 
 -- the record of ten numbers
 abbrev pub recordOf : ℕ → ℕ → ℕ → ℕ → ℕ → ℕ → ℕ → ℕ → ℕ → ℕ → Record
@@ -27,8 +27,11 @@ abbrev pub chipIn : List ℕ → List ℕ → Chip
 chipIn state cells = chipOf (unpackOf state) (pageIn state) cells
 
 -- what bytes that pack no valid state are answered: the first of 1, 2 and 3 that applies, n being the array's length
+abbrev pub cellsRefusal : ℕ → ℕ → ℕ
+cellsRefusal model n = cond (eqb n (modelOf model .length)) 3 2
+
 abbrev pub bytesRefusal : Record → ℕ → ℕ
-bytesRefusal rec n = cond (recordOk rec) (cond (eqb n (modelOf (rec .model) .length)) 3 2) 1
+bytesRefusal rec n = cond (recordOk rec) (cellsRefusal (rec .model) n) 1
 
 -- the answers after which the state may differ: 0, and 17 where it clears WEL
 abbrev pub mayMove : Answer → Bool

@@ -1,4 +1,4 @@
--- What is shown of the packing and of the calls; proofs/Promises.antt proves each under its name in small letters. Assumes nothing.
+-- What is shown of the calls; proofs/Promises.antt proves each under its name in small letters. Assumes nothing.
 use mathlib.Core.Bool.{true, false, cond}
 use mathlib.Core.List.{List}
 use mathlib.Core.Logic.{_⊎_}
@@ -12,21 +12,8 @@ use Rattle.states.specs.declared.State.{State}
 use Rattle.effects.specs.Effects.{latched}
 use Rattle.chip.specs.Frames.{Sent, frameOf}
 use Rattle.time.specs.Time.{waitOf, powerOf, powerCutOf}
-use Rattle.pod.specs.Packing.{packed, pageIn, unpackOf}
+use Rattle.packing.specs.Packing.{packed, pageIn, unpackOf}
 use Rattle.pod.specs.Calls.{chipIn, bytesRefusal, Called, Altered, Answered, called, altered, answered, calledFrame, calledWait, calledCut, calledCycle, Leaves, Alters, Answers}
-
--- ---- packing and unpacking are inverse on the states and page data that some record makes valid
-pub record Valid (s : State) (page : List ℕ) : Type 0 where
-  pub rec : Record
-  pub right : recordOk rec ≡ true
-  pub valid : stateOk rec s ≡ true
-  pub fits : pageOk (rec .model) s page ≡ true
-
-abbrev pub UnpacksPacked : Type 0
-UnpacksPacked = (s : State) (page : List ℕ) → Valid s page → (unpackOf (packed s page) ≡ s) × (pageIn (packed s page) ≡ page)
-
-abbrev pub PacksUnpacked : Type 0
-PacksUnpacked = (xs : List ℕ) → Valid (unpackOf xs) (pageIn xs) → packed (unpackOf xs) (pageIn xs) ≡ xs
 
 -- ---- bytes that pack no state and page data valid under the record are refused, by the first of 1, 2 and 3 that applies; a power cycle has no 2
 abbrev pub NoPacking : Record → List ℕ → Type 0

@@ -65,9 +65,13 @@ waitOf rec x us = unless (chipRefusal rec x) x (waited (rec .model) x us)
 unfoldable pub powerCutOf : Record → Chip → List ℕ → Aftermath
 powerCutOf rec x pattern = unless (cutRefusal rec x pattern) x (cutOff (rec .model) x pattern)
 
+-- what a function returns
+abbrev pub afterOf : Answer → State → After
+afterOf a s = record { answer = a; state = s }
+
 -- a power cycle leaves page data and array alone
 unfoldable pub powerOf : Record → State → List ℕ → After
-powerOf rec s page = let a : Answer = powerRefusal rec s page in record { answer = a; state = cond (isDone a) (cycled s) s }
+powerOf rec s page = let a : Answer = powerRefusal rec s page in afterOf a (cond (isDone a) (cycled s) s)
 
 -- what a function's result and its lent buffers at exit have to be
 pub record Ends (o : Aftermath) (r : After) (page cells : List ℕ) : Type 0 where

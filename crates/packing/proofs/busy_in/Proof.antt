@@ -1,8 +1,8 @@
--- `pod::busy_in` meets its contract. Assumes nothing.
+-- `packing::busy_in` meets its contract. Assumes nothing.
 use borrow.Author.Needs.{needs}
-use Rattle.pod.proofs.Packing.{timed}
-use Rattle.pod.proofs.busy_in.Statement.{statement}
-use Rattle.pod.proofs.busy_in.Tie as tie
+use Rattle.packing.proofs.Packing.{timed}
+use Rattle.packing.proofs.busy_in.Statement.{statement}
+use Rattle.packing.proofs.busy_in.Tie as tie
 
 returns : tie.Need-returns
 returns c = timed _ (c .time-of .ensures)

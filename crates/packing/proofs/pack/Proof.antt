@@ -1,11 +1,11 @@
--- `pod::pack` meets its contract. Assumes nothing.
+-- `packing::pack` meets its contract. Assumes nothing.
 use mathlib.Core.Path.{refl}
 use native.Mathlib.Omega.{arith}
 use lib.ListN.{length-set}
-use Rattle.pod.proofs.Packing.{stored}
+use Rattle.packing.proofs.Packing.{stored}
 use borrow.Author.Needs.{needs}
-use Rattle.pod.proofs.pack.Statement.{statement}
-use Rattle.pod.proofs.pack.Tie as tie
+use Rattle.packing.proofs.pack.Statement.{statement}
+use Rattle.packing.proofs.pack.Tie as tie
 
 returns : tie.Need-returns
 returns c = stored (c .before .before .before .args .st) (c .before .before .before .args .state .now) (c .before .before .before .pre .1) (c .before .status .ensures)

@@ -1,8 +1,8 @@
--- `pod::unpack` meets its contract. Assumes nothing.
+-- `packing::unpack` meets its contract. Assumes nothing.
 use borrow.Author.Needs.{needs}
-use Rattle.pod.proofs.Packing.{spells}
-use Rattle.pod.proofs.unpack.Statement.{statement}
-use Rattle.pod.proofs.unpack.Tie as tie
+use Rattle.packing.proofs.Packing.{spells}
+use Rattle.packing.proofs.unpack.Statement.{statement}
+use Rattle.packing.proofs.unpack.Tie as tie
 
 returns : tie.Need-returns
 returns c =

@@ -1,9 +1,9 @@
--- `pod::is_packed` meets its contract: the tests are right for every run of bytes. Assumes nothing.
+-- `packing::is_packed` meets its contract: the tests are right for every run of bytes. Assumes nothing.
 use mathlib.Core.Path.{sym}
-use Rattle.pod.proofs.Packing.{wrong-length, tested}
+use Rattle.packing.proofs.Packing.{wrong-length, tested}
 use borrow.Author.Needs.{needs}
-use Rattle.pod.proofs.is_packed.Statement.{statement}
-use Rattle.pod.proofs.is_packed.Tie as tie
+use Rattle.packing.proofs.is_packed.Statement.{statement}
+use Rattle.packing.proofs.is_packed.Tie as tie
 
 returns : tie.Need-returns
 returns c = sym (wrong-length (c .before .args .state .now) (c .if1 .taken))

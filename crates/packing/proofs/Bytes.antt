@@ -9,7 +9,7 @@ use lib.ListN.{length, getD, take, drop}
 use lib.Seq.{drop-cons}
 use borrow.Author.Tests.{eqb-true, eq-eqb}
 use Rattle.units.proofs.Bools.{both}
-use Rattle.pod.specs.Packing.{bytesOf, spelt, placeBytes, placeSpelt, same}
+use Rattle.packing.specs.Packing.{bytesOf, spelt, placeBytes, placeSpelt, same}
 
 -- ---- numbers little-endian
 pub spelt-bytes : (x : ℕ) → x < 2 ^ 32 → spelt (bytesOf 4 x) ≡ x

@@ -12,9 +12,9 @@ use borrow.Author.Tests.{eqb-true, eq-eqb}
 use Rattle.units.proofs.Bools.{both}
 use Rattle.states.specs.States.{flag, statusOf}
 use Rattle.states.specs.declared.State.{State}
-use Rattle.pod.specs.Packing.{bytesOf, spelt, timeAt, placeBytes, placeSpelt, packOf, packed, pageIn, readOf, same, isPacking, noState, unpackOf, Timed}
-use Rattle.pod.proofs.Bytes.{spelt-bytes, bytes-spelt, place-back, place-bytes, same-refl, same-eq, four-at}
-use Rattle.pod.proofs.Status.{flag-byte, flag-back, srwd-back, bp-back, wel-back, status-test, flag-test}
+use Rattle.packing.specs.Packing.{bytesOf, spelt, timeAt, placeBytes, placeSpelt, packOf, packed, pageIn, readOf, same, isPacking, noState, unpackOf, Timed}
+use Rattle.packing.proofs.Bytes.{spelt-bytes, bytes-spelt, place-back, place-bytes, same-refl, same-eq, four-at}
+use Rattle.packing.proofs.Status.{flag-byte, flag-back, srwd-back, bp-back, wel-back, status-test, flag-test}
 
 -- a state that fits its sixteen bytes
 pub record Small (s : State) : Type 0 where
