@@ -34,7 +34,7 @@ pub fn given(rec: Record, st: State, head: Head) -> Answer
     if head.cells != row.length as usize {
         return Answer::BadArray;
     }
-    if head.sectors != head.cells / 4096 {
+    if head.sectors != row.sectors as usize {
         return Answer::BadTable;
     }
     if !(states::state_ok(rec, st) & head.page) {

@@ -3,16 +3,13 @@ use mathlib.Core.Path.{_≡_, sym, ap, _∙_}
 use mathlib.Core.Bool.{true, false, _&&_}
 use lib.Dec.{eqb}
 use borrow.Author.Needs.{needs}
-use borrow.Author.Tests.{not-true, not-false, eq-eqb, ne-eqb, lt-ltb, le-ltb, eqb-true}
+use borrow.Author.Tests.{not-true, not-false, eq-eqb, ne-eqb, lt-ltb, le-ltb}
 use Rattle.models.specs.Models.{modelOf}
 use Rattle.models.specs.declared.Model.{Model}
 use Rattle.states.specs.States.{recordOk, stateOk}
 use Rattle.ladder.specs.Stages.{givenOf}
 use Rattle.ladder.proofs.given.Statement.{statement}
 use Rattle.ladder.proofs.given.Tie as tie
-use native.Mathlib.Omega.{arith}
-use Prim.Native.Nat.{ℕ, _*_, _/_}
-use Rattle.models.proofs.Rules.{row-rules}
 
 right : (c : tie.Else1) → recordOk (c .before .before .args .rec) ≡ true
 right c = sym (c .before .record-ok .ensures) ∙ not-false _ (c .if1 .left)
@@ -20,22 +17,9 @@ right c = sym (c .before .record-ok .ensures) ∙ not-false _ (c .if1 .left)
 whole : (c : tie.Else2) → eqb (c .before .before .before .before .before .before .args .head .cells) (modelOf (c .before .before .before .before .before .before .args .rec .model) .length) ≡ true
 whole c = eq-eqb _ _ (c .if2 .left ∙ ap (λ (m : Model). m .length) (c .before .before .before .model-of .ensures))
 
--- an array of the model's length has as many sectors as the model
-in-sectors : (cells length sectors : ℕ) → cells ≡ length → length ≡ 4096 * sectors → sectors ≡ cells / 4096
-in-sectors cells length sectors e f = omega (arith, e, f)
-
 -- as many counts as the model has sectors
 counted : (c : tie.Else3) → (let given = c .before .before .before .before .before .before .before .before .before .args in eqb (given .head .sectors) (modelOf (given .rec .model) .sectors) ≡ true)
-counted c =
-    let w = c .before .before .before in
-    let given = c .before .before .before .before .before .before .before .before .before .args in
-    eq-eqb (given .head .sectors) (modelOf (given .rec .model) .sectors) (c .if3 .left ∙ sym (in-sectors (given .head .cells) (modelOf (given .rec .model) .length) (modelOf (given .rec .model) .sectors) (eqb-true _ _ (whole w)) (row-rules (given .rec .model) .sectors)))
-
-miscounted : (c : tie.Then3) → (let given = c .before .before .before .before .before .before .before .before .before .args in eqb (given .head .sectors) (modelOf (given .rec .model) .sectors) ≡ false)
-miscounted c =
-    let w = c .before .before .before in
-    let given = c .before .before .before .before .before .before .before .before .before .args in
-    ne-eqb (given .head .sectors) (modelOf (given .rec .model) .sectors) (λ z. c .if3 .taken (z ∙ in-sectors (given .head .cells) (modelOf (given .rec .model) .length) (modelOf (given .rec .model) .sectors) (eqb-true _ _ (whole w)) (row-rules (given .rec .model) .sectors)))
+counted c = eq-eqb _ _ (c .if3 .left ∙ ap (λ (m : Model). m .sectors) (c .before .before .before .before .before .before .model-of .ensures))
 
 valid : (c : tie.Else4) → (let given = c .before .before .before .before .before .before .before .before .before .before .before .before .args in (stateOk (given .rec) (given .st) && given .head .page) ≡ true)
 valid c = rw (← (c .before .before .state-ok .ensures)) (not-false _ (c .if4 .left))
@@ -55,7 +39,7 @@ returns-3 : tie.Need-returns-3
 unfolding givenOf
 returns-3 c =
     let w = c .before .before .before in
-    rw (right (w .before .before .before .before), whole w, miscounted c)
+    rw (right (w .before .before .before .before), whole w, ← (ap (λ (m : Model). m .sectors) (c .before .before .before .before .before .before .model-of .ensures)), ne-eqb _ _ (c .if3 .taken))
 
 returns-4 : tie.Need-returns-4
 unfolding givenOf
@@ -97,6 +81,7 @@ given-spec =
     (λ c κs. search needs)
     (λ c. search needs)
     returns-2
+    (λ c. search needs)
     returns-3
     (λ c κs. search needs)
     returns-4
