@@ -36,13 +36,10 @@ fn frame_refusal(model: u32, cells: usize, sectors: usize) -> u32
     ensures { λ r. ⌜ r ≡ tableRefusal model cells sectors ⌝ }
 {
     let row = models::model_of(model);
-    if cells != row.length as usize {
-        return 2;
+    if sectors == row.sectors as usize {
+        return bytes_refusal(model, cells);
     }
-    if sectors != row.sectors as usize {
-        return 24;
-    }
-    3
+    if cells == row.length as usize { 24 } else { 2 }
 }
 
 // ---- what C calls

@@ -22,7 +22,7 @@ use Rattle.states.specs.declared.State.{State}
 use Rattle.time.specs.declared.After.{After}
 use Rattle.states.proofs.States.{sound, idle-state, busy-state, idle-page, busy-page, page-length, blank-page, Resting}
 use Rattle.operations.specs.Operations.{runs, patternLength, finished, tornChip, Operable, Left}
-use Rattle.time.specs.Time.{later, waited, cycled, cutOff, chipRefusal, powerRefusal, cutRefusal, afterOf, waitOf, powerOf, powerCutOf, Ends}
+use Rattle.time.specs.Time.{later, nothingEnds, waited, cycled, cutOff, chipRefusal, powerRefusal, cutRefusal, afterOf, waitOf, powerOf, powerCutOf, Ends}
 
 -- record, array, state and page data fit
 pub record Fit (rec : Record) (x : Chip) : Type 0 where
@@ -100,13 +100,13 @@ module _ (rec : Record) (x : Chip) where
       all-fit f = rw (r, w, f)
 
   -- whether nothing ends: the chip is idle, or the wait too short
-  pub none-ends : (us : ℕ) → x .state .busy ≡ 0 → (eqb (x .state .busy) 0 || ltb us (x .state .busy)) ≡ true
+  pub none-ends : (us : ℕ) → x .state .busy ≡ 0 → nothingEnds (x .state) us ≡ true
   none-ends us z = rw (eq-eqb (x .state .busy) 0 z)
 
-  pub too-short : (us : ℕ) → us < x .state .busy → (eqb (x .state .busy) 0 || ltb us (x .state .busy)) ≡ true
+  pub too-short : (us : ℕ) → us < x .state .busy → nothingEnds (x .state) us ≡ true
   too-short us h = rw (lt-ltb us (x .state .busy) h) (or-true (eqb (x .state .busy) 0))
 
-  pub one-ends : (us : ℕ) → (x .state .busy ≡ 0 → ⊥) → x .state .busy ≤ us → (eqb (x .state .busy) 0 || ltb us (x .state .busy)) ≡ false
+  pub one-ends : (us : ℕ) → (x .state .busy ≡ 0 → ⊥) → x .state .busy ≤ us → nothingEnds (x .state) us ≡ false
   one-ends us z h = rw (ne-eqb (x .state .busy) 0 z) (le-ltb us (x .state .busy) h)
 
   module _ {a : Answer} (e : a ≡ chipRefusal rec x) where
@@ -120,12 +120,12 @@ module _ (rec : Record) (x : Chip) where
     unfolding waitOf
     refused-wait us d i = let f = same-done d in rw i (record { answer-is = e; state-is = rw f; page-is = rw f; cells-are = rw f })
 
-    pub rested-wait : (us : ℕ) {k : After} {s : State} → isDone a ≡ true → (eqb (x .state .busy) 0 || ltb us (x .state .busy)) ≡ true → s ≡ later (x .state) us → k ≡ afterOf a s
+    pub rested-wait : (us : ℕ) {k : After} {s : State} → isDone a ≡ true → nothingEnds (x .state) us ≡ true → s ≡ later (x .state) us → k ≡ afterOf a s
         → Ends (waitOf rec x us) k (x .page) (x .cells)
     unfolding waitOf waited
     rested-wait us d t g i = let f = same-done d in rw i (record { answer-is = e; state-is = rw (f, t) g; page-is = rw (f, t); cells-are = rw (f, t) })
 
-    pub finished-wait : (us : ℕ) {k : After} {s : State} {page cells : List ℕ} → isDone a ≡ true → (eqb (x .state .busy) 0 || ltb us (x .state .busy)) ≡ false
+    pub finished-wait : (us : ℕ) {k : After} {s : State} {page cells : List ℕ} → isDone a ≡ true → nothingEnds (x .state) us ≡ false
         → Left (finished (rec .model) x) s page cells → k ≡ afterOf a s → Ends (waitOf rec x us) k page cells
     unfolding waitOf waited
     finished-wait us d t g i = let f = same-done d in rw i (record { answer-is = e; state-is = rw (f, t) (g .state-is); page-is = rw (f, t) (g .page-is); cells-are = rw (f, t) (g .cells-are) })
