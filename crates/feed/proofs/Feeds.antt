@@ -21,7 +21,7 @@ use Rattle.log.specs.Row.{longestRow}
 use Rattle.feed.specs.declared.Run.{Run}
 use Rattle.feed.specs.Feed.{Start, TurnStart, Stand, standing, chipNow, lineDone, feedTurn, feedFor, feedOf, lastOf, Stands, Finishes, OneStands, OneFinishes}
 use Rattle.feed.specs.Fed.{Did, Fed, Finished, FeedFeeds, LastFinishes}
-use Rattle.feed.proofs.Turns.{Same, same-clip, stands, line-done, Turned, turned}
+use Rattle.feed.proofs.Turns.{Same, same-clip, stands, line-kept, Turned, turned}
 
 -- ---- one after the other
 did-none : (rec : Record) (block : List ℕ) (s : Stand) (line : List ℕ) → s .run .filled ≤ length (s .log) → Holds line (s .held) (s .run .used) → Did rec block s s line
@@ -179,11 +179,12 @@ pub finishes-none : (rec : Record) (s : Stand) → s .run .used ≡ 0 → Finish
 unfolding lastOf
 finishes-none rec s u = rw (eq-eqb (s .run .used) 0 u) (record { filled′ = refl; page′ = refl; cells′ = refl; log′ = refl })
 
-pub finishes-line : (rec : Record) (s : Stand) {handed : List ℕ} {done : Logged} {page′ cells′ log′ : List ℕ} → (s .run .used ≡ 0 → ⊥) → handed ≡ take (s .run .used) (s .held)
-    → Logs rec (chipNow s) (s .run .number) handed (s .log) (s .run .filled) done page′ cells′ log′ → Finishes (lastOf rec s) (done .next) page′ cells′ log′
+pub finishes-line : (rec : Record) (s : Stand) {handed held page′ cells′ log′ : List ℕ} {r : Run} → (s .run .used ≡ 0 → ⊥) → handed ≡ take (s .run .used) (s .held)
+    → Stands (lineDone rec (standing (s .run) held (s .page) (s .cells) (s .log)) held handed (s .run .at)) r held page′ cells′ log′
+    → Finishes (lastOf rec s) (r .filled) page′ cells′ log′
 unfolding lastOf
-finishes-line rec s u m l =
-    let e = line-done rec s {kept = s .held} {to = s .run .at} m refl l refl in
+finishes-line rec s u m d =
+    let e = line-kept rec s (s .run .at) {held′ = s .held} m refl d in
     rw (ne-eqb (s .run .used) 0 u) (record { filled′ = ap (λ (z : Run). z .filled) (e .run′); page′ = e .page′; cells′ = e .cells′; log′ = e .log′ })
 
 module _ (rec : Record) (s : Stand) (l : length (s .held) ≡ heldRoom) (room : s .run .filled + longestRow ≤ length (s .log)) where

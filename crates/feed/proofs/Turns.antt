@@ -75,21 +75,29 @@ stands {t} {r} {held} {page} {cells} {log} e =
     ∙ ap (λ (z : List ℕ). standing (t .run) (t .held) (t .page) (t .cells) z) (e .log′)
 
 -- a line was logged
-pub line-done : (rec : Record) (s : Stand) {handed held′ line kept : List ℕ} {to : ℕ} {done : Logged} {r : Run} {page′ cells′ log′ : List ℕ} → handed ≡ line → held′ ≡ kept
-    → Logs rec (chipNow s) (s .run .number) handed (s .log) (s .run .filled) done page′ cells′ log′ → r ≡ goesOn done (s .run .number) to
-    → Stands (lineDone rec s kept line to) r held′ page′ cells′ log′
+pub line-done : (rec : Record) (s : Stand) {line : List ℕ} {to : ℕ} {done : Logged} {r : Run} {page′ cells′ log′ : List ℕ}
+    → Logs rec (chipNow s) (s .run .number) line (s .log) (s .run .filled) done page′ cells′ log′ → r ≡ goesOn done (s .run .number) to
+    → Stands (lineDone rec s (s .held) line to) r (s .held) page′ cells′ log′
 unfolding lineDone
-line-done rec s {handed} {held′} {line} {kept} {to} {done} {r} {page′} {cells′} {log′} e k l g =
-    let w = subst (λ (z : List ℕ). Logs rec (chipNow s) (s .run .number) z (s .log) (s .run .filled) done page′ cells′ log′) e l in
+line-done rec s {line} {to} {done} l g =
     record {
       run′ =
-          g ∙ ap (λ (z : State). goesOn (record { next = done .next; state = z }) (s .run .number) to) (w .state)
-          ∙ ap (λ (z : ℕ). goesOn (record { next = z; state = lineTurn rec (chipNow s) line .played .state }) (s .run .number) to) (w .row .next);
-      held′ = k;
-      page′ = w .page′;
-      cells′ = w .cells′;
-      log′ = w .row .is;
+          g ∙ ap (λ (z : State). goesOn (record { next = done .next; state = z }) (s .run .number) to) (l .state)
+          ∙ ap (λ (z : ℕ). goesOn (record { next = z; state = lineTurn rec (chipNow s) line .played .state }) (s .run .number) to) (l .row .next);
+      held′ = refl;
+      page′ = l .page′;
+      cells′ = l .cells′;
+      log′ = l .row .is;
     }
+
+-- it goes on with what is kept for the next line
+pub line-kept : (rec : Record) (s : Stand) (to : ℕ) {handed line held held′ kept : List ℕ} {r : Run} {page′ cells′ log′ : List ℕ} → handed ≡ line → held′ ≡ kept
+    → Stands (lineDone rec (standing (s .run) held (s .page) (s .cells) (s .log)) held handed to) r held page′ cells′ log′
+    → Stands (lineDone rec s kept line to) r held′ page′ cells′ log′
+unfolding lineDone
+line-kept rec s to {held = held} {r = r} {page′ = page′} {cells′ = cells′} {log′ = log′} e k d =
+    let w = subst (λ (z : List ℕ). Stands (lineDone rec (standing (s .run) held (s .page) (s .cells) (s .log)) held z to) r held page′ cells′ log′) e d in
+    record { run′ = w .run′; held′ = k; page′ = w .page′; cells′ = w .cells′; log′ = w .log′ }
 
 -- the cut in hand
 pub at-cut : (rec : Record) (block : List ℕ) (s : Stand) {cut k : Cut} {held′ page′ cells′ log′ : List ℕ} {r : Run} → Cuts (s .held) (s .run .used) block (s .run .at) cut held′ → cut ≡ k

@@ -35,6 +35,10 @@ pub record TurnStart (run : Run) (held block log : List ℕ) : Type 0 where
 abbrev pub goesOn : Logged → ℕ → ℕ → Run
 goesOn done number at = record { chip = done .state; number = next number; used = 0; at = at; filled = done .next }
 
+-- the block ends with n bytes of a line held
+abbrev pub stillOpen : Run → ℕ → ℕ → Run
+stillOpen run n at = record { chip = run .chip; number = run .number; used = n; at = at; filled = run .filled }
+
 -- where a feed stands: the run, the buffer for the line that is held, the page data, the array and the log
 pub record Stand : Type 0 where
   pub run : Run
@@ -68,7 +72,7 @@ cutTurn rec block s held (Here e) = lineDone rec s held (take (e - s .run .at) (
 cutTurn rec block s held (Joined n e) = lineDone rec s held (take n held) (e + 1)
 cutTurn rec block s held (Open n) =
     record {
-      run = record { chip = s .run .chip; number = s .run .number; used = n; at = length block; filled = s .run .filled };
+      run = stillOpen (s .run) n (length block);
       held = held;
       page = s .page;
       cells = s .cells;

@@ -4,7 +4,8 @@ ghost use Prim.Native.Nat.{_+_, _≤_, _<_};
 ghost use lib.ListN.{length};
 ghost use Rattle.log.specs.Row.{longestRow};
 ghost use Rattle.lines.specs.Cutting.{heldRoom};
-ghost use Rattle.feed.specs.Feed.{Start, TurnStart, goesOn, standing, feedTurn, feedOf, lastOf, Stands, Finishes};
+ghost use mathlib.Core.List.{[]};
+ghost use Rattle.feed.specs.Feed.{Start, TurnStart, goesOn, stillOpen, standing, lineDone, feedTurn, feedOf, lastOf, Stands, Finishes};
 use lines::Cut;
 use states::Record;
 use states::State;
@@ -34,6 +35,40 @@ fn line_done(done: Logged, number: u64, at: usize) -> Run
     }
 }
 
+// A line is played, and its row put into the log; the next line starts at `to`.
+fn play_line(
+    run: Run,
+    rec: Record,
+    line: &[u8],
+    to: usize,
+    page: &mut [u8],
+    array: &mut [u8],
+    log: &mut [u8],
+) -> Run
+    requires { ⌜ run .filled + longestRow ≤ length (now log) ⌝ }
+    ensures { λ r. ⌜ Stands (lineDone rec (standing run [] (now (page .entry)) (now (array .entry)) (now (log .entry))) [] (now (line .entry)) to) r [] (now (page .exit)) (now (array .exit)) (now (log .exit)) ⌝ }
+{
+    let chip = run.chip;
+    let number = run.number;
+    let filled = run.filled;
+    let done = stepper::log_line(number, line, rec, chip, page, array, log, filled);
+    line_done(done, number, to)
+}
+
+// The block ends, and so many bytes of its last line are held.
+fn line_open(run: Run, used: usize, at: usize) -> Run
+    ensures { λ r. ⌜ r ≡ stillOpen run used at ⌝ }
+{
+    let chip = run.chip;
+    Run {
+        chip,
+        number: run.number,
+        used,
+        at,
+        filled: run.filled,
+    }
+}
+
 // One line, or the rest of the block where no line ends in it.
 fn turn(
     run: Run,
@@ -47,30 +82,19 @@ fn turn(
     requires { ⌜ TurnStart run (now held) (now block) (now log) ⌝ }
     ensures { λ r. ⌜ Stands (feedTurn rec (now (block .entry)) (standing run (now (held .entry)) (now (page .entry)) (now (array .entry)) (now (log .entry)))) r (now (held .exit)) (now (page .exit)) (now (array .exit)) (now (log .exit)) ⌝ }
 {
-    let chip = run.chip;
-    let number = run.number;
     let used = run.used;
     let at = run.at;
-    let filled = run.filled;
     let cut = lines::cut_line(held, used, block, at);
     match cut {
         Cut::Here { end } => {
             let line = &block[at..end];
-            let done = stepper::log_line(number, line, rec, chip, page, array, log, filled);
-            line_done(done, number, end + 1)
+            play_line(run, rec, line, end + 1, page, array, log)
         }
         Cut::Joined { used: n, end } => {
             let line = &held[0..n];
-            let done = stepper::log_line(number, line, rec, chip, page, array, log, filled);
-            line_done(done, number, end + 1)
+            play_line(run, rec, line, end + 1, page, array, log)
         }
-        Cut::Open { used: n } => Run {
-            chip,
-            number,
-            used: n,
-            at: block.len(),
-            filled,
-        },
+        Cut::Open { used: n } => line_open(run, n, block.len()),
     }
 }
 
@@ -114,11 +138,10 @@ pub fn finish(
 {
     let used = run.used;
     let filled = run.filled;
-    let chip = run.chip;
     if used == 0 {
         return filled;
     }
     let line = &held[0..used];
-    let done = stepper::log_line(run.number, line, rec, chip, page, array, log, filled);
-    done.next
+    let done = play_line(run, rec, line, run.at, page, array, log);
+    done.filled
 }
