@@ -23,9 +23,18 @@ fn sectors_of(op: Operation, place: u32, n: usize) -> Sectors
         Operation::Idle => Sectors { first: 0, count: 0 },
         Operation::WritesStatus => Sectors { first: 0, count: 0 },
         Operation::Programs => Sectors { first: 0, count: 0 },
-        Operation::ErasesSector => Sectors { first: at / 4096, count: 1 },
-        Operation::ErasesHalf => Sectors { first: 8 * (at / 32768), count: 8 },
-        Operation::ErasesBlock => Sectors { first: 16 * (at / 65536), count: 16 },
+        Operation::ErasesSector => Sectors {
+            first: at / 4096,
+            count: 1,
+        },
+        Operation::ErasesHalf => Sectors {
+            first: 8 * (at / 32768),
+            count: 8,
+        },
+        Operation::ErasesBlock => Sectors {
+            first: 16 * (at / 65536),
+            count: 16,
+        },
         Operation::ErasesChip => Sectors { first: 0, count: n },
     }
 }
