@@ -1,8 +1,9 @@
 // The chip: any frame, on values and slices.
 ghost use mathlib.Core.Path.{_≡_};
+ghost use mathlib.Core.Bool.{false};
 ghost use Rattle.states.specs.States.{chipOf};
 ghost use Rattle.effects.specs.Effects.{Gives};
-ghost use Rattle.chip.specs.Frames.{sentOf, headFor, acceptedOf, frameOf, Ready, Heard};
+ghost use Rattle.chip.specs.Frames.{sentOf, headFor, takenOf, frameOf, Ready, Heard};
 use answers::Answer;
 use commands::Command;
 use commands::Operation;
@@ -12,16 +13,18 @@ use states::Record;
 use states::State;
 use units::Address;
 
+// What the refusals look at but for the wear table's counts.
 fn head(
     model: u32,
     cells: usize,
+    sectors: usize,
     page: bool,
     bytes: &[u8],
     tail: u32,
     wp: bool,
     room: usize,
 ) -> Head
-    ensures { λ r. ⌜ r ≡ headFor model cells page (now (bytes .entry)) tail wp room ⌝ }
+    ensures { λ r. ⌜ r ≡ headFor model cells sectors page (now (bytes .entry)) tail wp room false ⌝ }
 {
     let address = models::address_of(
         model,
@@ -32,6 +35,7 @@ fn head(
     let command = commands::decode(model, parts::byte_at(bytes, 0));
     Head {
         cells,
+        sectors,
         page,
         count: bytes.len(),
         tail,
@@ -39,22 +43,24 @@ fn head(
         room,
         command,
         address,
+        worn: false,
     }
 }
 
-// An accepted frame, by its command.
+// A frame that 1 to 17 and 24 let pass, by its command: an erase may still be refused, by its counts.
 fn accepted(
     rec: Record,
     st: State,
     c: Command,
     page: &mut [u8],
     array: &[u8],
+    wear: &mut [u32],
     at: Address,
     bytes: &[u8],
     out: &mut [u8],
 ) -> Reply
-    requires { ⌜ Ready rec (chipOf st (now page) (now array)) c at (now bytes) (now out) ⌝ }
-    ensures { λ r. ⌜ Gives (acceptedOf rec (chipOf st (now (page .entry)) (now (array .entry))) c at (now (bytes .entry)) (now (out .entry))) r (now (page .exit)) (now (out .exit)) ⌝ }
+    requires { ⌜ Ready rec (chipOf st (now page) (now array)) c at (now bytes) (now wear) (now out) ⌝ }
+    ensures { λ r. ⌜ Gives (takenOf rec (chipOf st (now (page .entry)) (now (array .entry))) c at (now (bytes .entry)) (now (wear .entry)) (now (out .entry))) r (now (page .exit)) (now (wear .exit)) (now (out .exit)) ⌝ }
 {
     match c {
         Command::WriteEnable => effects::write_enable(st),
@@ -64,10 +70,18 @@ fn accepted(
         Command::WriteStatus => starts::write_status(rec, st, page, bytes),
         Command::Read => shows::read_from(4, st, array, at, bytes, out),
         Command::FastRead => shows::read_from(5, st, array, at, bytes, out),
-        Command::EraseSector => effects::erase(rec, st, Operation::ErasesSector, at.0, bytes),
-        Command::EraseHalf => effects::erase(rec, st, Operation::ErasesHalf, at.0, bytes),
-        Command::EraseBlock => effects::erase(rec, st, Operation::ErasesBlock, at.0, bytes),
-        Command::EraseChip => effects::erase(rec, st, Operation::ErasesChip, 0xFFFFFF, bytes),
+        Command::EraseSector => {
+            starts::erase(rec, st, Operation::ErasesSector, at.0, wear, bytes)
+        }
+        Command::EraseHalf => {
+            starts::erase(rec, st, Operation::ErasesHalf, at.0, wear, bytes)
+        }
+        Command::EraseBlock => {
+            starts::erase(rec, st, Operation::ErasesBlock, at.0, wear, bytes)
+        }
+        Command::EraseChip => {
+            starts::erase(rec, st, Operation::ErasesChip, 0xFFFFFF, wear, bytes)
+        }
         Command::Program => starts::program_page(rec, st, page, at, bytes),
         Command::ReadId => shows::read_id(rec, st, bytes, out),
         Command::Wake => shows::wake(rec, st, bytes, out),
@@ -77,46 +91,49 @@ fn accepted(
     }
 }
 
-// A frame that the refusals 1 to 5 let pass; so the page data fit.
+// A frame that the refusals 1 to 5 and 24 let pass; so the page data fit.
 fn spoken(
     rec: Record,
     st: State,
     page: &mut [u8],
     array: &[u8],
+    wear: &mut [u32],
     bytes: &[u8],
     tail: u32,
     wp: bool,
     out: &mut [u8],
 ) -> Reply
-    requires { ⌜ Heard rec (chipOf st (now page) (now array)) (sentOf (now bytes) tail wp (now out)) ⌝ }
-    ensures { λ r. ⌜ Gives (frameOf rec (chipOf st (now (page .entry)) (now (array .entry))) (sentOf (now (bytes .entry)) tail wp (now (out .entry)))) r (now (page .exit)) (now (out .exit)) ⌝ }
+    requires { ⌜ Heard rec (chipOf st (now page) (now array)) (sentOf (now bytes) tail wp (now wear) (now out)) ⌝ }
+    ensures { λ r. ⌜ Gives (frameOf rec (chipOf st (now (page .entry)) (now (array .entry))) (sentOf (now (bytes .entry)) tail wp (now (wear .entry)) (now (out .entry)))) r (now (page .exit)) (now (wear .exit)) (now (out .exit)) ⌝ }
 {
-    let h = head(rec.model, array.len(), true, bytes, tail, wp, out.len());
+    let h = head(rec.model, array.len(), wear.len(), true, bytes, tail, wp, out.len());
     let answer = ladder::said(rec, st, h);
     if answers::is_done(answer) {
         let c = h.command;
         let at = h.address;
-        accepted(rec, st, c, page, array, at, bytes, out)
+        accepted(rec, st, c, page, array, wear, at, bytes, out)
     } else {
         effects::refuse(rec.model, answer, st)
     }
 }
 
-// Any frame, of any record, state, page data, array, tail and output. What the call is given is looked at before a byte is read. The array is not written.
+// Any frame, of any record, state, page data, array, wear table, tail and output. What the call is given is looked at before a byte is read. The array is not written.
 pub fn frame(
     rec: Record,
     st: State,
     page: &mut [u8],
     array: &[u8],
+    wear: &mut [u32],
     bytes: &[u8],
     tail: u32,
     wp: bool,
     out: &mut [u8],
 ) -> Reply
-    ensures { λ r. ⌜ Gives (frameOf rec (chipOf st (now (page .entry)) (now (array .entry))) (sentOf (now (bytes .entry)) tail wp (now (out .entry)))) r (now (page .exit)) (now (out .exit)) ⌝ }
+    ensures { λ r. ⌜ Gives (frameOf rec (chipOf st (now (page .entry)) (now (array .entry))) (sentOf (now (bytes .entry)) tail wp (now (wear .entry)) (now (out .entry)))) r (now (page .exit)) (now (wear .exit)) (now (out .exit)) ⌝ }
 {
     let unread = Head {
         cells: array.len(),
+        sectors: wear.len(),
         page: states::page_ok(rec.model, st, page),
         count: bytes.len(),
         tail,
@@ -124,10 +141,11 @@ pub fn frame(
         room: out.len(),
         command: Command::Unknown,
         address: Address(0),
+        worn: false,
     };
     let first = ladder::given(rec, st, unread);
     if answers::is_done(first) {
-        spoken(rec, st, page, array, bytes, tail, wp, out)
+        spoken(rec, st, page, array, wear, bytes, tail, wp, out)
     } else {
         effects::quiet(first, st)
     }

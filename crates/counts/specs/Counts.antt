@@ -1,9 +1,10 @@
 -- Erase counts, one 32-bit number a sector: which of them an erase raises, and what the report says of a table (Req 06). Assumes nothing.
 use mathlib.Core.Bool.{Bool, true, false, _||_, cond}
 use mathlib.Core.List.{List, [], _∷_}
+use mathlib.Core.Path.{_≡_}
 use Prim.Native.Nat.{ℕ, suc, _+_, _*_, _/_, _%_, _≤_, min, max}
 use lib.Dec.{eqb, leb, ltb}
-use lib.ListN.{length}
+use lib.ListN.{length, getD}
 use Rattle.models.specs.Models.{isSectors}
 use Rattle.parts.specs.Parts.{part, lay, byIndex}
 use Rattle.commands.specs.declared.Operation.{Operation}
@@ -54,6 +55,12 @@ counted op place wear = lay wear (covered op place (length wear) .first) (raised
 -- the covered sectors lie in the table
 abbrev pub InTable : Operation → ℕ → List ℕ → Type 0
 InTable op place wear = covered op place (length wear) .first + covered op place (length wear) .count ≤ length wear
+
+-- a table after it, where the count of one sector is one more and no other has moved
+pub record OneMore (sector : ℕ) (before after : List ℕ) : Type 0 where
+  pub same : length after ≡ length before
+  pub one : getD after sector 0 ≡ getD before sector 0 + 1
+  pub others : (k : ℕ) → (k ≡ sector → ⊥) → getD after k 0 ≡ getD before k 0
 
 -- ---- the report
 abbrev pub totalOf : List ℕ → ℕ
