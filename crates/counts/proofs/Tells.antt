@@ -8,7 +8,7 @@ use native.Mathlib.Nat.{mod-lt, div-add-mod, mul-comm}
 use native.Mathlib.Omega.{arith}
 use lib.Dec.{eqb, leb}
 use lib.ListN.{length, getD}
-use borrow.Author.Tests.{eqb-true, eqb-false, leb-true, leb-false}
+use borrow.Author.Tests.{eqb-true, eqb-false, eq-eqb, leb-true, leb-false}
 use Rattle.models.specs.Models.{isSectors}
 use Rattle.counts.specs.Counts.{leastFrom, mostFrom, smallestOf, largestOf, firstWith, totalOf, reportOf}
 use Rattle.counts.specs.Tells.{Has, Tells, ReportTells}
@@ -31,13 +31,13 @@ either-low m x = go (leb m x) refl
     go true e = inl (omega (arith, leb-true m x e))
     go false e = inr (omega (arith, leb-false m x e))
 
-next : {x : ℕ} {xs : List ℕ} {v : ℕ} → Has xs v → Has (x ∷ xs) v
-next h = (suc (h .0), (omega (arith, h .1 .0), h .1 .1))
+next : (x : ℕ) (xs : List ℕ) (v : ℕ) → Has xs v → Has (x ∷ xs) v
+next x xs v h = (suc (h .0), (omega (arith, h .1 .0), h .1 .1))
 
 least-has : (m : ℕ) (xs : List ℕ) → (leastFrom m xs ≡ m) ⊎ Has xs (leastFrom m xs)
 least-has m [] = inl refl
 least-has m (x ∷ xs) =
-    ⊎-elim (λ e. ⊎-elim (λ d. inl (e ∙ d)) (λ d. inr (0, (omega arith, sym (e ∙ d)))) (either-low m x)) (λ h. inr (next h)) (least-has (min m x) xs)
+    ⊎-elim (λ e. ⊎-elim (λ d. inl (e ∙ d)) (λ d. inr (0, (omega arith, sym (e ∙ d)))) (either-low m x)) (λ h. inr (next x xs (leastFrom (min m x) xs) h)) (least-has (min m x) xs)
 
 -- ---- the largest
 most-ge : (m : ℕ) (xs : List ℕ) → m ≤ mostFrom m xs
@@ -59,12 +59,12 @@ either-high m x = go (leb m x) refl
 most-has : (m : ℕ) (xs : List ℕ) → (mostFrom m xs ≡ m) ⊎ Has xs (mostFrom m xs)
 most-has m [] = inl refl
 most-has m (x ∷ xs) =
-    ⊎-elim (λ e. ⊎-elim (λ d. inl (e ∙ d)) (λ d. inr (0, (omega arith, sym (e ∙ d)))) (either-high m x)) (λ h. inr (next h)) (most-has (max m x) xs)
+    ⊎-elim (λ e. ⊎-elim (λ d. inl (e ∙ d)) (λ d. inr (0, (omega arith, sym (e ∙ d)))) (either-high m x)) (λ h. inr (next x xs (mostFrom (max m x) xs) h)) (most-has (max m x) xs)
 
 -- ---- of a table that has a first count
 smallest-has : (wear : List ℕ) → 0 < length wear → Has wear (smallestOf wear)
 smallest-has [] l = absurd (omega arith)
-smallest-has (x ∷ xs) l = ⊎-elim (λ e. (0, (omega arith, sym e))) (λ h. next h) (least-has x xs)
+smallest-has (x ∷ xs) l = ⊎-elim (λ e. (0, (omega arith, sym e))) (λ h. next x xs (leastFrom x xs) h) (least-has x xs)
 
 smallest-all : (wear : List ℕ) (k : ℕ) → k < length wear → smallestOf wear ≤ getD wear k 0
 smallest-all [] k l = absurd (omega arith)
@@ -73,7 +73,7 @@ smallest-all (x ∷ xs) (suc k) l = least-all x xs k (omega arith)
 
 largest-has : (wear : List ℕ) → 0 < length wear → Has wear (largestOf wear)
 largest-has [] l = absurd (omega arith)
-largest-has (x ∷ xs) l = ⊎-elim (λ e. (0, (omega arith, sym e))) (λ h. next h) (most-has x xs)
+largest-has (x ∷ xs) l = ⊎-elim (λ e. (0, (omega arith, sym e))) (λ h. next x xs (mostFrom x xs) h) (most-has x xs)
 
 largest-all : (wear : List ℕ) (k : ℕ) → k < length wear → getD wear k 0 ≤ largestOf wear
 largest-all [] k l = absurd (omega arith)
@@ -81,23 +81,24 @@ largest-all (x ∷ xs) zero l = most-ge x xs
 largest-all (x ∷ xs) (suc k) l = most-all x xs k (omega arith)
 
 -- ---- the first sector with a count that some sector has
-first-has : (v : ℕ) (xs : List ℕ) (k : ℕ) → k < length xs → getD xs k 0 ≡ v
-    → (firstWith v xs < length xs) × ((getD xs (firstWith v xs) 0 ≡ v) × ((i : ℕ) → i < firstWith v xs → getD xs i 0 ≡ v → ⊥))
-first-has v [] k l e = absurd (omega arith)
-first-has v (x ∷ xs) k l e = go (eqb x v) k refl l e
+abbrev First : ℕ → List ℕ → ℕ → Type 0
+First v xs s = (s < length xs) × ((getD xs s 0 ≡ v) × ((i : ℕ) → i < s → getD xs i 0 ≡ v → ⊥))
+
+later : (v x : ℕ) (xs : List ℕ) (s : ℕ) → eqb x v ≡ false → First v xs s → First v (x ∷ xs) (suc s)
+later v x xs s d h = (omega (arith, h .0), (h .1 .0, before))
   where
-    go : (b : Bool) (k : ℕ) → eqb x v ≡ b → k < length (x ∷ xs) → getD (x ∷ xs) k 0 ≡ v
-        → (cond b 0 (suc (firstWith v xs)) < length (x ∷ xs)) × ((getD (x ∷ xs) (cond b 0 (suc (firstWith v xs))) 0 ≡ v) × ((i : ℕ) → i < cond b 0 (suc (firstWith v xs)) → getD (x ∷ xs) i 0 ≡ v → ⊥))
-    go true k d l e = (omega arith, (eqb-true x v d, λ i m z. absurd (omega arith)))
-    go false zero d l e = absurd (eqb-false x v d e)
-    go false (suc k) d l e =
-        let h = first-has v xs k (omega arith) e in
-        (omega (arith, h .0), (h .1 .0, before h))
-      where
-        before : (firstWith v xs < length xs) × ((getD xs (firstWith v xs) 0 ≡ v) × ((i : ℕ) → i < firstWith v xs → getD xs i 0 ≡ v → ⊥))
-            → (i : ℕ) → i < suc (firstWith v xs) → getD (x ∷ xs) i 0 ≡ v → ⊥
-        before h zero m z = eqb-false x v d z
-        before h (suc i) m z = h .1 .1 i (omega arith) z
+    before : (i : ℕ) → i < suc s → getD (x ∷ xs) i 0 ≡ v → ⊥
+    before zero m z = eqb-false x v d z
+    before (suc i) m z = h .1 .1 i (omega arith) z
+
+first-has : (v : ℕ) (xs : List ℕ) (k : ℕ) → k < length xs → getD xs k 0 ≡ v → First v xs (firstWith v xs)
+first-has v [] k l e = absurd (omega arith)
+first-has v (x ∷ xs) zero l e = rw (eq-eqb x v e) (omega arith, (e, λ i m z. omega arith))
+first-has v (x ∷ xs) (suc k) l e = go (eqb x v) refl (first-has v xs k (omega arith) e)
+  where
+    go : (b : Bool) → eqb x v ≡ b → First v xs (firstWith v xs) → First v (x ∷ xs) (cond b 0 (suc (firstWith v xs)))
+    go true d h = (omega arith, (eqb-true x v d, λ i m z. omega arith))
+    go false d h = later v x xs (firstWith v xs) d h
 
 pub report-tells : ReportTells
 unfolding reportOf
