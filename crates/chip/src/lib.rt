@@ -73,12 +73,8 @@ fn accepted(
         Command::EraseSector => {
             starts::erase(rec, st, Operation::ErasesSector, at.0, wear, bytes)
         }
-        Command::EraseHalf => {
-            starts::erase(rec, st, Operation::ErasesHalf, at.0, wear, bytes)
-        }
-        Command::EraseBlock => {
-            starts::erase(rec, st, Operation::ErasesBlock, at.0, wear, bytes)
-        }
+        Command::EraseHalf => { starts::erase(rec, st, Operation::ErasesHalf, at.0, wear, bytes) }
+        Command::EraseBlock => { starts::erase(rec, st, Operation::ErasesBlock, at.0, wear, bytes) }
         Command::EraseChip => {
             starts::erase(rec, st, Operation::ErasesChip, 0xFFFFFF, wear, bytes)
         }
@@ -106,7 +102,16 @@ fn spoken(
     requires { ⌜ Heard rec (chipOf st (now page) (now array)) (sentOf (now bytes) tail wp (now wear) (now out)) ⌝ }
     ensures { λ r. ⌜ Gives (frameOf rec (chipOf st (now (page .entry)) (now (array .entry))) (sentOf (now (bytes .entry)) tail wp (now (wear .entry)) (now (out .entry)))) r (now (page .exit)) (now (wear .exit)) (now (out .exit)) ⌝ }
 {
-    let h = head(rec.model, array.len(), wear.len(), true, bytes, tail, wp, out.len());
+    let h = head(
+        rec.model,
+        array.len(),
+        wear.len(),
+        true,
+        bytes,
+        tail,
+        wp,
+        out.len(),
+    );
     let answer = ladder::said(rec, st, h);
     if answers::is_done(answer) {
         let c = h.command;

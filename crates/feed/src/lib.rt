@@ -43,15 +43,16 @@ fn play_line(
     to: usize,
     page: &mut [u8],
     array: &mut [u8],
+    wear: &mut [u32],
     log: &mut [u8],
 ) -> Run
     requires { ⌜ run .filled + longestRow ≤ length (now log) ⌝ }
-    ensures { λ r. ⌜ Stands (lineDone rec (standing run [] (now (page .entry)) (now (array .entry)) (now (log .entry))) [] (now (line .entry)) to) r [] (now (page .exit)) (now (array .exit)) (now (log .exit)) ⌝ }
+    ensures { λ r. ⌜ Stands (lineDone rec (standing run [] (now (page .entry)) (now (array .entry)) (now (wear .entry)) (now (log .entry))) [] (now (line .entry)) to) r [] (now (page .exit)) (now (array .exit)) (now (wear .exit)) (now (log .exit)) ⌝ }
 {
     let chip = run.chip;
     let number = run.number;
     let filled = run.filled;
-    let done = stepper::log_line(number, line, rec, chip, page, array, log, filled);
+    let done = stepper::log_line(number, line, rec, chip, page, array, wear, log, filled);
     line_done(done, number, to)
 }
 
@@ -77,10 +78,11 @@ fn turn(
     block: &[u8],
     page: &mut [u8],
     array: &mut [u8],
+    wear: &mut [u32],
     log: &mut [u8],
 ) -> Run
     requires { ⌜ TurnStart run (now held) (now block) (now log) ⌝ }
-    ensures { λ r. ⌜ Stands (feedTurn rec (now (block .entry)) (standing run (now (held .entry)) (now (page .entry)) (now (array .entry)) (now (log .entry)))) r (now (held .exit)) (now (page .exit)) (now (array .exit)) (now (log .exit)) ⌝ }
+    ensures { λ r. ⌜ Stands (feedTurn rec (now (block .entry)) (standing run (now (held .entry)) (now (page .entry)) (now (array .entry)) (now (wear .entry)) (now (log .entry)))) r (now (held .exit)) (now (page .exit)) (now (array .exit)) (now (wear .exit)) (now (log .exit)) ⌝ }
 {
     let used = run.used;
     let at = run.at;
@@ -88,11 +90,11 @@ fn turn(
     match cut {
         Cut::Here { end } => {
             let line = &block[at..end];
-            play_line(run, rec, line, end + 1, page, array, log)
+            play_line(run, rec, line, end + 1, page, array, wear, log)
         }
         Cut::Joined { used: n, end } => {
             let line = &held[0..n];
-            play_line(run, rec, line, end + 1, page, array, log)
+            play_line(run, rec, line, end + 1, page, array, wear, log)
         }
         Cut::Open { used: n } => line_open(run, n, block.len()),
     }
@@ -106,10 +108,11 @@ pub fn feed(
     block: &[u8],
     page: &mut [u8],
     array: &mut [u8],
+    wear: &mut [u32],
     log: &mut [u8],
 ) -> Run
     requires { ⌜ Start first (now held) (now block) (now log) ⌝ }
-    ensures { λ r. ⌜ Stands (feedOf rec (now (block .entry)) (standing first (now (held .entry)) (now (page .entry)) (now (array .entry)) (now (log .entry)))) r (now (held .exit)) (now (page .exit)) (now (array .exit)) (now (log .exit)) ⌝ }
+    ensures { λ r. ⌜ Stands (feedOf rec (now (block .entry)) (standing first (now (held .entry)) (now (page .entry)) (now (array .entry)) (now (wear .entry)) (now (log .entry)))) r (now (held .exit)) (now (page .exit)) (now (array .exit)) (now (wear .exit)) (now (log .exit)) ⌝ }
 {
     let mut run = first;
     let mut at = first.at;
@@ -118,7 +121,7 @@ pub fn feed(
         if log.len() - filled < log::LONGEST_ROW {
             return run;
         }
-        run = turn(run, rec, held, block, page, array, log);
+        run = turn(run, rec, held, block, page, array, wear, log);
         at = run.at;
     }
     run
@@ -131,10 +134,11 @@ pub fn finish(
     held: &[u8],
     page: &mut [u8],
     array: &mut [u8],
+    wear: &mut [u32],
     log: &mut [u8],
 ) -> usize
     requires { ⌜ (length (now held) ≡ heldRoom) × (run .used ≤ heldRoom) × (run .filled + longestRow ≤ length (now log)) ⌝ }
-    ensures { λ r. ⌜ Finishes (lastOf rec (standing run (now (held .entry)) (now (page .entry)) (now (array .entry)) (now (log .entry)))) r (now (page .exit)) (now (array .exit)) (now (log .exit)) ⌝ }
+    ensures { λ r. ⌜ Finishes (lastOf rec (standing run (now (held .entry)) (now (page .entry)) (now (array .entry)) (now (wear .entry)) (now (log .entry)))) r (now (page .exit)) (now (array .exit)) (now (wear .exit)) (now (log .exit)) ⌝ }
 {
     let used = run.used;
     let filled = run.filled;
@@ -142,6 +146,6 @@ pub fn finish(
         return filled;
     }
     let line = &held[0..used];
-    let done = play_line(run, rec, line, run.at, page, array, log);
+    let done = play_line(run, rec, line, run.at, page, array, wear, log);
     done.filled
 }

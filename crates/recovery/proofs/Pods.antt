@@ -179,7 +179,6 @@ lent (cycles ∷ cs) = lent cs
 lent (cuts pattern ∷ cs) = lent cs
 
 all-kept : (p : Pod) → NeverCounts p → (rec : Record) (seen cs : List Call) (x : Chip) → tables p rec seen cs x ≡ lent cs
-
 all-kept p h rec seen [] x = refl
 all-kept p h rec seen (sends f ∷ cs) x = rw (h seen rec x f, all-kept p h rec (sends f ∷ seen) cs (after p rec seen (sends f) x))
 all-kept p h rec seen (waits us ∷ cs) x = all-kept p h rec (waits us ∷ seen) cs (after p rec seen (waits us) x)

@@ -9,8 +9,8 @@ use Rattle.feed.proofs.play_line.Tie as tie
 
 returns : tie.Need-returns
 returns c =
-    let a = c .before .before .before .before .before .before .before .before .before .before .before .before .before .before .before .before .args in
-    line-done (a .rec) (standing (a .run) [] (a .page .now) (a .array .now) (a .log .now)) (c .before .before .before .before .before .before .before .log-line .ensures) (c .line-done .ensures)
+    let a = c .before .before .before .before .before .before .before .before .before .before .before .before .before .before .before .before .before .before .before .before .args in
+    line-done (a .rec) (standing (a .run) [] (a .page .now) (a .array .now) (a .wear .now) (a .log .now)) (c .before .before .before .before .before .before .before .before .before .log-line .ensures) (c .line-done .ensures)
 
 pub play-line-spec : {M : Type 1} → statement M
 play-line-spec =
@@ -18,6 +18,7 @@ play-line-spec =
     (tie.spec
     (λ c κs. search needs)
     (λ c κs. search needs)
+    (λ c. search needs)
     (λ c. search needs)
     (λ c. search needs)
     (λ c. search needs)
