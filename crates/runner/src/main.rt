@@ -15,5 +15,7 @@ One step a line, its fields parted by tabs. docs/GUIDE.md has the rest.
     }
     let mut page = [0xFFu8; 256];
     let mut array = [0xFFu8; 65536];
-    input::play_input(states::bench_kh25l512(), &mut page, &mut array, true);
+    let mut wear = [0u32; 16];
+    let rec = states::bench_kh25l512();
+    input::play_input(rec, &mut page, &mut array, &mut wear, true);
 }
