@@ -55,22 +55,22 @@ erase-requires : tie.Need-erase-requires
 erase-requires c κs =
     let a = c .before .before .before .before .before .before .before .before .args in
     let p = c .before .before .before .before .before .before .before .before .pre in
-    in-table (a .rec .model) ErasesSector (a .at .0) (now (a .wear)) (p .table) (omega (arith, p .inside, p .whole))
+    in-table (a .rec .model) _ (a .at .0) (now (a .wear)) (p .table) (omega (arith, p .inside, p .whole))
 
 erase-requires-2 : tie.Need-erase-requires-2
 erase-requires-2 c κs =
     let a = c .before .before .before .before .before .before .before .before .args in
     let p = c .before .before .before .before .before .before .before .before .pre in
-    in-table (a .rec .model) ErasesHalf (a .at .0) (now (a .wear)) (p .table) (omega (arith, p .inside, p .whole))
+    in-table (a .rec .model) _ (a .at .0) (now (a .wear)) (p .table) (omega (arith, p .inside, p .whole))
 
 erase-requires-3 : tie.Need-erase-requires-3
 erase-requires-3 c κs =
     let a = c .before .before .before .before .before .before .before .before .args in
     let p = c .before .before .before .before .before .before .before .before .pre in
-    in-table (a .rec .model) ErasesBlock (a .at .0) (now (a .wear)) (p .table) (omega (arith, p .inside, p .whole))
+    in-table (a .rec .model) _ (a .at .0) (now (a .wear)) (p .table) (omega (arith, p .inside, p .whole))
 
 erase-requires-4 : tie.Need-erase-requires-4
-erase-requires-4 c κs = chip-in-table noAddress (now (c .before .before .before .before .before .before .before .before .args .wear))
+erase-requires-4 c κs = chip-in-table _ (now (c .before .before .before .before .before .before .before .before .args .wear))
 
 program-page-requires : tie.Need-program-page-requires
 unfolding traitsOf
