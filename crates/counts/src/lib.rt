@@ -165,13 +165,16 @@ pub fn report(wear: &[u32]) -> Figures
         };
     }
     let s = sum_up(wear);
+    let sectors = n as u64;
+    let mean = s.total / sectors;
+    let remainder = s.total % sectors;
     Figures {
         answer: Answer::Done,
         total: s.total,
         smallest: s.smallest,
         largest: s.largest,
         sector: s.sector,
-        mean: (s.total / n as u64) as u32,
-        remainder: (s.total % n as u64) as u32,
+        mean: mean as u32,
+        remainder: remainder as u32,
     }
 }

@@ -100,12 +100,11 @@ fn forget(st: State) -> State
     next
 }
 
-// The operation's time has run out: its cells and kept bits change, and it is forgotten.
-pub fn finish(model: u32, st: State, page: &mut [u8], array: &mut [u8]) -> State
-    requires { ⌜ Operable model st (now page) (now array) ⌝ }
+// The time of the operation that runs, op, has run out: its cells and kept bits change, and it is forgotten.
+pub fn finish(model: u32, op: Operation, st: State, page: &mut [u8], array: &mut [u8]) -> State
+    requires { ⌜ (op ≡ runs model st) × Operable model st (now page) (now array) ⌝ }
     ensures { λ r. ⌜ Left (finished model (chipOf st (now (page .entry)) (now (array .entry)))) r (now (page .exit)) (now (array .exit)) ⌝ }
 {
-    let op = commands::started_by(model, st.command);
     finish_cells(model, op, Address(st.address), page, array);
     let kept = finish_bits(model, op, st, page);
     parts::fill(page, 0xFF);
@@ -190,12 +189,18 @@ fn cut_bits(model: u32, op: Operation, st: State, page: &[u8], pattern: &[u8]) -
     }
 }
 
-// The power is cut: the unit or the kept bits have what the pattern leaves, and no page data are left.
-pub fn tear(model: u32, st: State, page: &mut [u8], array: &mut [u8], pattern: &[u8]) -> State
-    requires { ⌜ (Operable model st (now page) (now array)) × (st .bp ≤ modelOf model .«highest_bp») × (length (now pattern) ≡ patternLength (runs model st) (st .address) (length (now array))) ⌝ }
+// The power is cut while op runs: the unit or the kept bits have what the pattern leaves, and no page data are left.
+pub fn tear(
+    model: u32,
+    op: Operation,
+    st: State,
+    page: &mut [u8],
+    array: &mut [u8],
+    pattern: &[u8],
+) -> State
+    requires { ⌜ (op ≡ runs model st) × (Operable model st (now page) (now array)) × (st .bp ≤ modelOf model .«highest_bp») × (length (now pattern) ≡ patternLength (runs model st) (st .address) (length (now array))) ⌝ }
     ensures { λ r. ⌜ Left (tornChip model (chipOf st (now (page .entry)) (now (array .entry))) (now (pattern .entry))) r (now (page .exit)) (now (array .exit)) ⌝ }
 {
-    let op = commands::started_by(model, st.command);
     cut_cells(model, op, Address(st.address), page, pattern, array);
     let kept = cut_bits(model, op, st, page, pattern);
     parts::fill(page, 0xFF);

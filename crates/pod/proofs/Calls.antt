@@ -12,6 +12,7 @@ use borrow.Rule.Slice.PartMut.{midOf, putMid}
 use Rattle.models.specs.Models.{modelOf}
 use Rattle.answers.specs.Answers.{numberOf, isDone, saysProtected}
 use Rattle.answers.specs.declared.Answer.{Answer}
+use Rattle.answers.specs.declared.Answer.the-variants.{BadRecord}
 use Rattle.states.specs.States.{flag, recordOk, stateOk, pageOk, Chip, chipOf}
 use Rattle.states.specs.declared.Record.{Record}
 use Rattle.states.specs.declared.State.{State}
@@ -21,10 +22,11 @@ use Rattle.effects.specs.Effects.{Gives}
 use Rattle.chip.specs.Frames.{Sent, headFor, frameOf}
 use Rattle.time.specs.declared.After.{After}
 use Rattle.time.specs.Time.{waited, cutOff, chipRefusal, powerRefusal, cutRefusal, Aftermath, unless, waitOf, powerOf, powerCutOf, Ends}
-use Rattle.pod.specs.Packing.{packed, pageIn, isPacking, unpackOf}
-use Rattle.pod.specs.Calls.{chipIn, bytesRefusal, mayMove, keptOf, called, calledFrame, altered, alteredOf, calledWait, calledCut, answered, calledCycle, Leaves, Alters, Answers, Packs}
-use Rattle.pod.proofs.Status.{flag-byte}
-use Rattle.pod.proofs.Valid.{invalid, Keeps, frame-keeps, chip-spared, power-spared, wait-keeps, cut-keeps, cycle-keeps}
+use Rattle.packing.specs.Packing.{packed, pageIn, isPacking, unpackOf}
+use Rattle.pod.specs.Calls.{chipIn, cellsRefusal, bytesRefusal, tableRefusal, frameRefusal, mayMove, keptOf, called, calledFrame, altered, alteredOf, calledWait, calledCut, answered, calledCycle, Leaves, Alters, Answers, Packs}
+use Rattle.packing.proofs.Status.{flag-byte}
+use Rattle.packing.proofs.Valid.{invalid}
+use Rattle.pod.proofs.Valid.{Keeps, frame-keeps, chip-spared, power-spared, wait-keeps, cut-keeps, cycle-keeps}
 
 -- ---- the page data are lent, and what comes back stands in their place
 module _ (xs : List ℕ) (n : length xs ≡ 272) where
@@ -70,8 +72,8 @@ module _ (xs : List ℕ) (n : length xs ≡ 272) where
         go false d = page-back page ∙ ap (λ (ys : List ℕ). take 16 xs ++ ys) (k .same-page d) ∙ take-append-drop 16 xs
 
 -- ---- frames
-module _ (rec : Record) (xs cells : List ℕ) (f : Sent) (n : length xs ≡ 272) {r : Record} {s : State} {reply : Reply} {page out′ : List ℕ} (re : r ≡ rec) (se : s ≡ unpackOf xs) (g : Gives (frameOf r (chipOf s (midOf 16 256 xs) cells) f) reply page out′) where
-  given : Gives (frameOf rec (chipIn xs cells) f) reply page out′
+module _ (rec : Record) (xs cells : List ℕ) (f : Sent) (n : length xs ≡ 272) {r : Record} {s : State} {reply : Reply} {page wear′ out′ : List ℕ} (re : r ≡ rec) (se : s ≡ unpackOf xs) (g : Gives (frameOf r (chipOf s (midOf 16 256 xs) cells) f) reply page wear′ out′) where
+  given : Gives (frameOf rec (chipIn xs cells) f) reply page wear′ out′
   given = rw (re, lent xs n cells se) at g
 
   frame-kept : Keeps rec (chipIn xs cells) (reply .answer) (reply .state) page
@@ -81,12 +83,13 @@ module _ (rec : Record) (xs cells : List ℕ) (f : Sent) (n : length xs ≡ 272)
   fits-frame = packs xs n rec cells (reply .answer) (reply .state) page frame-kept
 
   pub leaves : {m : ℕ} {xs′ : List ℕ} → m ≡ numberOf (reply .answer) → xs′ ≡ keptOf (reply .answer) (reply .state) (pageIn (putMid 16 256 xs page)) (putMid 16 256 xs page)
-      → Leaves (calledFrame rec xs cells f) m xs′ out′ (reply .from) (reply .count) (boolByte (reply .fold))
+      → Leaves (calledFrame rec xs cells f) m xs′ wear′ out′ (reply .from) (reply .count) (boolByte (reply .fold))
   unfolding calledFrame
   leaves e k =
       record {
         number-is = e ∙ ap (λ (x : Reply). numberOf (x .answer)) (given .reply);
         state-is = k ∙ kept-back xs n rec cells (reply .answer) (reply .state) page frame-kept ∙ rw (given .reply, given .page-is);
+        wear-is = given .wear-is;
         out-is = given .out;
         from-is = ap (λ (x : Reply). x .from) (given .reply);
         count-is = ap (λ (x : Reply). x .count) (given .reply);
@@ -170,14 +173,16 @@ module _ (rec : Record) (xs cells : List ℕ) (u : Unfit rec xs) where
   abbrev long : Bool
   long = eqb (length cells) (modelOf (rec .model) .length)
 
-  pub unfit-frame : (f : Sent) → calledFrame rec xs cells f ≡ called (bytesRefusal rec (length cells)) xs (f .out) 0 0 0
+  pub unfit-frame : (f : Sent) → calledFrame rec xs cells f ≡ called (frameRefusal rec (length cells) (length (f .wear))) xs (f .wear) (f .out) 0 0 0
   unfolding calledFrame frameOf refusalOf headFor keptOf
-  unfit-frame f = go (recordOk rec) long refl refl
+  unfit-frame f = go (recordOk rec) long (eqb (length (f .wear)) (modelOf (rec .model) .sectors)) refl refl refl
     where
-      go : (r l : Bool) → recordOk rec ≡ r → long ≡ l → calledFrame rec xs cells f ≡ called (cond r (cond l 3 2) 1) xs (f .out) 0 0 0
-      go true true e k = rw (e, k, u)
-      go true false e k = rw (e, k)
-      go false l e k = rw e
+      go : (r l t : Bool) → recordOk rec ≡ r → long ≡ l → eqb (length (f .wear)) (modelOf (rec .model) .sectors) ≡ t
+          → calledFrame rec xs cells f ≡ called (cond r (cond l (cond t 3 24) 2) 1) xs (f .wear) (f .out) 0 0 0
+      go true true true e k w = rw (e, k, w, u)
+      go true true false e k w = rw (e, k, w)
+      go true false t e k w = rw (e, k)
+      go false l t e k w = rw e
 
   unfit-chip : (numberOf (chipRefusal rec (chipIn xs cells)) ≡ bytesRefusal rec (length cells)) × (isDone (chipRefusal rec (chipIn xs cells)) ≡ false)
   unfolding chipRefusal
@@ -209,22 +214,62 @@ unfit-cycle rec xs u = go (recordOk rec) refl
     go true e = rw (e, u)
     go false e = rw e
 
--- what is no packing is refused before it is unpacked
-module _ (rec : Record) (xs cells : List ℕ) (n : isPacking xs ≡ false) {r : Record} {m : ℕ} (re : r ≡ rec) (e : m ≡ bytesRefusal r (length cells)) where
-  same-number : m ≡ bytesRefusal rec (length cells)
-  same-number = rw re at e
+-- a record that is not right is refused before anything else is looked at
+module _ (rec : Record) (xs : List ℕ) {r : Record} (re : r ≡ rec) (b : recordOk r ≡ false) where
+  bad : recordOk rec ≡ false
+  bad = sym (ap recordOk re) ∙ b
 
-  pub bad-bytes-frame : (f : Sent) → Leaves (calledFrame rec xs cells f) m xs (f .out) 0 0 0
-  bad-bytes-frame f =
-      rw (unfit-frame rec xs cells (no-packing rec xs n) f) (record { number-is = same-number; state-is = refl; out-is = refl; from-is = refl; count-is = refl; fold-is = refl })
+  record-frame : (cells : List ℕ) (f : Sent) → calledFrame rec xs cells f ≡ called 1 xs (f .wear) (f .out) 0 0 0
+  unfolding calledFrame frameOf refusalOf headFor keptOf
+  record-frame cells f = rw bad
 
-  pub bad-bytes-wait : (us : ℕ) → Alters (calledWait rec xs cells us) m xs cells
-  bad-bytes-wait us = rw (unfit-wait rec xs cells (no-packing rec xs n) us) (record { number-is = same-number; state-is = refl; cells-are = refl })
+  record-chip : (cells : List ℕ) → chipRefusal rec (chipIn xs cells) ≡ BadRecord
+  unfolding chipRefusal
+  record-chip cells = rw bad
 
-  pub bad-bytes-cut : (pattern : List ℕ) → Alters (calledCut rec xs cells pattern) m xs cells
-  bad-bytes-cut pattern = rw (unfit-cut rec xs cells (no-packing rec xs n) pattern) (record { number-is = same-number; state-is = refl; cells-are = refl })
+  record-wait : (cells : List ℕ) (us : ℕ) → calledWait rec xs cells us ≡ altered 1 xs cells
+  unfolding calledWait waitOf
+  record-wait cells us = rw (record-chip cells) (refused-altered xs cells BadRecord (waited (rec .model) (chipIn xs cells) us) refl refl)
 
-pub bad-bytes-cycle : (rec : Record) (xs : List ℕ) {r : Record} (l : Bool) → r ≡ rec → isPacking xs ≡ false → recordOk r ≡ l → Answers (calledCycle rec xs) (cond l 3 1) xs
-bad-bytes-cycle rec xs {r} l re n k =
-    let c = unfit-cycle rec xs (no-packing rec xs n) ∙ ap (λ (t : Bool). answered (cond t 3 1) xs) (ap recordOk (sym re) ∙ k) in
-    rw c (record { number-is = refl; state-is = refl })
+  record-cut : (cells pattern : List ℕ) → calledCut rec xs cells pattern ≡ altered 1 xs cells
+  unfolding calledCut powerCutOf cutRefusal
+  record-cut cells pattern = rw (record-chip cells) (refused-altered xs cells BadRecord (cutOff (rec .model) (chipIn xs cells) pattern) refl refl)
+
+  record-cycle : calledCycle rec xs ≡ answered 1 xs
+  unfolding calledCycle powerOf powerRefusal keptOf
+  record-cycle = rw bad
+
+  pub bad-record-frame : (cells : List ℕ) (f : Sent) → Leaves (calledFrame rec xs cells f) 1 xs (f .wear) (f .out) 0 0 0
+  bad-record-frame cells f = rw (record-frame cells f) (record { number-is = refl; state-is = refl; wear-is = refl; out-is = refl; from-is = refl; count-is = refl; fold-is = refl })
+
+  pub bad-record-wait : (cells : List ℕ) (us : ℕ) → Alters (calledWait rec xs cells us) 1 xs cells
+  bad-record-wait cells us = rw (record-wait cells us) (record { number-is = refl; state-is = refl; cells-are = refl })
+
+  pub bad-record-cut : (cells pattern : List ℕ) → Alters (calledCut rec xs cells pattern) 1 xs cells
+  bad-record-cut cells pattern = rw (record-cut cells pattern) (record { number-is = refl; state-is = refl; cells-are = refl })
+
+  pub bad-record-cycle : Answers (calledCycle rec xs) 1 xs
+  bad-record-cycle = rw record-cycle (record { number-is = refl; state-is = refl })
+
+-- under a right one what is no packing is refused before it is unpacked
+module _ (rec : Record) (xs : List ℕ) (n : isPacking xs ≡ false) {r : Record} (re : r ≡ rec) (k : recordOk r ≡ true) where
+  good : recordOk rec ≡ true
+  good = sym (ap recordOk re) ∙ k
+
+  module _ (cells : List ℕ) {m : ℕ} (e : m ≡ cellsRefusal (r .model) (length cells)) where
+    same-number : m ≡ bytesRefusal rec (length cells)
+    same-number = rw good (e ∙ ap (λ (x : Record). cellsRefusal (x .model) (length cells)) re)
+
+    pub bad-bytes-wait : (us : ℕ) → Alters (calledWait rec xs cells us) m xs cells
+    bad-bytes-wait us = rw (unfit-wait rec xs cells (no-packing rec xs n) us) (record { number-is = same-number; state-is = refl; cells-are = refl })
+
+    pub bad-bytes-cut : (pattern : List ℕ) → Alters (calledCut rec xs cells pattern) m xs cells
+    bad-bytes-cut pattern = rw (unfit-cut rec xs cells (no-packing rec xs n) pattern) (record { number-is = same-number; state-is = refl; cells-are = refl })
+
+  pub bad-bytes-frame : (cells : List ℕ) (f : Sent) {m : ℕ} → m ≡ tableRefusal (r .model) (length cells) (length (f .wear)) → Leaves (calledFrame rec xs cells f) m xs (f .wear) (f .out) 0 0 0
+  bad-bytes-frame cells f e =
+      rw (unfit-frame rec xs cells (no-packing rec xs n) f, good)
+      (record { number-is = e ∙ ap (λ (x : Record). tableRefusal (x .model) (length cells) (length (f .wear))) re; state-is = refl; wear-is = refl; out-is = refl; from-is = refl; count-is = refl; fold-is = refl })
+
+  pub bad-bytes-cycle : Answers (calledCycle rec xs) 3 xs
+  bad-bytes-cycle = rw (unfit-cycle rec xs (no-packing rec xs n), good) (record { number-is = refl; state-is = refl })

@@ -1,8 +1,5 @@
--- `Bytes`, `Status`, `Packing`: laws of the packed state. `Valid`: what a call that may move the state shows of it, and what it leaves.
--- `Calls`: the effects of the calls from those of the chip. `Promises`: what specs/Promises.antt states.
-pub mod Bytes
-pub mod Status
-pub mod Packing
+-- `Valid`: what a call that may move the state shows of it, and what it leaves. `Calls`: the effects of the calls from those of the chip. `Promises`: what
+-- specs/Promises.antt states.
 pub mod Valid
 pub mod Calls
 pub mod Promises

@@ -2,24 +2,22 @@
 use mathlib.Core.Path.{_≡_, refl, sym, _∙_}
 use mathlib.Core.Bool.{Bool, true, false, _&&_, _||_, cond, or-false, true≢false, false≢true}
 use mathlib.Core.List.{List}
-use mathlib.Core.Logic.{⊎-elim}
 use Prim.Native.Nat.{ℕ, _^_, _≤_, _<_}
 use native.Mathlib.Omega.{arith}
 use lib.Dec.{eqb, ltb}
 use lib.ListN.{length}
-use borrow.Author.Tests.{eqb-true, ltb-true}
-use Rattle.units.proofs.Bools.{both, neither, either}
+use Rattle.units.proofs.Bools.{neither}
 use Rattle.models.specs.Models.{modelOf}
-use Rattle.models.proofs.Rules.{highest-bp, row-rules}
+use Rattle.models.proofs.Rules.{highest-bp}
 use Rattle.answers.specs.Answers.{isDone, saysProtected}
 use Rattle.answers.specs.declared.Answer.{Answer}
 use Rattle.answers.specs.declared.Answer.the-variants.{Done, BadRecord, BadArray, BadState, Busy, BadPattern}
 use Rattle.commands.specs.declared.Operation.{Operation}
 use Rattle.commands.specs.declared.Operation.the-variants.{Idle, WritesStatus, Programs, ErasesSector, ErasesHalf, ErasesBlock, ErasesChip}
-use Rattle.states.specs.States.{recordOk, longestSettle, operationTime, placeOk, noAddress, stateOk, pageOk, Chip, chipOf}
+use Rattle.states.specs.States.{recordOk, longestSettle, operationTime, stateOk, pageOk, Chip, chipOf}
 use Rattle.states.specs.declared.Record.{Record}
 use Rattle.states.specs.declared.State.{State}
-use Rattle.states.proofs.States.{sound, busy-le, operation-le, page-length, blank-page, longest-in-range, busy-le-all, settle-le-all}
+use Rattle.states.proofs.States.{operation-le, page-length, blank-page, longest-in-range, busy-le-all, settle-le-all}
 use Rattle.ladder.proofs.Passed.{passed, Stopped, stopped}
 use Rattle.effects.specs.Effects.{latched, dozing, starting, refusalLeaves, Effect}
 use Rattle.effects.proofs.Replies.{leaves-all}
@@ -31,50 +29,8 @@ use Rattle.chip.proofs.Sorts.{Move, stays, latches, dozes, Begun, Turn, moved, 
 use Rattle.time.specs.Time.{later, waited, cycled, cutOff, chipRefusal, powerRefusal, cutRefusal, waitOf, powerOf, powerCutOf}
 use Rattle.time.proofs.Time.{Fit, chip-fits, cuttable}
 use Rattle.pod.specs.Calls.{mayMove}
-use Rattle.pod.specs.Packing.{isPacking, noState, unpackOf}
-use Rattle.pod.proofs.Packing.{Small, unpack-none}
-
--- ---- a valid state is a packing's, and fits sixteen bytes
-nothing-valid : (rec : Record) → stateOk rec noState ≡ true → ⊥
-nothing-valid rec e = omega (arith, sound rec noState e .level, highest-bp (rec .model))
-
-pub valid-packing : (rec : Record) (xs : List ℕ) → stateOk rec (unpackOf xs) ≡ true → isPacking xs ≡ true
-valid-packing rec xs v = go (isPacking xs) refl
-  where
-    go : (b : Bool) → isPacking xs ≡ b → isPacking xs ≡ true
-    go true e = e
-    go false e = absurd (nothing-valid rec (rw (unpack-none xs e) at v))
-
-pub invalid : (rec : Record) (xs : List ℕ) → isPacking xs ≡ false → stateOk rec (unpackOf xs) ≡ false
-invalid rec xs n = go (stateOk rec (unpackOf xs)) refl
-  where
-    go : (b : Bool) → stateOk rec (unpackOf xs) ≡ b → stateOk rec (unpackOf xs) ≡ false
-    go true e = absurd (true≢false (sym (valid-packing rec xs e) ∙ n))
-    go false e = e
-
--- an address that fits its operation, or what stands in its place
-near-below : (n place : ℕ) → ltb place (modelOf n .length) ≡ true → place < 2 ^ 24
-near-below n place e = omega (arith, ltb-true place (modelOf n .length) e, row-rules n .reach)
-
-place-near : (n : ℕ) (op : Operation) (place : ℕ) → placeOk n op place ≡ true → place < 2 ^ 24
-place-near n Idle place e = omega (arith, eqb-true place noAddress e)
-place-near n WritesStatus place e =
-    ⊎-elim (λ h. omega (arith, eqb-true place 1 h)) (λ h. omega (arith, eqb-true place 2 (both (modelOf n .register) (eqb place 2) h .1))) (either (eqb place 1) (modelOf n .register && eqb place 2) e)
-place-near n Programs place e = near-below n place e
-place-near n ErasesSector place e = near-below n place e
-place-near n ErasesHalf place e = near-below n place e
-place-near n ErasesBlock place e = near-below n place e
-place-near n ErasesChip place e = omega (arith, eqb-true place noAddress e)
-
-pub valid-small : (rec : Record) (s : State) → recordOk rec ≡ true → stateOk rec s ≡ true → Small s
-valid-small rec s r v =
-    let p = sound rec s v in
-    record {
-      level = omega (arith, p .level, highest-bp (rec .model));
-      short = omega (arith, busy-le rec s p, busy-le-all rec, longest-in-range rec r .short);
-      brief = omega (arith, p .settle, settle-le-all rec, longest-in-range rec r .short);
-      near = ⊎-elim (λ q. omega (arith, q .address)) (λ q. place-near (rec .model) (runs (rec .model) s) (s .address) (q .place)) (p .mood);
-    }
+use Rattle.packing.proofs.Packing.{Small}
+use Rattle.packing.proofs.Valid.{place-near, valid-small}
 
 -- ---- what a call leaves: where it may move the state, the one before was valid, and what is after fits the bytes; otherwise all is as it was
 pub record Keeps (rec : Record) (x : Chip) (a : Answer) (next : State) (page : List ℕ) : Type 0 where

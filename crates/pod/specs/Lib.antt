@@ -1,3 +1,2 @@
-pub mod Packing
 pub mod Calls
 pub mod Promises

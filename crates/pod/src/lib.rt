@@ -1,101 +1,12 @@
 // What the pod's firmware, written in C, calls: frame, wait, power cycle and cut on numbers and byte slices, the state packed in 272 lent bytes. The last 256
 // are the page data, and are lent on as they stand.
 ghost use mathlib.Core.Path.{_≡_};
-ghost use mathlib.Core.List.{_∷_, []};
-ghost use Prim.Native.Nat.{_≤_};
-ghost use lib.ListN.{length};
 ghost use Rattle.answers.specs.Answers.{numberOf};
-ghost use Rattle.pod.specs.Packing.{spelt, placeSpelt, packed, pageIn, readOf, isPacking, Timed};
-ghost use Rattle.pod.specs.Calls.{recordOf, bytesRefusal, keptOf, Packs, sentBy, Leaves, Alters, Answers, calledFrame, calledWait, calledCut, calledCycle};
+ghost use Rattle.packing.specs.Packing.{pageIn};
+ghost use Rattle.pod.specs.Calls.{recordOf, cellsRefusal, tableRefusal, calledReport, Reports, keptOf, Packs, sentBy, Leaves, Alters, Answers, calledFrame, calledWait, calledCut, calledCycle};
 use answers::Answer;
-use parts::wide;
 use states::Record;
 use states::State;
-
-// ---- the packed state
-
-// The number of four bytes, the low byte first.
-fn time_of(a: u8, b: u8, c: u8, d: u8) -> u32
-    ensures { λ r. ⌜ r ≡ spelt (a ∷ b ∷ c ∷ d ∷ []) ⌝ }
-{
-    wide(a) + 256 * (wide(b) + 256 * (wide(c) + 256 * wide(d)))
-}
-
-// The number of three bytes, the high byte first.
-fn place_of(high: u8, middle: u8, low: u8) -> u32
-    ensures { λ r. ⌜ r ≡ placeSpelt high middle low ⌝ }
-{
-    wide(low) + 256 * (wide(middle) + 256 * wide(high))
-}
-
-// The busy time that 272 bytes spell; 0 of any other number of bytes.
-fn busy_in(state: &[u8]) -> u32
-    ensures { λ r. ⌜ Timed (now (state .entry)) r ⌝ }
-{
-    if state.len() == 272 {
-        return time_of(state[4], state[5], state[6], state[7]);
-    }
-    0
-}
-
-// Whether the lent bytes, which spell that busy time, are a packing: 272 of them, bit 6 of the status clear, WIP as the time makes it, the flag 0 or 1, and a
-// zero.
-fn is_packed(state: &[u8], busy: u32) -> bool
-    requires { ⌜ Timed (now state) busy ⌝ }
-    ensures { λ r. ⌜ r ≡ isPacking (now (state .entry)) ⌝ }
-{
-    if state.len() != 272 {
-        return false;
-    }
-    let status = state[0];
-    let wip = (busy != 0) as u8;
-    (status / 64 % 2 == 0) & ((status % 2 == wip) & ((state[1] <= 1) & (state[3] == 0)))
-}
-
-// The state that 272 bytes spell, with that busy time.
-fn unpack(state: &[u8], busy: u32) -> State
-    requires { ⌜ (length (now state) ≡ 272) × Timed (now state) busy ⌝ }
-    ensures { λ r. ⌜ r ≡ readOf (now (state .entry)) ⌝ }
-{
-    let status = state[0];
-    State {
-        srwd: 128 <= status,
-        bp: status / 4 % 16,
-        config: state[2],
-        wel: status / 2 % 2 == 1,
-        asleep: state[1] == 1,
-        busy,
-        settle: time_of(state[8], state[9], state[10], state[11]),
-        command: state[12],
-        address: place_of(state[13], state[14], state[15]),
-    }
-}
-
-// The state, packed into the first 16 of the lent bytes; the others stay.
-fn pack(st: State, state: &mut [u8])
-    requires { ⌜ (st .bp ≤ 15) × (length (now state) ≡ 272) ⌝ }
-    ensures { λ _. ⌜ now (state .exit) ≡ packed st (pageIn (now (state .entry))) ⌝ }
-{
-    let busy = st.busy;
-    let settle = st.settle;
-    let address = st.address;
-    state[0] = states::status(st);
-    state[1] = st.asleep as u8;
-    state[2] = st.config;
-    state[3] = 0;
-    state[4] = (busy % 256) as u8;
-    state[5] = (busy / 256 % 256) as u8;
-    state[6] = (busy / 65536 % 256) as u8;
-    state[7] = (busy / 16777216 % 256) as u8;
-    state[8] = (settle % 256) as u8;
-    state[9] = (settle / 256 % 256) as u8;
-    state[10] = (settle / 65536 % 256) as u8;
-    state[11] = (settle / 16777216 % 256) as u8;
-    state[12] = st.command;
-    state[13] = (address / 65536 % 256) as u8;
-    state[14] = (address / 256 % 256) as u8;
-    state[15] = (address % 256) as u8;
-}
 
 // The answer's number. The state after is packed where it may differ: where nothing was refused, and at 17; otherwise the lent bytes stay.
 fn keep(answer: Answer, next: State, state: &mut [u8]) -> u32
@@ -104,23 +15,31 @@ fn keep(answer: Answer, next: State, state: &mut [u8]) -> u32
 {
     let number = answers::number_of(answer);
     if (number == 0) | (number == 17) {
-        pack(next, state);
+        packing::pack(next, state);
     }
     number
 }
 
-// What bytes that are no packing are answered, by a call with an array of that many cells: 1, 2 or 3.
-fn bytes_refusal(rec: Record, cells: usize) -> u32
-    ensures { λ r. ⌜ r ≡ bytesRefusal rec cells ⌝ }
+// What bytes that are no packing are answered under a right record, by a call with an array of that many cells: 2 or 3.
+fn bytes_refusal(model: u32, cells: usize) -> u32
+    ensures { λ r. ⌜ r ≡ cellsRefusal model cells ⌝ }
 {
-    if !states::record_ok(rec) {
-        return 1;
-    }
-    let row = models::model_of(rec.model);
+    let row = models::model_of(model);
     if cells != row.length as usize {
         return 2;
     }
     3
+}
+
+// The same of a frame, which has a wear table of so many counts too: 24 stands between 2 and 3.
+fn frame_refusal(model: u32, cells: usize, sectors: usize) -> u32
+    ensures { λ r. ⌜ r ≡ tableRefusal model cells sectors ⌝ }
+{
+    let row = models::model_of(model);
+    if sectors == row.sectors as usize {
+        return bytes_refusal(model, cells);
+    }
+    if cells == row.length as usize { 24 } else { 2 }
 }
 
 // ---- what C calls
@@ -169,6 +88,7 @@ pub extern "C" fn gwo_frame(
     sign_us: u32,
     state: &mut [u8],
     array: &[u8],
+    wear: &mut [u32],
     frame: &[u8],
     tail: u32,
     wp: u32,
@@ -177,7 +97,7 @@ pub extern "C" fn gwo_frame(
     count: &mut u32,
     fold: &mut u32,
 ) -> u32
-    ensures { λ r. ⌜ Leaves (calledFrame (recordOf model «status_us» «page_us» «sector_us» «block_us» «chip_us» «half_us» «sleep_us» «wake_us» «sign_us») (now (state .entry)) (now (array .entry)) (sentBy (now (frame .entry)) tail wp (now (out .entry)))) r (now (state .exit)) (now (out .exit)) (now (from .exit)) (now (count .exit)) (now (fold .exit)) ⌝ }
+    ensures { λ r. ⌜ Leaves (calledFrame (recordOf model «status_us» «page_us» «sector_us» «block_us» «chip_us» «half_us» «sleep_us» «wake_us» «sign_us») (now (state .entry)) (now (array .entry)) (sentBy (now (frame .entry)) tail wp (now (wear .entry)) (now (out .entry)))) r (now (state .exit)) (now (wear .exit)) (now (out .exit)) (now (from .exit)) (now (count .exit)) (now (fold .exit)) ⌝ }
 {
     let rec = record_of(
         model,
@@ -191,19 +111,26 @@ pub extern "C" fn gwo_frame(
         wake_us,
         sign_us,
     );
-    let busy = busy_in(state);
-    if !is_packed(state, busy) {
+    if !states::record_ok(rec) {
         *from = 0;
         *count = 0;
         *fold = 0;
-        return bytes_refusal(rec, array.len());
+        return 1;
     }
-    let st = unpack(state, busy);
+    let busy = packing::busy_in(state);
+    if !packing::is_packed(state, busy) {
+        *from = 0;
+        *count = 0;
+        *fold = 0;
+        return frame_refusal(rec.model, array.len(), wear.len());
+    }
+    let st = packing::unpack(state, busy);
     let reply = chip::frame(
         rec,
         st,
         &mut state[16..272],
         array,
+        wear,
         frame,
         tail,
         wp != 0,
@@ -248,11 +175,14 @@ pub extern "C" fn gwo_wait(
         wake_us,
         sign_us,
     );
-    let busy = busy_in(state);
-    if !is_packed(state, busy) {
-        return bytes_refusal(rec, array.len());
+    if !states::record_ok(rec) {
+        return 1;
     }
-    let st = unpack(state, busy);
+    let busy = packing::busy_in(state);
+    if !packing::is_packed(state, busy) {
+        return bytes_refusal(rec.model, array.len());
+    }
+    let st = packing::unpack(state, busy);
     let waited = time::wait(rec, st, &mut state[16..272], array, us);
     let answer = waited.answer;
     let next = waited.state;
@@ -290,11 +220,14 @@ pub extern "C" fn gwo_cut(
         wake_us,
         sign_us,
     );
-    let busy = busy_in(state);
-    if !is_packed(state, busy) {
-        return bytes_refusal(rec, array.len());
+    if !states::record_ok(rec) {
+        return 1;
     }
-    let st = unpack(state, busy);
+    let busy = packing::busy_in(state);
+    if !packing::is_packed(state, busy) {
+        return bytes_refusal(rec.model, array.len());
+    }
+    let st = packing::unpack(state, busy);
     let torn = time::cut(rec, st, &mut state[16..272], array, pattern);
     let answer = torn.answer;
     let next = torn.state;
@@ -330,13 +263,43 @@ pub extern "C" fn gwo_power_cycle(
         wake_us,
         sign_us,
     );
-    let busy = busy_in(state);
-    if !is_packed(state, busy) {
-        return if states::record_ok(rec) { 3 } else { 1 };
+    if !states::record_ok(rec) {
+        return 1;
     }
-    let st = unpack(state, busy);
+    let busy = packing::busy_in(state);
+    if !packing::is_packed(state, busy) {
+        return 3;
+    }
+    let st = packing::unpack(state, busy);
     let cycled = time::power_cycle(rec, st, &state[16..272]);
     let answer = cycled.answer;
     let next = cycled.state;
     keep(answer, next, state)
+}
+
+// The report on a wear table: its answer's number. The six places are written only where it is 0.
+#[no_mangle]
+pub extern "C" fn gwo_wear_report(
+    wear: &[u32],
+    total: &mut u64,
+    smallest: &mut u32,
+    largest: &mut u32,
+    sector: &mut u32,
+    mean: &mut u32,
+    remainder: &mut u32,
+) -> u32
+    ensures { λ r. ⌜ Reports (calledReport (now (wear .entry)) (now (total .entry)) (now (smallest .entry)) (now (largest .entry)) (now (sector .entry)) (now (mean .entry)) (now (remainder .entry))) r (now (total .exit)) (now (smallest .exit)) (now (largest .exit)) (now (sector .exit)) (now (mean .exit)) (now (remainder .exit)) ⌝ }
+{
+    let said = counts::report(wear);
+    let answer = said.answer;
+    if !answers::is_done(answer) {
+        return answers::number_of(answer);
+    }
+    *total = said.total;
+    *smallest = said.smallest;
+    *largest = said.largest;
+    *sector = said.sector;
+    *mean = said.mean;
+    *remainder = said.remainder;
+    0
 }

@@ -50,8 +50,8 @@ pub fn erase(
 {
     if counts::count(wear, op, place) {
         let time = states::operation_time(rec, op);
-        let command = parts::byte_at(bytes, 0);
-        return effects::quiet(Answer::Done, effects::start(st, command, place, time));
+        let sent = parts::byte_at(bytes, 0);
+        return effects::quiet(Answer::Done, effects::start(st, sent, place, time));
     }
     effects::quiet(Answer::WornOut, st)
 }

@@ -15,7 +15,7 @@ use Rattle.commands.specs.declared.Operation.the-variants.{Idle, WritesStatus, 
 use borrow.Author.Tests.{eqb-true, eqb-false, leb-true, leb-false, not-true, eq-eqb, ne-eqb, le-leb}
 use Rattle.models.specs.Models.{isModel, partOf, modelOf}
 use Rattle.units.proofs.Bools.{both, either}
-use Rattle.states.specs.States.{commonTimes, busyTimes, settleTimes, timesOf, inRange, all, halfOk, recordOk, largest, longestBusy, longestSettle, longestOf, configOk, noCommand, noAddress, operationTime, placeOk, idleOk, busyOk, stateOk, usedPage, pageOk, blankPage}
+use Rattle.states.specs.States.{commonTimes, busyTimes, settleTimes, timesOf, inRange, all, halfOk, recordOk, largest, longestBusy, longestSettle, longestOf, configOk, noCommand, noAddress, operationTime, placeOk, levelOk, idleOk, runsOk, busyOk, stateOk, usedPage, pageFits, pageOk, blankPage}
 use Rattle.states.specs.declared.Record.{Record}
 use Rattle.states.specs.declared.State.{State}
 
@@ -94,8 +94,27 @@ valid rec s p =
     (λ q. rw (ne-eqb (s .busy) 0 (λ z. omega (arith, q .busy)), le-leb (s .busy) (operationTime rec (startedBy (rec .model) (s .command))) (q .time), q .place, q .latch, q .awake, eq-eqb (s .settle) 0 (q .settled)))
     (p .mood))
 
+-- by what runs: the state of a chip that is not busy, and of a busy one
+module _ (rec : Record) (s : State) where
+  pub idle-state : s .busy ≡ 0 → stateOk rec s ≡ (levelOk (rec .model) s && idleOk rec s)
+  unfolding stateOk
+  idle-state z = rw (eq-eqb (s .busy) 0 z)
+
+  pub busy-state : {op : Operation} → (s .busy ≡ 0 → ⊥) → op ≡ startedBy (rec .model) (s .command) → stateOk rec s ≡ (levelOk (rec .model) s && runsOk rec s op)
+  unfolding stateOk busyOk
+  busy-state z e = rw (ne-eqb (s .busy) 0 z, e)
+
 -- ---- the page data
+-- by what runs
 module _ (n : ℕ) (s : State) (page : List ℕ) where
+  pub idle-page : s .busy ≡ 0 → pageOk n s page ≡ pageFits Idle (s .address) page
+  unfolding pageOk usedPage
+  idle-page z = rw (eq-eqb (s .busy) 0 z)
+
+  pub busy-page : {op : Operation} → (s .busy ≡ 0 → ⊥) → op ≡ startedBy n (s .command) → pageOk n s page ≡ pageFits op (s .address) page
+  unfolding pageOk usedPage
+  busy-page z e = rw (ne-eqb (s .busy) 0 z, e)
+
   pub page-length : pageOk n s page ≡ true → length page ≡ 256
   unfolding pageOk
   page-length e = eqb-true (length page) 256 (both (eqb (length page) 256) _ e .0)

@@ -93,21 +93,24 @@ placeOk n ErasesHalf place = ltb place (modelOf n .length)
 placeOk n ErasesBlock place = ltb place (modelOf n .length)
 placeOk n ErasesChip place = eqb place noAddress
 
+-- BP and the register are in their range
+abbrev pub levelOk : ℕ → State → Bool
+levelOk n s = leb (s .bp) (modelOf n .«highest_bp») && configOk (modelOf n .register) (s .config)
+
 -- a chip that is not busy remembers no operation, and may settle
 unfoldable pub idleOk : Record → State → Bool
 idleOk r s = leb (s .settle) (longestSettle r) && (eqb (s .command) noCommand && eqb (s .address) noAddress)
 
 -- a busy one runs an operation whose time is not over; it has WEL set, is not in deep power-down, and does not settle
-unfoldable pub busyOk : Record → State → Bool
-busyOk r s =
-    let op : Operation = startedBy (r .model) (s .command) in
-    (leb (s .busy) (operationTime r op) && placeOk (r .model) op (s .address)) && ((s .wel && not (s .asleep)) && eqb (s .settle) 0)
+abbrev pub runsOk : Record → State → Operation → Bool
+runsOk r s op = (leb (s .busy) (operationTime r op) && placeOk (r .model) op (s .address)) && ((s .wel && not (s .asleep)) && eqb (s .settle) 0)
 
--- BP and the register are in their range, and the rest as it has to be while idle or while busy
+unfoldable pub busyOk : Record → State → Bool
+busyOk r s = runsOk r s (startedBy (r .model) (s .command))
+
+-- the level is in its range, and the rest as it has to be while idle or while busy
 unfoldable pub stateOk : Record → State → Bool
-stateOk r s =
-    (leb (s .bp) (modelOf (r .model) .«highest_bp») && configOk (modelOf (r .model) .register) (s .config))
-    && cond (eqb (s .busy) 0) (idleOk r s) (busyOk r s)
+stateOk r s = levelOk (r .model) s && cond (eqb (s .busy) 0) (idleOk r s) (busyOk r s)
 
 -- ---- the page data: 256 bytes, FF where they are not used
 -- how many are used, from the first on: a program uses all, a status write one for each data byte
@@ -120,6 +123,11 @@ usedBytes ErasesHalf place = 0
 usedBytes ErasesBlock place = 0
 usedBytes ErasesChip place = 0
 
+-- page data that fit an operation
+abbrev pub pageFits : Operation → ℕ → List ℕ → Bool
+pageFits op place page = eqb (length page) 256 && allAre 0xFF (drop (usedBytes op place) page)
+
+-- and a chip
 unfoldable pub usedPage : ℕ → State → ℕ
 usedPage n s = cond (eqb (s .busy) 0) 0 (usedBytes (startedBy n (s .command)) (s .address))
 

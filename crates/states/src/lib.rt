@@ -1,8 +1,9 @@
 // Records, states, page data and the status byte.
 ghost use mathlib.Core.Path.{_≡_};
+ghost use mathlib.Core.Bool.{_&&_};
 ghost use Prim.Native.Nat.{max, _<_, _≤_};
 ghost use lib.Dec.{leb};
-ghost use Rattle.states.specs.States.{inRange, halfOk, recordOk, longestSettle, configOk, operationTime, placeOk, idleOk, busyOk, stateOk, usedBytes, usedPage, pageOk, tbOf, flag as States·flag, statusOf, powerOn, benchKH25L512, benchKH25L2006E, benchKH25L12845G};
+ghost use Rattle.states.specs.States.{inRange, halfOk, recordOk, longestSettle, configOk, operationTime, placeOk, levelOk, idleOk, runsOk, stateOk, usedBytes, pageFits, pageOk, tbOf, flag as States·flag, statusOf, powerOn, benchKH25L512, benchKH25L2006E, benchKH25L12845G};
 use commands::Operation;
 
 // The model's number, and its times in microseconds: busy after each operation (that of a half block's erase is 0 on a model that has none), and
@@ -135,32 +136,39 @@ fn place_ok(model: u32, op: Operation, place: u32) -> bool
     }
 }
 
-// A chip that is not busy remembers no operation, and may settle.
-fn idle_ok(rec: Record, st: State) -> bool
-    ensures { λ r. ⌜ r ≡ idleOk rec st ⌝ }
+// BP and the register are in their range.
+fn level_ok(model: u32, st: State) -> bool
+    ensures { λ r. ⌜ r ≡ levelOk model st ⌝ }
 {
-    settle_ok(rec, st.settle) & ((st.command == 0xFF) & (st.address == 0xFFFFFF))
+    let row = models::model_of(model);
+    (st.bp <= row.highest_bp) & config_ok(row.register, st.config)
 }
 
-// A busy one has an operation whose time is not over; WEL is set, it is not in deep power-down, and does not settle.
-fn busy_ok(rec: Record, st: State) -> bool
-    ensures { λ r. ⌜ r ≡ busyOk rec st ⌝ }
+// Whether the state of a chip that is not busy is valid: it remembers no operation, and may settle.
+pub fn idle_ok(rec: Record, st: State) -> bool
+    ensures { λ r. ⌜ r ≡ (levelOk (rec .model) st && idleOk rec st) ⌝ }
 {
-    let op = commands::started_by(rec.model, st.command);
-    ((st.busy <= operation_time(rec, op)) & place_ok(rec.model, op, st.address))
-        & ((st.wel & !st.asleep) & (st.settle == 0))
+    level_ok(rec.model, st)
+        & (settle_ok(rec, st.settle) & ((st.command == 0xFF) & (st.address == 0xFFFFFF)))
+}
+
+// Whether that of a busy one is, which runs op: its time is not over, WEL is set, it is not in deep power-down, and does not settle.
+pub fn busy_ok(rec: Record, st: State, op: Operation) -> bool
+    ensures { λ r. ⌜ r ≡ (levelOk (rec .model) st && runsOk rec st op) ⌝ }
+{
+    level_ok(rec.model, st)
+        & (((st.busy <= operation_time(rec, op)) & place_ok(rec.model, op, st.address))
+            & ((st.wel & !st.asleep) & (st.settle == 0)))
 }
 
 // Whether the state is valid under the record.
 pub fn state_ok(rec: Record, st: State) -> bool
     ensures { λ r. ⌜ r ≡ stateOk rec st ⌝ }
 {
-    let row = models::model_of(rec.model);
-    let level = (st.bp <= row.highest_bp) & config_ok(row.register, st.config);
     if st.busy == 0 {
-        return level & idle_ok(rec, st);
+        return idle_ok(rec, st);
     }
-    level & busy_ok(rec, st)
+    busy_ok(rec, st, commands::started_by(rec.model, st.command))
 }
 
 // How many bytes of the page data the operation uses, from the first on.
@@ -178,27 +186,28 @@ fn used_bytes(op: Operation, place: u32) -> u32
     }
 }
 
-fn used_of(model: u32, st: State) -> u32
-    ensures { λ r. ⌜ r ≡ usedPage model st ⌝ }
-{
-    if st.busy == 0 {
-        return 0;
-    }
-    used_bytes(commands::started_by(model, st.command), st.address)
-}
-
-// Whether the page data are 256 bytes, FF where they are not used. They are looked at in one pass.
-pub fn page_ok(model: u32, st: State, page: &[u8]) -> bool
-    ensures { λ r. ⌜ r ≡ pageOk model st (now (page .entry)) ⌝ }
+// Whether page data fit an operation: 256 bytes, FF where it does not use them. They are looked at in one pass.
+pub fn page_fits(op: Operation, place: u32, page: &[u8]) -> bool
+    ensures { λ r. ⌜ r ≡ pageFits op place (now (page .entry)) ⌝ }
 {
     if page.len() != 256 {
         return false;
     }
-    let used = used_of(model, st) as usize;
+    let used = used_bytes(op, place) as usize;
     if 256 <= used {
         return true;
     }
     parts::all_are(&page[used..256], 0xFF)
+}
+
+// Whether they fit the state: a chip that is not busy uses none.
+pub fn page_ok(model: u32, st: State, page: &[u8]) -> bool
+    ensures { λ r. ⌜ r ≡ pageOk model st (now (page .entry)) ⌝ }
+{
+    if st.busy == 0 {
+        return page_fits(Operation::Idle, st.address, page);
+    }
+    page_fits(commands::started_by(model, st.command), st.address, page)
 }
 
 // The value where the flag is on, and 0 where it is off.

@@ -1,24 +1,28 @@
 -- What a wait or a cut that is not refused has shown of the chip, and what comes of each. Assumes nothing.
 use mathlib.Core.Path.{_≡_, refl, sym, ap, _∙_}
-use mathlib.Core.Bool.{Bool, true, false, _&&_, _||_, cond, false≢true}
+use mathlib.Core.Bool.{Bool, true, false, _&&_, _||_, or-true, false≢true}
 use mathlib.Core.List.{List}
 use mathlib.Core.Logic.{⊎-elim}
 use Prim.Native.Nat.{ℕ, _≤_, _<_}
 use lib.Dec.{eqb, ltb}
 use lib.ListN.{length}
-use borrow.Author.Tests.{eqb-true, eq-eqb}
-use Rattle.units.proofs.Bools.{both}
+use native.Mathlib.Omega.{arith}
+use borrow.Author.Tests.{eqb-true, eq-eqb, ne-eqb, lt-ltb, le-ltb}
 use Rattle.models.specs.Models.{modelOf}
 use Rattle.answers.specs.Answers.{isDone}
 use Rattle.answers.specs.declared.Answer.{Answer}
-use Rattle.answers.specs.declared.Answer.the-variants.{Done}
+use Rattle.answers.specs.declared.Answer.the-variants.{Done, BadRecord, BadArray, BadState, Busy, BadPattern}
+use Rattle.commands.specs.Commands.{startedBy}
+use Rattle.commands.specs.declared.Operation.{Operation}
+use Rattle.commands.specs.declared.Operation.the-variants.{Idle}
 use Rattle.commands.proofs.Rows.{none-started}
-use Rattle.states.specs.States.{recordOk, stateOk, pageOk, placeOk, noAddress, Chip}
+use Rattle.states.specs.States.{recordOk, levelOk, idleOk, runsOk, stateOk, pageFits, pageOk, placeOk, Chip}
 use Rattle.states.specs.declared.Record.{Record}
 use Rattle.states.specs.declared.State.{State}
-use Rattle.states.proofs.States.{sound, page-length, Resting}
+use Rattle.time.specs.declared.After.{After}
+use Rattle.states.proofs.States.{sound, idle-state, busy-state, idle-page, busy-page, page-length, blank-page, Resting}
 use Rattle.operations.specs.Operations.{runs, patternLength, finished, tornChip, Operable, Left}
-use Rattle.time.specs.Time.{later, waited, cycled, cutOff, chipRefusal, powerRefusal, cutRefusal, waitOf, powerCutOf, Ends}
+use Rattle.time.specs.Time.{later, nothingEnds, waited, cycled, cutOff, chipRefusal, powerRefusal, cutRefusal, afterOf, waitOf, powerOf, powerCutOf, Ends}
 
 -- record, array, state and page data fit
 pub record Fit (rec : Record) (x : Chip) : Type 0 where
@@ -26,6 +30,24 @@ pub record Fit (rec : Record) (x : Chip) : Type 0 where
   pub whole : length (x .cells) ≡ modelOf (rec .model) .length
   pub valid : stateOk rec (x .state) ≡ true
   pub page : pageOk (rec .model) (x .state) (x .page) ≡ true
+
+-- whether state and page data fit, by the tests of a chip that is not busy, and by those of a busy one
+abbrev pub Fits : Record → State → List ℕ → Bool → Type 0
+Fits rec s page b = (stateOk rec s && pageOk (rec .model) s page) ≡ b
+
+module _ (rec : Record) (s : State) (page : List ℕ) {a b : Bool} (t : Bool) where
+  pub idle-fits : s .busy ≡ 0 → a ≡ (levelOk (rec .model) s && idleOk rec s) → b ≡ pageFits Idle (s .address) page → (a && b) ≡ t → Fits rec s page t
+  idle-fits z p q e =
+      let k : stateOk rec s ≡ a = idle-state rec s z ∙ sym p in
+      let l : pageOk (rec .model) s page ≡ b = idle-page (rec .model) s page z ∙ sym q in
+      rw (k, l) e
+
+  pub busy-fits : {op : Operation} → (s .busy ≡ 0 → ⊥) → op ≡ runs (rec .model) s → a ≡ (levelOk (rec .model) s && runsOk rec s op) → b ≡ pageFits op (s .address) page → (a && b) ≡ t
+      → Fits rec s page t
+  busy-fits z o p q e =
+      let k : stateOk rec s ≡ a = busy-state rec s z o ∙ sym p in
+      let l : pageOk (rec .model) s page ≡ b = busy-page (rec .model) s page z o ∙ sym q in
+      rw (k, l) e
 
 module _ (rec : Record) (x : Chip) where
   pub chip-fits : isDone (chipRefusal rec x) ≡ true → Fit rec x
@@ -58,6 +80,35 @@ module _ (rec : Record) (x : Chip) where
   pub low-level : Fit rec x → x .state .bp ≤ modelOf (rec .model) .«highest_bp»
   low-level f = sound rec (x .state) (f .valid) .level
 
+  -- what the tests say, one after the other
+  pub no-record : recordOk rec ≡ false → BadRecord ≡ chipRefusal rec x
+  unfolding chipRefusal
+  no-record r = rw r
+
+  module _ (r : recordOk rec ≡ true) where
+    pub no-array : eqb (length (x .cells)) (modelOf (rec .model) .length) ≡ false → BadArray ≡ chipRefusal rec x
+    unfolding chipRefusal
+    no-array w = rw (r, w)
+
+    module _ (w : eqb (length (x .cells)) (modelOf (rec .model) .length) ≡ true) where
+      pub no-state : Fits rec (x .state) (x .page) false → BadState ≡ chipRefusal rec x
+      unfolding chipRefusal
+      no-state f = rw (r, w, f)
+
+      pub all-fit : Fits rec (x .state) (x .page) true → Done ≡ chipRefusal rec x
+      unfolding chipRefusal
+      all-fit f = rw (r, w, f)
+
+  -- whether nothing ends: the chip is idle, or the wait too short
+  pub none-ends : (us : ℕ) → x .state .busy ≡ 0 → nothingEnds (x .state) us ≡ true
+  none-ends us z = rw (eq-eqb (x .state .busy) 0 z)
+
+  pub too-short : (us : ℕ) → us < x .state .busy → nothingEnds (x .state) us ≡ true
+  too-short us h = rw (lt-ltb us (x .state .busy) h) (or-true (eqb (x .state .busy) 0))
+
+  pub one-ends : (us : ℕ) → (x .state .busy ≡ 0 → ⊥) → x .state .busy ≤ us → nothingEnds (x .state) us ≡ false
+  one-ends us z h = rw (ne-eqb (x .state .busy) 0 z) (le-ltb us (x .state .busy) h)
+
   module _ {a : Answer} (e : a ≡ chipRefusal rec x) where
     same-done : {b : Bool} → isDone a ≡ b → isDone (chipRefusal rec x) ≡ b
     same-done d = sym (ap isDone e) ∙ d
@@ -65,20 +116,19 @@ module _ (rec : Record) (x : Chip) where
     pub taken-fits : isDone a ≡ true → Fit rec x
     taken-fits d = chip-fits (same-done d)
 
-    module _ (us : ℕ) where
-      pub refused-wait : isDone a ≡ false → Ends (waitOf rec x us) (record { answer = a; state = x .state }) (x .page) (x .cells)
-      unfolding waitOf
-      refused-wait d = let f = same-done d in record { answer-is = e; state-is = rw f; page-is = rw f; cells-are = rw f }
+    pub refused-wait : (us : ℕ) {k : After} → isDone a ≡ false → k ≡ afterOf a (x .state) → Ends (waitOf rec x us) k (x .page) (x .cells)
+    unfolding waitOf
+    refused-wait us d i = let f = same-done d in rw i (record { answer-is = e; state-is = rw f; page-is = rw f; cells-are = rw f })
 
-      pub rested-wait : {s : State} → isDone a ≡ true → (eqb (x .state .busy) 0 || ltb us (x .state .busy)) ≡ true → s ≡ later (x .state) us
-          → Ends (waitOf rec x us) (record { answer = a; state = s }) (x .page) (x .cells)
-      unfolding waitOf waited
-      rested-wait d t g = let f = same-done d in record { answer-is = e; state-is = rw (f, t) g; page-is = rw (f, t); cells-are = rw (f, t) }
+    pub rested-wait : (us : ℕ) {k : After} {s : State} → isDone a ≡ true → nothingEnds (x .state) us ≡ true → s ≡ later (x .state) us → k ≡ afterOf a s
+        → Ends (waitOf rec x us) k (x .page) (x .cells)
+    unfolding waitOf waited
+    rested-wait us d t g i = let f = same-done d in rw i (record { answer-is = e; state-is = rw (f, t) g; page-is = rw (f, t); cells-are = rw (f, t) })
 
-      pub finished-wait : {s : State} {page cells : List ℕ} → isDone a ≡ true → (eqb (x .state .busy) 0 || ltb us (x .state .busy)) ≡ false
-          → Left (finished (rec .model) x) s page cells → Ends (waitOf rec x us) (record { answer = a; state = s }) page cells
-      unfolding waitOf waited
-      finished-wait d t g = let f = same-done d in record { answer-is = e; state-is = rw (f, t) (g .state-is); page-is = rw (f, t) (g .page-is); cells-are = rw (f, t) (g .cells-are) }
+    pub finished-wait : (us : ℕ) {k : After} {s : State} {page cells : List ℕ} → isDone a ≡ true → nothingEnds (x .state) us ≡ false
+        → Left (finished (rec .model) x) s page cells → k ≡ afterOf a s → Ends (waitOf rec x us) k page cells
+    unfolding waitOf waited
+    finished-wait us d t g i = let f = same-done d in rw i (record { answer-is = e; state-is = rw (f, t) (g .state-is); page-is = rw (f, t) (g .page-is); cells-are = rw (f, t) (g .cells-are) })
 
 -- ---- cuts
 module _ (rec : Record) (x : Chip) (pattern : List ℕ) where
@@ -95,6 +145,20 @@ module _ (rec : Record) (x : Chip) (pattern : List ℕ) where
       go true false p q = absurd (false≢true (rw (p, q) at d))
       go false b p q = absurd (false≢true (sym p ∙ (rw p at d)))
 
+  -- what the tests say
+  pub no-chip : {a : Answer} → isDone a ≡ false → a ≡ chipRefusal rec x → a ≡ cutRefusal rec x pattern
+  unfolding cutRefusal
+  no-chip d e = let f : isDone (chipRefusal rec x) ≡ false = sym (ap isDone e) ∙ d in rw f e
+
+  module _ (e : Done ≡ chipRefusal rec x) where
+    pub no-pattern : eqb (length pattern) (patternLength (runs (rec .model) (x .state)) (x .state .address) (length (x .cells))) ≡ false → BadPattern ≡ cutRefusal rec x pattern
+    unfolding cutRefusal
+    no-pattern l = rw (← e, l)
+
+    pub may-cut : eqb (length pattern) (patternLength (runs (rec .model) (x .state)) (x .state .address) (length (x .cells))) ≡ true → Done ≡ cutRefusal rec x pattern
+    unfolding cutRefusal
+    may-cut l = rw (← e, l)
+
   module _ {a : Answer} (e : a ≡ cutRefusal rec x pattern) where
     same-cut : {b : Bool} → isDone a ≡ b → isDone (cutRefusal rec x pattern) ≡ b
     same-cut d = sym (ap isDone e) ∙ d
@@ -102,16 +166,59 @@ module _ (rec : Record) (x : Chip) (pattern : List ℕ) where
     pub taken-cut : isDone a ≡ true → Cuttable
     taken-cut d = cuttable (same-cut d)
 
-    pub refused-cut : isDone a ≡ false → Ends (powerCutOf rec x pattern) (record { answer = a; state = x .state }) (x .page) (x .cells)
+    pub refused-cut : {k : After} → isDone a ≡ false → k ≡ afterOf a (x .state) → Ends (powerCutOf rec x pattern) k (x .page) (x .cells)
     unfolding powerCutOf
-    refused-cut d = let f = same-cut d in record { answer-is = e; state-is = rw f; page-is = rw f; cells-are = rw f }
+    refused-cut d i = let f = same-cut d in rw i (record { answer-is = e; state-is = rw f; page-is = rw f; cells-are = rw f })
 
-    pub done-cut : {s t : State} {page cells : List ℕ} → isDone a ≡ true → Left (tornChip (rec .model) x pattern) s page cells → t ≡ cycled s
-        → Ends (powerCutOf rec x pattern) (record { answer = a; state = t }) page cells
+    pub done-cut : {k : After} {s t : State} {page cells : List ℕ} → isDone a ≡ true → Left (tornChip (rec .model) x pattern) s page cells → t ≡ cycled s → k ≡ afterOf a t
+        → Ends (powerCutOf rec x pattern) k page cells
     unfolding powerCutOf cutOff
-    done-cut d g h = let f = same-cut d in record { answer-is = e; state-is = rw f (h ∙ ap cycled (g .state-is)); page-is = rw f (g .page-is); cells-are = rw f (g .cells-are) }
+    done-cut d g h i = let f = same-cut d in rw i (record { answer-is = e; state-is = rw f (h ∙ ap cycled (g .state-is)); page-is = rw f (g .page-is); cells-are = rw f (g .cells-are) })
+
+-- an idle chip has no unit: its pattern is empty, and all stays
+module _ (rec : Record) (x : Chip) (z : x .state .busy ≡ 0) (e : Done ≡ chipRefusal rec x) where
+  fit : Fit rec x
+  fit = chip-fits rec x (sym (ap isDone e))
+
+  runs-none : runs (rec .model) (x .state) ≡ Idle
+  runs-none = ⊎-elim (λ q. ap (startedBy (rec .model)) (q .command) ∙ none-started (rec .model)) (λ q. absurd (omega (arith, q .busy))) (sound rec (x .state) (fit .valid) .mood)
+
+  pub no-unit : patternLength (runs (rec .model) (x .state)) (x .state .address) (length (x .cells)) ≡ 0
+  no-unit = rw runs-none
+
+  pub idle-torn : (pattern : List ℕ) → Left (tornChip (rec .model) x pattern) (x .state) (x .page) (x .cells)
+  unfolding tornChip
+  idle-torn pattern = rw runs-none (record { state-is = refl; page-is = blank-page (rec .model) (x .state) (x .page) (fit .page) z; cells-are = refl })
 
 -- ---- power cycles
+module _ (rec : Record) (s : State) (page : List ℕ) where
+  pub no-power-record : recordOk rec ≡ false → BadRecord ≡ powerRefusal rec s page
+  unfolding powerRefusal
+  no-power-record r = rw r
+
+  module _ (r : recordOk rec ≡ true) where
+    pub no-power-state : Fits rec s page false → BadState ≡ powerRefusal rec s page
+    unfolding powerRefusal
+    no-power-state f = rw (r, f)
+
+    module _ (f : Fits rec s page true) where
+      pub no-power-busy : (s .busy ≡ 0 → ⊥) → Busy ≡ powerRefusal rec s page
+      unfolding powerRefusal
+      no-power-busy z = rw (r, f, ne-eqb (s .busy) 0 z)
+
+      pub may-cycle : s .busy ≡ 0 → Done ≡ powerRefusal rec s page
+      unfolding powerRefusal
+      may-cycle z = rw (r, f, eq-eqb (s .busy) 0 z)
+
+  module _ {a : Answer} {k : After} (e : a ≡ powerRefusal rec s page) where
+    pub refused-cycle : isDone a ≡ false → k ≡ afterOf a s → k ≡ powerOf rec s page
+    unfolding powerOf
+    refused-cycle d i = i ∙ rw (← e, d)
+
+    pub done-cycle : {t : State} → isDone a ≡ true → t ≡ cycled s → k ≡ afterOf a t → k ≡ powerOf rec s page
+    unfolding powerOf
+    done-cycle d h i = i ∙ rw (h, ← e, d)
+
 -- one that is taken has found an idle chip
 pub idle-cycle : (rec : Record) (s : State) (page : List ℕ) → isDone (powerRefusal rec s page) ≡ true → s .busy ≡ 0
 unfolding powerRefusal

@@ -1,5 +1,5 @@
 -- Waiting, power cycles and cuts of the power: 01, "Commands", last paragraphs, and Req 05. Assumes nothing.
-use mathlib.Core.Bool.{false, _&&_, _||_, cond}
+use mathlib.Core.Bool.{Bool, false, _&&_, _||_, cond}
 use mathlib.Core.List.{List}
 use mathlib.Core.Path.{_≡_}
 use Prim.Native.Nat.{ℕ, _-_, _*_, _/_, _%_}
@@ -21,9 +21,13 @@ unfoldable pub later : State → ℕ → State
 later s us =
     record { srwd = s .srwd; bp = s .bp; config = s .config; wel = s .wel; asleep = s .asleep; busy = s .busy - us; settle = s .settle - us; command = s .command; address = s .address }
 
+-- nothing ends in a wait: the chip is not busy, or busy for longer
+abbrev pub nothingEnds : State → ℕ → Bool
+nothingEnds s us = eqb (s .busy) 0 || ltb us (s .busy)
+
 -- when the busy time runs out the operation has finished, and not before
 unfoldable pub waited : ℕ → Chip → ℕ → Chip
-waited n x us = cond (eqb (x .state .busy) 0 || ltb us (x .state .busy)) (chipOf (later (x .state) us) (x .page) (x .cells)) (finished n x)
+waited n x us = cond (nothingEnds (x .state) us) (chipOf (later (x .state) us) (x .page) (x .cells)) (finished n x)
 
 -- a power cycle keeps SRWD, BP and TB (bit 3 of the register) and zeroes the rest (000 L246-248, L399-400, 003 L828-864)
 unfoldable pub cycled : State → State
@@ -65,9 +69,13 @@ waitOf rec x us = unless (chipRefusal rec x) x (waited (rec .model) x us)
 unfoldable pub powerCutOf : Record → Chip → List ℕ → Aftermath
 powerCutOf rec x pattern = unless (cutRefusal rec x pattern) x (cutOff (rec .model) x pattern)
 
+-- what a function returns
+abbrev pub afterOf : Answer → State → After
+afterOf a s = record { answer = a; state = s }
+
 -- a power cycle leaves page data and array alone
 unfoldable pub powerOf : Record → State → List ℕ → After
-powerOf rec s page = let a : Answer = powerRefusal rec s page in record { answer = a; state = cond (isDone a) (cycled s) s }
+powerOf rec s page = let a : Answer = powerRefusal rec s page in afterOf a (cond (isDone a) (cycled s) s)
 
 -- what a function's result and its lent buffers at exit have to be
 pub record Ends (o : Aftermath) (r : After) (page cells : List ℕ) : Type 0 where

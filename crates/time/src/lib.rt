@@ -1,10 +1,13 @@
 // Waits, power cycles and cuts of the power.
 ghost use mathlib.Core.Path.{_≡_};
 ghost use Prim.Native.Nat.{_-_};
-ghost use lib.ListN.{length};
+ghost use lib.Dec.{eqb};
+ghost use Rattle.answers.specs.declared.Answer.the-variants.{Done};
+ghost use Rattle.models.specs.Models.{modelOf};
 ghost use Rattle.states.specs.States.{chipOf};
-ghost use Rattle.time.specs.Time.{later, cycled, chipRefusal, powerRefusal, cutRefusal, waitOf, powerOf, powerCutOf, Ends};
+ghost use Rattle.time.specs.Time.{later, cycled, afterOf, waitOf, powerOf, powerCutOf, Ends};
 use answers::Answer;
+use commands::Operation;
 use states::Record;
 use states::State;
 
@@ -45,98 +48,102 @@ fn cycle(st: State) -> State
     }
 }
 
-// 1, 2 or 3, where record, array or state are not valid; otherwise 0.
-fn chip_refusal(rec: Record, st: State, page: &[u8], array: &[u8]) -> Answer
-    ensures { λ r. ⌜ r ≡ chipRefusal rec (chipOf st (now (page .entry)) (now (array .entry))) ⌝ }
+// The array has the model's length.
+fn is_whole(model: u32, cells: usize) -> bool
+    ensures { λ r. ⌜ r ≡ eqb cells (modelOf model .length) ⌝ }
 {
-    if !states::record_ok(rec) {
-        return Answer::BadRecord;
-    }
-    let row = models::model_of(rec.model);
-    if array.len() != row.length as usize {
-        return Answer::BadArray;
-    }
-    if !(states::state_ok(rec, st) & states::page_ok(rec.model, st, page)) {
-        return Answer::BadState;
-    }
-    Answer::Done
+    let row = models::model_of(model);
+    cells == row.length as usize
 }
 
-// 1, 3 or 11, where record or state are not valid, or the chip is busy; otherwise 0.
-fn power_refusal(rec: Record, st: State, page: &[u8]) -> Answer
-    ensures { λ r. ⌜ r ≡ powerRefusal rec st (now (page .entry)) ⌝ }
+// A refusal leaves the state as it was.
+fn refused(answer: Answer, st: State) -> After
+    ensures { λ r. ⌜ r ≡ afterOf answer st ⌝ }
 {
-    if !states::record_ok(rec) {
-        return Answer::BadRecord;
+    After { answer, state: st }
+}
+
+fn done(st: State) -> After
+    ensures { λ r. ⌜ r ≡ afterOf Done st ⌝ }
+{
+    After {
+        answer: Answer::Done,
+        state: st,
     }
-    if !(states::state_ok(rec, st) & states::page_ok(rec.model, st, page)) {
-        return Answer::BadState;
-    }
-    if st.busy != 0 {
-        return Answer::Busy;
-    }
-    Answer::Done
 }
 
 // Any wait, of any record, state, page data and array.
 pub fn wait(rec: Record, st: State, page: &mut [u8], array: &mut [u8], us: u32) -> After
     ensures { λ r. ⌜ Ends (waitOf rec (chipOf st (now (page .entry)) (now (array .entry))) us) r (now (page .exit)) (now (array .exit)) ⌝ }
 {
-    let answer = chip_refusal(rec, st, page, array);
-    if !answers::is_done(answer) {
-        return After { answer, state: st };
+    if !states::record_ok(rec) {
+        return refused(Answer::BadRecord, st);
     }
-    if (st.busy == 0) | (us < st.busy) {
-        return After {
-            answer,
-            state: rested(st, us),
-        };
+    if !is_whole(rec.model, array.len()) {
+        return refused(Answer::BadArray, st);
     }
-    After {
-        answer,
-        state: operations::finish(rec.model, st, page, array),
+    if st.busy == 0 {
+        if !(states::idle_ok(rec, st) & states::page_fits(Operation::Idle, st.address, page)) {
+            return refused(Answer::BadState, st);
+        }
+        return done(rested(st, us));
     }
+    let op = commands::started_by(rec.model, st.command);
+    if !(states::busy_ok(rec, st, op) & states::page_fits(op, st.address, page)) {
+        return refused(Answer::BadState, st);
+    }
+    if us < st.busy {
+        return done(rested(st, us));
+    }
+    done(operations::finish(rec.model, op, st, page, array))
 }
 
-// Any power cycle.
+// Any power cycle. One of a busy chip is refused.
 pub fn power_cycle(rec: Record, st: State, page: &[u8]) -> After
     ensures { λ r. ⌜ r ≡ powerOf rec st (now (page .entry)) ⌝ }
 {
-    let answer = power_refusal(rec, st, page);
-    if answers::is_done(answer) {
-        return After {
-            answer,
-            state: cycle(st),
-        };
+    if !states::record_ok(rec) {
+        return refused(Answer::BadRecord, st);
     }
-    After { answer, state: st }
-}
-
-// 23 after 1, 2 and 3: the pattern is not as long as the unit.
-fn cut_refusal(rec: Record, st: State, page: &[u8], array: &[u8], pattern: &[u8]) -> Answer
-    ensures { λ r. ⌜ r ≡ cutRefusal rec (chipOf st (now (page .entry)) (now (array .entry))) (now (pattern .entry)) ⌝ }
-{
-    let first = chip_refusal(rec, st, page, array);
-    if !answers::is_done(first) {
-        return first;
+    if st.busy == 0 {
+        if !(states::idle_ok(rec, st) & states::page_fits(Operation::Idle, st.address, page)) {
+            return refused(Answer::BadState, st);
+        }
+        return done(cycle(st));
     }
     let op = commands::started_by(rec.model, st.command);
-    if pattern.len() != operations::pattern_length(op, st.address, array.len()) {
-        return Answer::BadPattern;
+    if !(states::busy_ok(rec, st, op) & states::page_fits(op, st.address, page)) {
+        return refused(Answer::BadState, st);
     }
-    Answer::Done
+    refused(Answer::Busy, st)
 }
 
-// Any cut of the power.
+// Any cut of the power. An idle chip has no unit, and so no pattern.
 pub fn cut(rec: Record, st: State, page: &mut [u8], array: &mut [u8], pattern: &[u8]) -> After
     ensures { λ r. ⌜ Ends (powerCutOf rec (chipOf st (now (page .entry)) (now (array .entry))) (now (pattern .entry))) r (now (page .exit)) (now (array .exit)) ⌝ }
 {
-    let answer = cut_refusal(rec, st, page, array, pattern);
-    if !answers::is_done(answer) {
-        return After { answer, state: st };
+    if !states::record_ok(rec) {
+        return refused(Answer::BadRecord, st);
     }
-    After {
-        answer,
-        state: cycle(operations::tear(rec.model, st, page, array, pattern)),
+    if !is_whole(rec.model, array.len()) {
+        return refused(Answer::BadArray, st);
     }
+    if st.busy == 0 {
+        if !(states::idle_ok(rec, st) & states::page_fits(Operation::Idle, st.address, page)) {
+            return refused(Answer::BadState, st);
+        }
+        if pattern.len() != 0 {
+            return refused(Answer::BadPattern, st);
+        }
+        return done(cycle(st));
+    }
+    let op = commands::started_by(rec.model, st.command);
+    if !(states::busy_ok(rec, st, op) & states::page_fits(op, st.address, page)) {
+        return refused(Answer::BadState, st);
+    }
+    if pattern.len() != operations::pattern_length(op, st.address, array.len()) {
+        return refused(Answer::BadPattern, st);
+    }
+    let torn = operations::tear(rec.model, op, st, page, array, pattern);
+    done(cycle(torn))
 }

@@ -28,17 +28,17 @@ right c = sym (c .before .is-sectors .ensures) ∙ not-false _ (c .if1 .left)
 sum-up-requires : tie.Need-sum-up-requires
 sum-up-requires c κs = let k = sectors-range _ (right c) in (omega (arith, k .0), k .1)
 
-div-t9 : tie.Need-div-t9
-div-t9 c = omega (arith, sectors-range _ (right (c .before .before)))
+div-mean : tie.Need-div-mean
+div-mean c = omega (arith, sectors-range _ (right (c .before .before)))
 
-cast-t10 : tie.Need-cast-t10
-cast-t10 c = omega (arith, div-le-of-le-mul (length (now (c .before .before .before .before .before .args .wear))) (c .before .sum-up .ensures .1))
+cast-t11 : tie.Need-cast-t11
+cast-t11 c = omega (arith, div-le-of-le-mul (length (now (c .before .before .before .before .before .before .args .wear))) (c .before .before .sum-up .ensures .1))
 
-rem-t12 : tie.Need-rem-t12
-rem-t12 c = omega (arith, sectors-range _ (right (c .before .before .before)))
+rem-remainder : tie.Need-rem-remainder
+rem-remainder c = omega (arith, sectors-range _ (right (c .before .before .before)))
 
-cast-t13 : tie.Need-cast-t13
-cast-t13 c =
+cast-t12 : tie.Need-cast-t12
+cast-t12 c =
     let k = sectors-range _ (right (c .before .before .before)) in
     omega (arith, k, mod-lt (c .before .before .sum-up .result .total) (positive k))
 
@@ -56,8 +56,8 @@ report-spec =
     (λ c κs. search needs)
     returns
     sum-up-requires
-    div-t9
-    cast-t10
-    rem-t12
-    cast-t13
+    div-mean
+    rem-remainder
+    cast-t11
+    cast-t12
     returns-2)

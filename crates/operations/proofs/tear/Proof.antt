@@ -1,23 +1,21 @@
 -- `operations::tear` meets its contract. Assumes nothing.
-use mathlib.Core.Path.{_≡_, ap, _∙_}
+use mathlib.Core.Path.{ap, _∙_}
 use Prim.Native.Nat.{ℕ}
-use lib.ListN.{length, replicate}
+use lib.ListN.{replicate}
 use denote.Ref.{now}
 use Rattle.commands.specs.declared.Operation.{Operation}
-use Rattle.states.specs.declared.State.{State}
-use Rattle.operations.specs.Operations.{cutCells, cutBits, tornChip, patternLength, runsAt}
+use Rattle.operations.specs.Operations.{cutCells, cutBits, tornChip, runsAt}
 use borrow.Author.Needs.{needs}
 use Rattle.operations.proofs.tear.Statement.{statement}
 use Rattle.operations.proofs.tear.Tie as tie
 
 cut-cells-requires : tie.Need-cut-cells-requires
 cut-cells-requires c κs =
-    let b = c .before .before in
-    let s = b .before .before .before .before in
-    (s .pre .0 .whole, rw (b .started-by .ensures) (s .pre .0 .placed), s .pre .0 .page-data, rw (b .started-by .ensures) (s .pre .2))
+    let s = c .before .before .before .before .before in
+    (s .pre .1 .whole, rw (s .pre .0) (s .pre .1 .placed), s .pre .1 .page-data, rw (s .pre .0) (s .pre .3))
 
 cut-bits-requires : tie.Need-cut-bits-requires
-cut-bits-requires c κs = c .before .before .before .before .before .before .before .before .before .before .pre .1
+cut-bits-requires c κs = c .before .before .before .before .before .before .before .before .before .pre .2
 
 returns : tie.Need-returns
 unfolding tornChip
@@ -25,16 +23,15 @@ returns c =
     let f = c .before .before in
     let k = f .before .before in
     let e = k .before .before .before .before in
-    let b = e .before .before .before in
-    let s = b .before .before .before .before in
+    let s = e .before .before .before .before .before .before in
     let a = s .args in
     record {
-      state-is = k .cut-bits .ensures ∙ ap (λ (op : Operation). cutBits (a .model) op (a .st) (now (a .page)) (now (a .pattern))) (b .started-by .ensures);
-      page-is = f .fill .ensures ∙ ap (λ (n : ℕ). replicate n 0xFF) (s .pre .0 .page-data);
-      cells-are = e .cut-cells .ensures ∙ ap (λ (op : Operation). cutCells op (runsAt (a .st)) (now (a .page)) (now (a .pattern)) (now (a .array))) (b .started-by .ensures);
+      state-is = k .cut-bits .ensures ∙ ap (λ (op : Operation). cutBits (a .model) op (a .st) (now (a .page)) (now (a .pattern))) (s .pre .0);
+      page-is = f .fill .ensures ∙ ap (λ (n : ℕ). replicate n 0xFF) (s .pre .1 .page-data);
+      cells-are = e .cut-cells .ensures ∙ ap (λ (op : Operation). cutCells op (runsAt (a .st)) (now (a .page)) (now (a .pattern)) (now (a .array))) (s .pre .0);
     }
 
 pub tear-spec : {M : Type 1} → statement M
 tear-spec =
     tie.close
-    (tie.spec (λ c κs. search needs) cut-cells-requires cut-bits-requires (λ c κs. search needs) (λ c. search needs) (λ c. search needs) returns)
+    (tie.spec cut-cells-requires cut-bits-requires (λ c κs. search needs) (λ c. search needs) (λ c. search needs) returns)

@@ -1,15 +1,16 @@
 -- `pod::gwo_power_cycle` meets its contract. Assumes nothing.
 use mathlib.Core.Path.{_≡_, sym, _∙_}
-use mathlib.Core.Bool.{true, false}
+use mathlib.Core.Bool.{true}
 use borrow.Author.Needs.{needs}
 use borrow.Author.Tests.{not-true, not-false}
 use native.Mathlib.Omega.{arith}
 use lib.ListN.{length}
+use Rattle.states.specs.States.{recordOk}
 use Rattle.states.specs.declared.Record.{Record}
-use Rattle.pod.specs.Packing.{isPacking}
+use Rattle.packing.specs.Packing.{isPacking}
 use Rattle.pod.specs.Calls.{recordOf}
-use Rattle.pod.proofs.Packing.{packing-length, unpack-read}
-use Rattle.pod.proofs.Calls.{bad-bytes-cycle, fits-cycle, answers-cycle}
+use Rattle.packing.proofs.Packing.{packing-length, unpack-read}
+use Rattle.pod.proofs.Calls.{bad-record-cycle, bad-bytes-cycle, fits-cycle, answers-cycle}
 use Rattle.pod.proofs.gwo_power_cycle.Statement.{statement}
 use Rattle.pod.proofs.gwo_power_cycle.Tie as tie
 
@@ -19,27 +20,31 @@ numbers c =
     let given = c .args in
     recordOf (given .model) (given .status-us) (given .page-us) (given .sector-us) (given .block-us) (given .chip-us) (given .half-us) (given .sleep-us) (given .wake-us) (given .sign-us)
 
--- the bytes are a packing
-packing : (c : tie.Else1) → isPacking (c .before .before .before .before .before .before .before .args .state .now) ≡ true
-packing c = sym (c .before .is-packed .ensures) ∙ not-false _ (c .if1 .left)
+-- the record is right, and the bytes are a packing
+right : (c : tie.Else1) → recordOk (c .before .before .record-of .result) ≡ true
+right c = sym (c .before .record-ok .ensures) ∙ not-false _ (c .if1 .left)
 
-whole : (c : tie.Else1) → length (c .before .before .before .before .before .before .before .args .state .now) ≡ 272
+packing : (c : tie.Else2) → isPacking (c .before .before .before .before .before .before .before .before .before .args .state .now) ≡ true
+packing c = sym (c .before .is-packed .ensures) ∙ not-false _ (c .if2 .left)
+
+whole : (c : tie.Else2) → length (c .before .before .before .before .before .before .before .before .before .args .state .now) ≡ 272
 whole c = packing-length _ (packing c)
+
+returns : tie.Need-returns
+returns c =
+    let r = c .before .before in
+    let start = r .before .before in
+    let given = start .args in
+    bad-record-cycle (numbers start) (given .state .now) (r .record-of .ensures) (sym (c .before .record-ok .ensures) ∙ not-true _ (c .if1 .taken))
 
 is-packed-requires : tie.Need-is-packed-requires
 is-packed-requires c κs = c .before .busy-in .ensures
 
-returns : tie.Need-returns
-returns c =
-    let t = c .before .before in
-    let start = t .before .before .before .before .before .before .before in
-    bad-bytes-cycle (numbers start) (start .args .state .now) true (t .before .before .before .before .before .record-of .ensures) (sym (t .before .is-packed .ensures) ∙ not-true _ (t .if1 .taken)) (sym (c .before .record-ok .ensures) ∙ c .if2 .taken)
-
 returns-2 : tie.Need-returns-2
 returns-2 c =
-    let t = c .before .before in
-    let start = t .before .before .before .before .before .before .before in
-    bad-bytes-cycle (numbers start) (start .args .state .now) false (t .before .before .before .before .before .record-of .ensures) (sym (t .before .is-packed .ensures) ∙ not-true _ (t .if1 .taken)) (sym (c .before .record-ok .ensures) ∙ c .if2 .left)
+    let e = c .before .before .before .before .before in
+    let start = e .before .before .before .before in
+    bad-bytes-cycle (numbers start) (start .args .state .now) (sym (c .before .is-packed .ensures) ∙ not-true _ (c .if2 .taken)) (e .before .before .record-of .ensures) (right e)
 
 unpack-requires : tie.Need-unpack-requires
 unpack-requires c κs = (whole (c .before), c .before .before .before .before .busy-in .ensures)
@@ -51,15 +56,15 @@ keep-requires : tie.Need-keep-requires
 keep-requires c κs =
     let u = c .before .before .before .before .before in
     let e = u .before .before in
-    let start = e .before .before .before .before .before .before .before in
-    fits-cycle (numbers start) (start .args .state .now) (whole e) (e .before .before .before .before .before .record-of .ensures) (u .unpack .ensures ∙ sym (unpack-read _ (packing e))) (c .before .before .power-cycle .ensures)
+    let start = e .before .before .before .before .before .before .before .before .before in
+    fits-cycle (numbers start) (start .args .state .now) (whole e) (e .before .before .before .before .before .before .before .record-of .ensures) (u .unpack .ensures ∙ sym (unpack-read _ (packing e))) (c .before .before .power-cycle .ensures)
 
 returns-3 : tie.Need-returns-3
 returns-3 c =
     let u = c .before .before .before .before .before .before .before .before in
     let e = u .before .before in
-    let start = e .before .before .before .before .before .before .before in
-    answers-cycle (numbers start) (start .args .state .now) (whole e) (e .before .before .before .before .before .record-of .ensures) (u .unpack .ensures ∙ sym (unpack-read _ (packing e))) (c .before .before .before .before .before .power-cycle .ensures) (c .before .before .keep .ensures .0) (c .before .before .keep .ensures .1)
+    let start = e .before .before .before .before .before .before .before .before .before in
+    answers-cycle (numbers start) (start .args .state .now) (whole e) (e .before .before .before .before .before .before .before .record-of .ensures) (u .unpack .ensures ∙ sym (unpack-read _ (packing e))) (c .before .before .before .before .before .power-cycle .ensures) (c .before .before .keep .ensures .0) (c .before .before .keep .ensures .1)
 
 pub gwo-power-cycle-spec : {M : Type 1} → statement M
 gwo-power-cycle-spec =
@@ -67,10 +72,9 @@ gwo-power-cycle-spec =
     (tie.spec
     (λ c κs. search needs)
     (λ c κs. search needs)
-    is-packed-requires
-    (λ c κs. search needs)
-    (λ c. search needs)
     returns
+    (λ c κs. search needs)
+    is-packed-requires
     (λ c. search needs)
     returns-2
     unpack-requires

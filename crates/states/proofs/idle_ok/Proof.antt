@@ -6,7 +6,7 @@ use Rattle.states.proofs.idle_ok.Tie as tie
 
 returns : tie.Need-returns
 unfolding idleOk
-returns c = rw (c .before .before .settle-ok .ensures)
+returns c = rw (c .before .before .settle-ok .ensures, c .before .before .before .level-ok .ensures)
 
 pub idle-ok-spec : {M : Type 1} → statement M
-idle-ok-spec = tie.close (tie.spec (λ c κs. search needs) returns)
+idle-ok-spec = tie.close (tie.spec (λ c κs. search needs) (λ c κs. search needs) returns)

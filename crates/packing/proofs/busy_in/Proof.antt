@@ -1,0 +1,16 @@
+-- `packing::busy_in` meets its contract. Assumes nothing.
+use borrow.Author.Needs.{needs}
+use Rattle.packing.proofs.Packing.{timed}
+use Rattle.packing.proofs.busy_in.Statement.{statement}
+use Rattle.packing.proofs.busy_in.Tie as tie
+
+returns : tie.Need-returns
+returns c = timed _ (c .time-of .ensures)
+
+returns-2 : tie.Need-returns-2
+returns-2 c = record { is = λ n. absurd (c .if1 .left n) }
+
+pub busy-in-spec : {M : Type 1} → statement M
+busy-in-spec =
+    tie.close
+    (tie.spec (λ c. search needs) (λ c. search needs) (λ c. search needs) (λ c. search needs) (λ c κs. search needs) returns returns-2)
