@@ -172,7 +172,7 @@ sheet_help() {
 sheet_refused() {
     timeout "$patience" $wear "$@" <scripts/wear.txt >"$work/sheet" 2>"$work/error" &&
         diff -a /dev/null "$work/sheet" && grep -qx 'wear: it knows no word but --help' "$work/error" && grep -q '^usage: wear' "$work/error" ||
-        { echo "started with ${*:0:2} it does not show its use"; return 1; }
+        { echo "started with ${1:0:40} it does not show its use"; return 1; }
 }
 
 sheet_words() {
