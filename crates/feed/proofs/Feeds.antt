@@ -16,17 +16,17 @@ use Rattle.lines.specs.Lines.{linesFrom, lastLine}
 use Rattle.lines.specs.Cutting.{Holds, heldRoom}
 use Rattle.stepper.specs.declared.Logged.{Logged}
 use Rattle.play.specs.Play.{Turn}
-use Rattle.stepper.specs.Rows.{Left, lineTurn, rowText, chipAfter, logFrom, leftFrom}
+use Rattle.stepper.specs.Rows.{Device, lineTurn, rowText, chipAfter, logFrom, deviceFrom}
 use Rattle.stepper.proofs.Rows.{row-short}
 use Rattle.log.specs.Row.{longestRow}
 use Rattle.feed.specs.declared.Run.{Run}
-use Rattle.feed.specs.Feed.{Start, TurnStart, Stand, standing, chipNow, leftNow, lineDone, feedTurn, feedFor, feedOf, lastOf, Stands, Finishes, OneStands, OneFinishes}
+use Rattle.feed.specs.Feed.{Start, TurnStart, Stand, standing, chipNow, deviceNow, lineDone, feedTurn, feedFor, feedOf, lastOf, Stands, Finishes, OneStands, OneFinishes}
 use Rattle.feed.specs.Fed.{Did, Fed, Finished, FeedFeeds, LastFinishes}
 use Rattle.feed.proofs.Turns.{Same, same-clip, stands, line-kept, Turned, turned}
 
 -- ---- one after the other
 did-none : (rec : Record) (block : List ℕ) (s : Stand) (line : List ℕ) → s .run .filled ≤ length (s .log) → Holds line (s .held) (s .run .used) → Did rec block s s line
-did-none rec block s line l h = record { text = []; rest = line; put = put-none (s .log) (s .run .filled) l; holds = h; same = λ later. refl; left = λ later. refl }
+did-none rec block s line l h = record { text = []; rest = line; put = put-none (s .log) (s .run .filled) l; holds = h; same = λ later. refl; device = λ later. refl }
 
 did-then : {rec : Record} {block : List ℕ} {s t u : Stand} {line : List ℕ} (d : Did rec block s t line) → Did rec block t u (d .rest) → Did rec block s u line
 did-then {rec} {block} {s} {t} {u} d e =
@@ -38,7 +38,7 @@ did-then {rec} {block} {s} {t} {u} d e =
       same = λ later.
           d .same later ∙ ap (λ (z : List ℕ). d .text ++ z) (e .same later)
           ∙ sym (append-assoc (d .text) (e .text) (logFrom rec (chipNow u) (u .wear) (u .run .number) (linesFrom (e .rest) (drop (u .run .at) block ++ later))));
-      left = λ later. d .left later ∙ e .left later;
+      device = λ later. d .device later ∙ e .device later;
     }
 
 -- ---- turns one after the other: from `start` the feed has come to s
@@ -204,7 +204,7 @@ module _ (rec : Record) (s : Stand) (l : length (s .held) ≡ heldRoom) (room : 
   last = take used (s .held)
 
   none-held : used ≡ 0 → Finished rec s s
-  none-held u = record { within = omega arith; did = λ line h. no-row line (empty line h); left = λ line h. no-turn line (empty line h) }
+  none-held u = record { within = omega arith; did = λ line h. no-row line (empty line h); device = λ line h. no-turn line (empty line h) }
     where
       empty : (line : List ℕ) → Holds line (s .held) used → length line ≡ 0
       empty line h = omega (arith, h .count, length-take (length (s .held)) line)
@@ -213,13 +213,13 @@ module _ (rec : Record) (s : Stand) (l : length (s .held) ≡ heldRoom) (room : 
       no-row [] e = put-none (s .log) (s .run .filled) (omega arith)
       no-row (b ∷ bs) e = absurd (omega arith)
 
-      no-turn : (line : List ℕ) → length line ≡ 0 → leftNow s ≡ leftFrom rec x (s .wear) (lastLine line)
+      no-turn : (line : List ℕ) → length line ≡ 0 → deviceNow s ≡ deviceFrom rec x (s .wear) (lastLine line)
       no-turn [] e = refl
       no-turn (b ∷ bs) e = absurd (omega arith)
 
   last-held : (used ≡ 0 → ⊥) → Finished rec s (lineDone rec s (s .held) last (s .run .at))
   unfolding lineDone
-  last-held u = record { within = omega (arith, short); did = λ line h. row line h; left = λ line h. left line h }
+  last-held u = record { within = omega (arith, short); did = λ line h. row line h; device = λ line h. device line h }
     where
       short : length (rowText rec x (s .wear) number last) ≤ longestRow
       short = row-short rec x (s .wear) number last
@@ -237,10 +237,10 @@ module _ (rec : Record) (s : Stand) (l : length (s .held) ≡ heldRoom) (room : 
           put-as (record { room = omega (arith, short); is = refl; next = refl })
           (same (b ∷ bs) h .row ∙ sym (append-nil (rowText rec x (s .wear) number (b ∷ bs))))
 
-      left : (line : List ℕ) → Holds line (s .held) used
-          → record { chip = chipAfter (lineTurn rec x (s .wear) last); wear = lineTurn rec x (s .wear) last .wear } ≡ leftFrom rec x (s .wear) (lastLine line)
-      left [] h = absurd (no-line h)
-      left (b ∷ bs) h = ap (λ (t : Turn). record { chip = chipAfter t; wear = t .wear }) (same (b ∷ bs) h .turn)
+      device : (line : List ℕ) → Holds line (s .held) used
+          → record { chip = chipAfter (lineTurn rec x (s .wear) last); wear = lineTurn rec x (s .wear) last .wear } ≡ deviceFrom rec x (s .wear) (lastLine line)
+      device [] h = absurd (no-line h)
+      device (b ∷ bs) h = ap (λ (t : Turn). record { chip = chipAfter t; wear = t .wear }) (same (b ∷ bs) h .turn)
 
 pub last-finishes : LastFinishes
 unfolding lastOf

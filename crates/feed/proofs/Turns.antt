@@ -24,7 +24,7 @@ use Rattle.lines.specs.Cutting.{firstLine, cutOf, heldOf, Cuts, Holds, heldRoom
 use Rattle.lines.proofs.Says.{holds-none, length-held, here-in, joined-in, open-in, says-here, says-joined, says-open}
 use Rattle.play.specs.Play.{Turn, turnOf, playOf}
 use Rattle.stepper.specs.declared.Logged.{Logged}
-use Rattle.stepper.specs.Rows.{lineTurn, rowText, Logs, chipAfter, next, logFrom, leftFrom}
+use Rattle.stepper.specs.Rows.{lineTurn, rowText, Logs, chipAfter, next, logFrom, deviceFrom}
 use Rattle.stepper.proofs.Rows.{row-short}
 use Rattle.log.specs.Row.{longestRow}
 use Rattle.script.specs.Grammar.{longestLine}
@@ -155,9 +155,9 @@ module _ (rec : Record) (block : List ℕ) (s : Stand) (p : TurnStart (s .run) (
         same = λ later.
             ap (logFrom rec (chipNow s) (s .wear) number) (ended later)
             ∙ ap (λ (t : Turn). rowText rec (chipNow s) (s .wear) number whole ++ logFrom rec (chipAfter t) (t .wear) (next number) (linesFrom [] (drop to block ++ later))) (sym (e .turn));
-        left = λ later.
-            ap (leftFrom rec (chipNow s) (s .wear)) (ended later)
-            ∙ ap (λ (t : Turn). leftFrom rec (chipAfter t) (t .wear) (linesFrom [] (drop to block ++ later))) (sym (e .turn));
+        device = λ later.
+            ap (deviceFrom rec (chipNow s) (s .wear)) (ended later)
+            ∙ ap (λ (t : Turn). deviceFrom rec (chipAfter t) (t .wear) (linesFrom [] (drop to block ++ later))) (sym (e .turn));
       }
 
   turned-line : (handed : List ℕ) (to : ℕ) → at < to → to ≤ length block
@@ -201,9 +201,9 @@ module _ (rec : Record) (block : List ℕ) (s : Stand) (p : TurnStart (s .run) (
               same = λ later.
                   ap (logFrom rec (chipNow s) (s .wear) number) (o .goes-on later)
                   ∙ ap (λ (z : List ℕ). logFrom rec (chipNow s) (s .wear) number (linesFrom (line ++ drop at block) (z ++ later))) (sym (drop-length block));
-              left = λ later.
-                  ap (leftFrom rec (chipNow s) (s .wear)) (o .goes-on later)
-                  ∙ ap (λ (z : List ℕ). leftFrom rec (chipNow s) (s .wear) (linesFrom (line ++ drop at block) (z ++ later))) (sym (drop-length block));
+              device = λ later.
+                  ap (deviceFrom rec (chipNow s) (s .wear)) (o .goes-on later)
+                  ∙ ap (λ (z : List ℕ). deviceFrom rec (chipNow s) (s .wear) (linesFrom (line ++ drop at block) (z ++ later))) (sym (drop-length block));
             };
       }
 

@@ -7,12 +7,12 @@ use Rattle.states.specs.declared.Record.{Record}
 use Rattle.text.specs.Put.{Put}
 use Rattle.lines.specs.Lines.{linesFrom, lastLine}
 use Rattle.lines.specs.Cutting.{Holds, heldRoom}
-use Rattle.stepper.specs.Rows.{logFrom, leftFrom}
+use Rattle.stepper.specs.Rows.{logFrom, deviceFrom}
 use Rattle.log.specs.Row.{longestRow}
-use Rattle.feed.specs.Feed.{Start, Stand, chipNow, leftNow, feedOf, lastOf}
+use Rattle.feed.specs.Feed.{Start, Stand, chipNow, deviceNow, feedOf, lastOf}
 
 -- From s to t some text was put into the log, and the log of the lines to come is that text and the log of the lines still to come; what those
--- leave is the same. `line` is what there is of the line that is held, `later` the input after the block.
+-- leave of chip and table is the same. `line` is what there is of the line that is held, `later` the input after the block.
 pub record Did (rec : Record) (block : List ℕ) (s t : Stand) (line : List ℕ) : Type 0 where
   pub text : List ℕ
   pub rest : List ℕ
@@ -21,9 +21,9 @@ pub record Did (rec : Record) (block : List ℕ) (s t : Stand) (line : List ℕ)
   pub same : (later : List ℕ)
       → logFrom rec (chipNow s) (s .wear) (s .run .number) (linesFrom line (drop (s .run .at) block ++ later))
       ≡ text ++ logFrom rec (chipNow t) (t .wear) (t .run .number) (linesFrom rest (drop (t .run .at) block ++ later))
-  pub left : (later : List ℕ)
-      → leftFrom rec (chipNow s) (s .wear) (linesFrom line (drop (s .run .at) block ++ later))
-      ≡ leftFrom rec (chipNow t) (t .wear) (linesFrom rest (drop (t .run .at) block ++ later))
+  pub device : (later : List ℕ)
+      → deviceFrom rec (chipNow s) (s .wear) (linesFrom line (drop (s .run .at) block ++ later))
+      ≡ deviceFrom rec (chipNow t) (t .wear) (linesFrom rest (drop (t .run .at) block ++ later))
 
 -- a feed goes on to the block's end, or until the log lacks room for a row
 pub record Fed (rec : Record) (block : List ℕ) (s t : Stand) : Type 0 where
@@ -39,7 +39,7 @@ pub record Fed (rec : Record) (block : List ℕ) (s t : Stand) : Type 0 where
 pub record Finished (rec : Record) (s t : Stand) : Type 0 where
   pub within : t .run .filled ≤ length (s .log)
   pub did : (line : List ℕ) → Holds line (s .held) (s .run .used) → Put (logFrom rec (chipNow s) (s .wear) (s .run .number) (lastLine line)) (s .log) (s .run .filled) (t .log) (t .run .filled)
-  pub left : (line : List ℕ) → Holds line (s .held) (s .run .used) → leftNow t ≡ leftFrom rec (chipNow s) (s .wear) (lastLine line)
+  pub device : (line : List ℕ) → Holds line (s .held) (s .run .used) → deviceNow t ≡ deviceFrom rec (chipNow s) (s .wear) (lastLine line)
 
 abbrev pub FeedFeeds : Type 0
 FeedFeeds = (rec : Record) (block : List ℕ) (s : Stand) → Start (s .run) (s .held) block (s .log) → Fed rec block s (feedOf rec block s)

@@ -13,7 +13,7 @@ use Rattle.lines.specs.declared.Cut.the-variants.{Here, Joined, Open}
 use Rattle.lines.specs.Cutting.{cutOf, heldOf, heldRoom}
 use Rattle.play.specs.Play.{Turn}
 use Rattle.stepper.specs.declared.Logged.{Logged}
-use Rattle.stepper.specs.Rows.{Left, lineTurn, rowText, next}
+use Rattle.stepper.specs.Rows.{Device, lineTurn, rowText, next}
 use Rattle.log.specs.Row.{longestRow}
 use Rattle.feed.specs.declared.Run.{Run}
 
@@ -55,8 +55,8 @@ abbrev pub chipNow : Stand → Chip
 chipNow s = chipOf (s .run .chip) (s .page) (s .cells)
 
 -- the chip and the wear table as they stand
-abbrev pub leftNow : Stand → Left
-leftNow s = record { chip = chipNow s; wear = s .wear }
+abbrev pub deviceNow : Stand → Device
+deviceNow s = record { chip = chipNow s; wear = s .wear }
 
 -- a line is played, and its row put into the log; the next line starts at `to`
 unfoldable pub lineDone : Record → Stand → List ℕ → List ℕ → ℕ → Stand

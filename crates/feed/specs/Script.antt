@@ -8,10 +8,10 @@ use lib.ListN.{length, take}
 use Rattle.states.specs.declared.Record.{Record}
 use Rattle.lines.specs.Lines.{linesFrom, joinedUp}
 use Rattle.lines.specs.Cutting.{Holds, heldRoom}
-use Rattle.stepper.specs.Rows.{logFrom, leftFrom}
+use Rattle.stepper.specs.Rows.{logFrom, deviceFrom}
 use Rattle.log.specs.Row.{longestRow}
 use Rattle.feed.specs.declared.Run.{Run}
-use Rattle.feed.specs.Feed.{Stand, standing, chipNow, leftNow, feedOf, lastOf}
+use Rattle.feed.specs.Feed.{Stand, standing, chipNow, deviceNow, feedOf, lastOf}
 
 -- the log was written out, and is empty again
 abbrev pub emptiedRun : Run → Run
@@ -67,6 +67,6 @@ WholeScript = (rec : Record) (s : Stand) (line : List ℕ) (blocks : List (List 
     → writtenOf rec s blocks ≡ logFrom rec (chipNow s) (s .wear) (s .run .number) (linesFrom line (joinedUp blocks))
 
 -- and chip and wear table are as those lines leave them
-abbrev pub WholeLeft : Type 0
-WholeLeft = (rec : Record) (s : Stand) (line : List ℕ) (blocks : List (List ℕ)) → length (s .held) ≡ heldRoom → longestRow ≤ length (s .log) → Holds line (s .held) (s .run .used)
-    → leftNow (standAfter rec s blocks) ≡ leftFrom rec (chipNow s) (s .wear) (linesFrom line (joinedUp blocks))
+abbrev pub WholeDevice : Type 0
+WholeDevice = (rec : Record) (s : Stand) (line : List ℕ) (blocks : List (List ℕ)) → length (s .held) ≡ heldRoom → longestRow ≤ length (s .log) → Holds line (s .held) (s .run .used)
+    → deviceNow (standAfter rec s blocks) ≡ deviceFrom rec (chipNow s) (s .wear) (linesFrom line (joinedUp blocks))

@@ -10,12 +10,12 @@ use Rattle.lines.specs.Lines.{joinedUp}
 use Rattle.lines.specs.Cutting.{heldRoom}
 use Rattle.lines.proofs.Says.{holds-none}
 use Rattle.log.specs.Row.{longestRow}
-use Rattle.stepper.specs.Rows.{Left}
+use Rattle.stepper.specs.Rows.{Device}
 use Rattle.feed.specs.declared.Run.{Run}
 use Rattle.feed.specs.Feed.{Stand, standing, lastOf, Stands, Finishes}
 use Rattle.feed.specs.Script.{begun, begunRun, wholeBlock, passedBlocks}
 use Rattle.feed.proofs.Turns.{stands}
-use Rattle.feed.proofs.Script.{whole-left}
+use Rattle.feed.proofs.Script.{whole-device}
 use Rattle.feed.proofs.Blocks.{Passing, passing-none, passed-more}
 use Rattle.input.specs.declared.Next.{Next}
 use Rattle.input.specs.Input.{firstRun, endedAt, BlockPlayed, SomeBlock, Kept, BlockRead, ScriptPlayed}
@@ -88,10 +88,10 @@ came-last rec {first} {s} {held} {page} {cells} {wear} {log} {page′} {cells′
   where
     from-first : Came rec (standing firstRun held page cells wear log) s → ScriptPlayed rec page cells wear page′ cells′ wear′
     from-first d =
-        let whole = whole-left rec (standing firstRun held page cells wear log) [] (d .blocks) l r (holds-none held) in
+        let whole = whole-device rec (standing firstRun held page cells wear log) [] (d .blocks) l r (holds-none held) in
         record {
           script = joinedUp (d .blocks);
-          page-is = k .page′ ∙ ap (λ (z : Stand). lastOf rec (begun z) .page) (d .is) ∙ ap (λ (z : Left). z .chip .page) whole;
-          cells-are = k .cells′ ∙ ap (λ (z : Stand). lastOf rec (begun z) .cells) (d .is) ∙ ap (λ (z : Left). z .chip .cells) whole;
-          wear-is = k .wear′ ∙ ap (λ (z : Stand). lastOf rec (begun z) .wear) (d .is) ∙ ap (λ (z : Left). z .wear) whole;
+          page-is = k .page′ ∙ ap (λ (z : Stand). lastOf rec (begun z) .page) (d .is) ∙ ap (λ (z : Device). z .chip .page) whole;
+          cells-are = k .cells′ ∙ ap (λ (z : Stand). lastOf rec (begun z) .cells) (d .is) ∙ ap (λ (z : Device). z .chip .cells) whole;
+          wear-is = k .wear′ ∙ ap (λ (z : Stand). lastOf rec (begun z) .wear) (d .is) ∙ ap (λ (z : Device). z .wear) whole;
         }

@@ -10,7 +10,7 @@ use Rattle.states.specs.States.{powerOn, chipOf}
 use Rattle.lines.specs.Lines.{linesFrom}
 use Rattle.lines.specs.Cutting.{heldRoom}
 use Rattle.log.specs.Row.{longestRow}
-use Rattle.stepper.specs.Rows.{Left, leftFrom}
+use Rattle.stepper.specs.Rows.{Device, deviceFrom}
 use Rattle.feed.specs.declared.Run.{Run}
 use Rattle.feed.specs.Feed.{Stand, standing, lastOf, Stands}
 use Rattle.feed.specs.Script.{begun, wholeBlock}
@@ -21,7 +21,7 @@ abbrev pub firstRun : Run
 firstRun = record { chip = powerOn; number = 1; used = 0; at = 0; filled = 0 }
 
 -- what a block asks: room for the line that is held, and a log with room for a row
-pub record Ready (run : Run) (held log : List ℕ) : Type 0 where
+pub record BlockStart (run : Run) (held log : List ℕ) : Type 0 where
   pub used : run .used ≤ heldRoom
   pub hold : length held ≡ heldRoom
   pub room : longestRow ≤ length log
@@ -56,6 +56,6 @@ pub record BlockRead (rec : Record) (s : Stand) (r : Next) (held page cells wear
 -- a script was played from power-on: page data, array and wear table are as its lines leave them
 pub record ScriptPlayed (rec : Record) (page cells wear page′ cells′ wear′ : List ℕ) : Type 0 where
   pub script : List ℕ
-  pub page-is : page′ ≡ leftFrom rec (chipOf powerOn page cells) wear (linesFrom [] script) .chip .page
-  pub cells-are : cells′ ≡ leftFrom rec (chipOf powerOn page cells) wear (linesFrom [] script) .chip .cells
-  pub wear-is : wear′ ≡ leftFrom rec (chipOf powerOn page cells) wear (linesFrom [] script) .wear
+  pub page-is : page′ ≡ deviceFrom rec (chipOf powerOn page cells) wear (linesFrom [] script) .chip .page
+  pub cells-are : cells′ ≡ deviceFrom rec (chipOf powerOn page cells) wear (linesFrom [] script) .chip .cells
+  pub wear-is : wear′ ≡ deviceFrom rec (chipOf powerOn page cells) wear (linesFrom [] script) .wear

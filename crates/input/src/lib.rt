@@ -6,7 +6,7 @@ ghost use lib.ListN.{length, take};
 ghost use Rattle.log.specs.Row.{longestRow};
 ghost use Rattle.feed.specs.Feed.{standing, lastOf};
 ghost use Rattle.feed.specs.Script.{begun, begunRun, emptiedRun};
-ghost use Rattle.input.specs.Input.{firstRun, endedAt, Ready, BlockPlayed, BlockRead, Kept, ScriptPlayed};
+ghost use Rattle.input.specs.Input.{firstRun, endedAt, BlockStart, BlockPlayed, BlockRead, Kept, ScriptPlayed};
 use feed::Run;
 use libc::STDIN_FILENO;
 use libc::STDOUT_FILENO;
@@ -109,7 +109,7 @@ fn feed_block(
     log: &mut [u8],
     written: bool,
 ) -> Next
-    requires { ⌜ Ready first (now held) (now log) × (n ≤ length (now bytes)) ⌝ }
+    requires { ⌜ BlockStart first (now held) (now log) × (n ≤ length (now bytes)) ⌝ }
     ensures { λ r. ⌜ BlockPlayed rec (take n (now (bytes .entry))) (standing first (now (held .entry)) (now (page .entry)) (now (array .entry)) (now (wear .entry)) (now (log .entry))) r (now (held .exit)) (now (page .exit)) (now (array .exit)) (now (wear .exit)) (now (log .exit)) ⌝ }
 {
     let block = &bytes[0..n];
@@ -141,7 +141,7 @@ fn finish(
     log: &mut [u8],
     written: bool,
 ) -> bool
-    requires { ⌜ Ready run (now held) (now log) ⌝ }
+    requires { ⌜ BlockStart run (now held) (now log) ⌝ }
     ensures { λ _. ⌜ Kept (lastOf rec (begun (standing run (now (held .entry)) (now (page .entry)) (now (array .entry)) (now (wear .entry)) (now (log .entry))))) (now (page .exit)) (now (array .exit)) (now (wear .exit)) ⌝ }
 {
     let filled = feed::finish(at_block(run), rec, held, page, array, wear, log);
@@ -160,7 +160,7 @@ fn read_block(
     log: &mut [u8],
     written: bool,
 ) -> Next
-    requires { ⌜ Ready run (now held) (now log) ⌝ }
+    requires { ⌜ BlockStart run (now held) (now log) ⌝ }
     ensures { λ r. ⌜ BlockRead rec (standing run (now (held .entry)) (now (page .entry)) (now (array .entry)) (now (wear .entry)) (now (log .entry))) r (now (held .exit)) (now (page .exit)) (now (array .exit)) (now (wear .exit)) (now (log .exit)) ⌝ }
 {
     let got = libc::read(STDIN_FILENO, block);

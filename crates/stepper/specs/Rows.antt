@@ -46,11 +46,11 @@ abbrev pub logFrom : Record → Chip → List ℕ → ℕ → List (List ℕ) �
 logFrom rec x wear n [] = []
 logFrom rec x wear n (line ∷ lines) = rowText rec x wear n line ++ logFrom rec (chipAfter (lineTurn rec x wear line)) (lineTurn rec x wear line .wear) (next n) lines
 
--- what lines leave: the chip, and the wear table
-pub record Left : Type 0 where
+-- the chip and its wear table, as lines leave them
+pub record Device : Type 0 where
   pub chip : Chip
   pub wear : List ℕ
 
-abbrev pub leftFrom : Record → Chip → List ℕ → List (List ℕ) → Left
-leftFrom rec x wear [] = record { chip = x; wear = wear }
-leftFrom rec x wear (line ∷ lines) = leftFrom rec (chipAfter (lineTurn rec x wear line)) (lineTurn rec x wear line .wear) lines
+abbrev pub deviceFrom : Record → Chip → List ℕ → List (List ℕ) → Device
+deviceFrom rec x wear [] = record { chip = x; wear = wear }
+deviceFrom rec x wear (line ∷ lines) = deviceFrom rec (chipAfter (lineTurn rec x wear line)) (lineTurn rec x wear line .wear) lines
