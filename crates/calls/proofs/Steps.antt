@@ -29,8 +29,8 @@ use Rattle.ladder.specs.Ladder.{ladder, refusalOf, asks}
 use Rattle.ladder.specs.declared.Head.{Head}
 use Rattle.ladder.proofs.Passed.{Clear, unrefused}
 use Rattle.commands.specs.declared.Operation.the-variants.{ErasesSector, ErasesHalf, ErasesBlock, ErasesChip}
-use Rattle.counts.specs.Counts.{covered, wornOut}
-use Rattle.effects.specs.Effects.{Effect, stateOnly, worn, started, shown, drives, latched, dozing, writeEnable, writeStatus, eraseStarts, programPage, readFrom, wake, wakingTime, sleep}
+use Rattle.counts.specs.Counts.{covered, wornOut, counted}
+use Rattle.effects.specs.Effects.{Effect, stateOnly, turned, started, shown, drives, latched, dozing, writeEnable, writeStatus, eraseStarts, programPage, readFrom, wake, wakingTime, sleep}
 use Rattle.chip.specs.Frames.{Sent, headFor, headOf, acceptedOf, refusedOf, frameOf}
 use Rattle.time.specs.Time.{Aftermath, later, waited, waitOf}
 use Rattle.time.proofs.Time.{Fit, fit-taken}
@@ -177,7 +177,7 @@ module _ (rec : Record) (x : Chip) (b : Bench rec x) (z : x .state .busy ≡ 0) 
     to = addressOf (rec .model) high middle low
 
     pub erase-taken : x .state .asleep ≡ false → x .state .wel ≡ true → x .state .bp ≡ 0 → 4 ≤ length out → wornOut ErasesSector (to .0) wear ≡ false
-        → frameOf rec x (frame (0x20 ∷ high ∷ middle ∷ low ∷ []) wear out) ≡ worn (x .page) out (eraseStarts rec (x .state) ErasesSector (to .0) wear (0x20 ∷ high ∷ middle ∷ low ∷ []))
+        → frameOf rec x (frame (0x20 ∷ high ∷ middle ∷ low ∷ []) wear out) ≡ turned (x .page) (counted ErasesSector (to .0) wear) out (eraseStarts rec (x .state) ErasesSector (to .0) (0x20 ∷ high ∷ middle ∷ low ∷ []))
     unfolding acceptedOf decodeOf traitsOf headFor lengthOk tbOf covered wornOut
     erase-taken a w p r n =
         taken rec x b (frame (0x20 ∷ high ∷ middle ∷ low ∷ []) wear out) (lit≤ tt) (lit≤ tt) r k
@@ -203,7 +203,7 @@ module _ (rec : Record) (x : Chip) (b : Bench rec x) (z : x .state .busy ≡ 0) 
 
     -- the other operations, for a chip that waits too short a time after them
     pub half-taken : modelOf (rec .model) .«half_erase» ≡ true → x .state .asleep ≡ false → x .state .wel ≡ true → x .state .bp ≡ 0 → 4 ≤ length out → wornOut ErasesHalf (to .0) wear ≡ false
-        → frameOf rec x (frame (0x52 ∷ high ∷ middle ∷ low ∷ []) wear out) ≡ worn (x .page) out (eraseStarts rec (x .state) ErasesHalf (to .0) wear (0x52 ∷ high ∷ middle ∷ low ∷ []))
+        → frameOf rec x (frame (0x52 ∷ high ∷ middle ∷ low ∷ []) wear out) ≡ turned (x .page) (counted ErasesHalf (to .0) wear) out (eraseStarts rec (x .state) ErasesHalf (to .0) (0x52 ∷ high ∷ middle ∷ low ∷ []))
     unfolding acceptedOf traitsOf headFor lengthOk tbOf covered wornOut
     half-taken m a w p r n =
         let sent : Sent = frame (0x52 ∷ high ∷ middle ∷ low ∷ []) wear out in
@@ -214,14 +214,14 @@ module _ (rec : Record) (x : Chip) (b : Bench rec x) (z : x .state .busy ≡ 0) 
         ∙ ap (λ (c : Command). acceptedOf rec x c to (sent .bytes) wear out) d
 
     pub block-taken : x .state .asleep ≡ false → x .state .wel ≡ true → x .state .bp ≡ 0 → 4 ≤ length out → wornOut ErasesBlock (to .0) wear ≡ false
-        → frameOf rec x (frame (0xD8 ∷ high ∷ middle ∷ low ∷ []) wear out) ≡ worn (x .page) out (eraseStarts rec (x .state) ErasesBlock (to .0) wear (0xD8 ∷ high ∷ middle ∷ low ∷ []))
+        → frameOf rec x (frame (0xD8 ∷ high ∷ middle ∷ low ∷ []) wear out) ≡ turned (x .page) (counted ErasesBlock (to .0) wear) out (eraseStarts rec (x .state) ErasesBlock (to .0) (0xD8 ∷ high ∷ middle ∷ low ∷ []))
     unfolding acceptedOf decodeOf traitsOf headFor lengthOk tbOf covered wornOut
     block-taken a w p r n =
         taken rec x b (frame (0xD8 ∷ high ∷ middle ∷ low ∷ []) wear out) (lit≤ tt) (lit≤ tt) r k
         (tests refl (rw (eq-eqb (x .state .settle) 0 q)) (rw (eq-eqb (x .state .busy) 0 z)) (rw a) refl refl (rw w) refl (rw (p, unprotected (rec .model) (tbOf (x .state)) (blockOf to))) n)
 
   pub chip-taken : x .state .asleep ≡ false → x .state .wel ≡ true → x .state .bp ≡ 0 → 1 ≤ length out → wornOut ErasesChip noAddress wear ≡ false
-      → frameOf rec x (frame (0xC7 ∷ []) wear out) ≡ worn (x .page) out (eraseStarts rec (x .state) ErasesChip noAddress wear (0xC7 ∷ []))
+      → frameOf rec x (frame (0xC7 ∷ []) wear out) ≡ turned (x .page) (counted ErasesChip noAddress wear) out (eraseStarts rec (x .state) ErasesChip noAddress (0xC7 ∷ []))
   unfolding acceptedOf decodeOf traitsOf headFor lengthOk covered wornOut
   chip-taken a w p r n =
       taken rec x b (frame (0xC7 ∷ []) wear out) (lit≤ tt) (lit≤ tt) r k

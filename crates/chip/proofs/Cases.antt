@@ -45,7 +45,7 @@ module _ (rec : Record) (x : Chip) (f : Sent) where
   pub sort : Kind rec x (head .command) (head .address) (f .bytes) (f .wear) (f .out) (drivenBytes (head .command) (length (f .bytes))) (foldOf (head .command) (head .address) (length (f .bytes))) accepted
   sort = kind rec x (head .address) (f .bytes) (f .wear) (f .out) (head .command)
 
-  pub shown-ready : isDone refusal ≡ true → Ready rec x (head .command) (head .address) (f .bytes) (f .wear) (f .out)
+  pub shown-ready : isDone refusal ≡ true → Ready rec x (head .command) (head .address) (f .bytes) (f .out)
   shown-ready e = arrived rec x f (wornBy (rec .model) (f .bytes) (f .wear)) (passed rec (x .state) head e)
 
   pub shown-asked : isDone refusal ≡ true → Asked rec (x .state) (head .command) (head .address) (f .bytes)
@@ -79,7 +79,10 @@ module _ (rec : Record) (x : Chip) (f : Sent) where
 
   -- an accepted frame covers only sectors of the table
   pub covers : isDone refusal ≡ true → InTable (operationOf (head .command)) (head .address .0) (f .wear)
-  covers e = let r = shown-ready e in in-table (rec .model) (operationOf (head .command)) (head .address .0) (f .wear) (r .table) (omega (arith, r .inside, r .whole))
+  unfolding headFor
+  covers e =
+      let r = shown-ready e in
+      in-table (rec .model) (operationOf (head .command)) (head .address .0) (f .wear) (passed rec (x .state) head e .table) (omega (arith, r .inside, r .whole))
 
   -- the sum after any frame
   pub total-frame : totalOf (frameOf rec x f .wear)

@@ -1,7 +1,7 @@
 -- What the refusals have shown is what the commands ask for. Assumes nothing.
 use mathlib.Core.Path.{_≡_, refl, sym, ap, subst, _∙_}
-use mathlib.Core.Bool.{Bool, true, false, cond}
-use mathlib.Core.List.{List}
+use mathlib.Core.Bool.{Bool, true, false, cond, not}
+use mathlib.Core.List.{List, []}
 use Prim.Native.Nat.{ℕ, _≤_, _<_}
 use native.Mathlib.Nat.{mod-lt}
 use native.Mathlib.Omega.{arith}
@@ -10,16 +10,17 @@ use Rattle.units.specs.declared.Address.{Address}
 use Rattle.models.specs.Models.{modelOf, addressOf}
 use Rattle.models.proofs.Rules.{row-rules, highest-bp}
 use Rattle.answers.specs.Answers.{isDone, saysProtected}
-use Rattle.commands.specs.Commands.{traitsOf, lengthOk, fewest, mostWritten}
+use Rattle.commands.specs.Commands.{traitsOf, lengthOk, fewest, mostWritten, operationOf}
 use Rattle.commands.proofs.Rows.{long-enough, write-length}
 use Rattle.states.specs.declared.Record.{Record}
 use Rattle.commands.specs.declared.Command.{Command}
-use Rattle.commands.specs.declared.Command.the-variants.{Unknown}
+use Rattle.commands.specs.declared.Command.the-variants.{Unknown, WriteEnable, WriteDisable, ReadStatus, ReadConfig, WriteStatus, Read, FastRead, EraseSector, EraseHalf, EraseBlock, EraseChip, Program, ReadId, Wake, ReadMaker, Sleep}
 use Rattle.answers.specs.declared.Answer.{Answer}
 use Rattle.answers.specs.declared.Answer.the-variants.{Done, WornOut}
 use Rattle.commands.specs.declared.Operation.{Operation}
 use Rattle.states.specs.declared.State.{State}
-use Rattle.counts.specs.Counts.{wornOut}
+use Rattle.counts.specs.Counts.{wornOut, counted, InTable}
+use Rattle.counts.proofs.Laws.{in-table}
 use Rattle.states.specs.States.{pageOk, Chip}
 use Rattle.states.proofs.States.{sound, page-length}
 use Rattle.ladder.specs.Ladder.{refusalOf}
@@ -28,35 +29,49 @@ use Rattle.ladder.proofs.Stages.{stops-given, stops-said, goes-on, last-is}
 use Rattle.ladder.specs.declared.Head.{Head}
 use Rattle.ladder.proofs.Passed.{Passed, passed, given-spares, given-page}
 use Rattle.effects.specs.declared.Reply.{Reply}
-use Rattle.effects.specs.Effects.{Effect, Gives, Wears, Room, quiet, stateOnly, worn, eraseStarts, eraseOrWornOut, refusalLeaves}
+use Rattle.effects.specs.Effects.{Effect, Gives, Room, quiet, stateOnly, refusalLeaves}
 use Rattle.effects.proofs.Replies.{leaves-all}
-use Rattle.chip.specs.Frames.{Sent, Ready, Heard, headFor, headOf, acceptedOf, takenOf, refusedOf, frameOf}
+use Rattle.chip.specs.Frames.{Sent, Does, Ready, Heard, headFor, headOf, acceptedOf, takenOf, refusedOf, frameOf}
+use borrow.Author.Tests.{not-true, not-false}
+use Rattle.chip.proofs.Sorts.{table-after}
 
 -- an arm of the dispatch: what its command asks for and gives is what the command in hand does
-pub room-for : {rec : Record} {x : Chip} {c k : Command} {at : Address} {bytes wear out : List ℕ} → Ready rec x c at bytes wear out → c ≡ k
+pub room-for : {rec : Record} {x : Chip} {c k : Command} {at : Address} {bytes out : List ℕ} → Ready rec x c at bytes out → c ≡ k
     → Room (fewest (traitsOf (modelOf (rec .model) .register) k)) bytes out
-room-for {rec} {x} {c} {k} {at} {bytes} {wear} {out} p e = subst (λ (d : Command). Room (fewest (traitsOf (modelOf (rec .model) .register) d)) bytes out) e (p .fits)
+room-for {rec} {x} {c} {k} {at} {bytes} {out} p e = subst (λ (d : Command). Room (fewest (traitsOf (modelOf (rec .model) .register) d)) bytes out) e (p .fits)
 
 -- a status write has at most three bytes
 pub at-most-3 : (r : Bool) (n : ℕ) → n ≤ mostWritten r → n ≤ 3
 at-most-3 true n h = h
 at-most-3 false n h = omega arith
 
-module _ (rec : Record) (x : Chip) (at : Address) (bytes wear out : List ℕ) where
-  pub at-command : {c k : Command} {r : Reply} {xs ws os : List ℕ} → c ≡ k
-      → Gives (takenOf rec x k at bytes wear out) r xs ws os
-      → Gives (takenOf rec x c at bytes wear out) r xs ws os
-  at-command {c} {k} {r} {xs} {ws} {os} e g = subst (λ (d : Command). Gives (takenOf rec x d at bytes wear out) r xs ws os) (sym e) g
+module _ (rec : Record) (x : Chip) (at : Address) (bytes out : List ℕ) where
+  pub at-command : {c k : Command} {r : Reply} {xs os : List ℕ} → c ≡ k
+      → Does (acceptedOf rec x k at bytes [] out) r xs os
+      → Does (acceptedOf rec x c at bytes [] out) r xs os
+  at-command {c} {k} {r} {xs} {os} e g = subst (λ (d : Command). Does (acceptedOf rec x d at bytes [] out) r xs os) (sym e) g
 
-  -- an erase, which its counts may refuse
-  pub at-erase : (op : Operation) (place : ℕ) {r : Reply} {ws : List ℕ} → Wears (eraseOrWornOut rec (x .state) op place wear bytes) r ws
-      → Gives (cond (wornOut op place wear) (stateOnly WornOut (x .state) (x .page) wear out) (worn (x .page) out (eraseStarts rec (x .state) op place wear bytes))) r (x .page) ws out
-  at-erase op place {r} {ws} g = go (wornOut op place wear) g
-    where
-      go : (b : Bool) → Wears (cond b (record { reply = quiet WornOut (x .state); wear = wear }) (eraseStarts rec (x .state) op place wear bytes)) r ws
-          → Gives (cond b (stateOnly WornOut (x .state) (x .page) wear out) (worn (x .page) out (eraseStarts rec (x .state) op place wear bytes))) r (x .page) ws out
-      go true h = record { reply = h .reply; page-is = refl; wear-is = h .wear-is; out = refl }
-      go false h = record { reply = h .reply; page-is = refl; wear-is = h .wear-is; out = refl }
+-- what a command does does not depend on the wear table, but for the table itself
+module _ (rec : Record) (x : Chip) (at : Address) (bytes wear out : List ℕ) {r : Reply} {xs os : List ℕ} where
+  pub with-table : (c : Command) → Does (acceptedOf rec x c at bytes [] out) r xs os → Gives (acceptedOf rec x c at bytes wear out) r xs (acceptedOf rec x c at bytes wear out .wear) os
+  unfolding acceptedOf
+  with-table WriteEnable g = record { reply = g .reply; page-is = g .page-is; wear-is = refl; out = g .out }
+  with-table WriteDisable g = record { reply = g .reply; page-is = g .page-is; wear-is = refl; out = g .out }
+  with-table ReadStatus g = record { reply = g .reply; page-is = g .page-is; wear-is = refl; out = g .out }
+  with-table ReadConfig g = record { reply = g .reply; page-is = g .page-is; wear-is = refl; out = g .out }
+  with-table WriteStatus g = record { reply = g .reply; page-is = g .page-is; wear-is = refl; out = g .out }
+  with-table Read g = record { reply = g .reply; page-is = g .page-is; wear-is = refl; out = g .out }
+  with-table FastRead g = record { reply = g .reply; page-is = g .page-is; wear-is = refl; out = g .out }
+  with-table EraseSector g = record { reply = g .reply; page-is = g .page-is; wear-is = refl; out = g .out }
+  with-table EraseHalf g = record { reply = g .reply; page-is = g .page-is; wear-is = refl; out = g .out }
+  with-table EraseBlock g = record { reply = g .reply; page-is = g .page-is; wear-is = refl; out = g .out }
+  with-table EraseChip g = record { reply = g .reply; page-is = g .page-is; wear-is = refl; out = g .out }
+  with-table Program g = record { reply = g .reply; page-is = g .page-is; wear-is = refl; out = g .out }
+  with-table ReadId g = record { reply = g .reply; page-is = g .page-is; wear-is = refl; out = g .out }
+  with-table Wake g = record { reply = g .reply; page-is = g .page-is; wear-is = refl; out = g .out }
+  with-table ReadMaker g = record { reply = g .reply; page-is = g .page-is; wear-is = refl; out = g .out }
+  with-table Sleep g = record { reply = g .reply; page-is = g .page-is; wear-is = refl; out = g .out }
+  with-table Unknown g = record { reply = g .reply; page-is = g .page-is; wear-is = refl; out = g .out }
 
 module _ (rec : Record) (x : Chip) (f : Sent) where
   abbrev H : Head
@@ -66,7 +81,7 @@ module _ (rec : Record) (x : Chip) (f : Sent) where
   abbrev headWith : Bool → Head
   headWith w = headFor (rec .model) (length (x .cells)) (length (f .wear)) (pageOk (rec .model) (x .state) (x .page)) (f .bytes) (f .tail) (f .wp) (length (f .out)) w
 
-  pub arrived : (w : Bool) → Passed rec (x .state) (headWith w) → Ready rec x (H .command) (H .address) (f .bytes) (f .wear) (f .out)
+  pub arrived : (w : Bool) → Passed rec (x .state) (headWith w) → Ready rec x (H .command) (H .address) (f .bytes) (f .out)
   unfolding headFor addressOf
   arrived w p =
       let b : List ℕ = f .bytes in
@@ -74,7 +89,6 @@ module _ (rec : Record) (x : Chip) (f : Sent) where
         level = omega (arith, sound rec (x .state) (p .valid) .level, highest-bp (rec .model));
         whole = p .whole;
         inside = subst (λ (n : ℕ). addressOf (rec .model) (getD b 1 0) (getD b 2 0) (getD b 3 0) .0 < n) (sym (p .whole)) (mod-lt _ (omega (arith, row-rules (rec .model) .some)));
-        table = p .table;
         page-data = page-length (rec .model) (x .state) (x .page) (p .page);
         written = λ e. write-length (modelOf (rec .model) .register) (length b) (f .tail) (p .short) (subst (λ (c : Command). lengthOk (traitsOf (modelOf (rec .model) .register) c) (length b) (f .tail) ≡ true) e (p .fits)) .1;
         fits = record { long = long-enough _ _ _ (p .fits); short = p .short; room = p .roomy };
@@ -100,13 +114,27 @@ module _ (rec : Record) (x : Chip) (f : Sent) where
   said : {h : Head} {a : Answer} → h ≡ unworn → a ≡ saidOf rec (x .state) h → a ≡ saidOf rec (x .state) H
   said e g = g ∙ ap (saidOf rec (x .state)) e ∙ said-unworn
 
-  pub ready : {h : Head} {a : Answer} → isDone (givenOf rec (x .state) H) ≡ true → h ≡ unworn → a ≡ saidOf rec (x .state) h
-      → isDone a ≡ true → Ready rec x (h .command) (h .address) (f .bytes) (f .wear) (f .out)
-  unfolding headFor
-  ready {h} {a} p e g d =
+  -- every row but the last has let it pass
+  all-but-last : {h : Head} {a : Answer} → isDone (givenOf rec (x .state) H) ≡ true → h ≡ unworn → a ≡ saidOf rec (x .state) h → isDone a ≡ true → Passed rec (x .state) unworn
+  all-but-last {h} {a} p e g d =
       let q : isDone (saidOf rec (x .state) unworn) ≡ true = ap isDone (said-unworn ∙ sym (said e g)) ∙ d in
-      let n : refusalOf rec (x .state) unworn ≡ Done = goes-on rec (x .state) unworn (ap isDone given-unworn ∙ p) q ∙ spared-unworn in
-      subst (λ (k : Head). Ready rec x (k .command) (k .address) (f .bytes) (f .wear) (f .out)) (sym e) (arrived false (passed rec (x .state) unworn (ap isDone n)))
+      passed rec (x .state) unworn (ap isDone (goes-on rec (x .state) unworn (ap isDone given-unworn ∙ p) q ∙ spared-unworn))
+
+  pub ready : {h : Head} {a : Answer} → isDone (givenOf rec (x .state) H) ≡ true → h ≡ unworn → a ≡ saidOf rec (x .state) h
+      → isDone a ≡ true → Ready rec x (h .command) (h .address) (f .bytes) (f .out)
+  unfolding headFor
+  ready {h} {a} p e g d = subst (λ (k : Head). Ready rec x (k .command) (k .address) (f .bytes) (f .out)) (sym e) (arrived false (all-but-last p e g d))
+
+  -- the sectors that it covers lie in the table
+  pub countable : {h : Head} {a : Answer} {op : Operation} → isDone (givenOf rec (x .state) H) ≡ true → h ≡ unworn → a ≡ saidOf rec (x .state) h
+      → isDone a ≡ true → op ≡ operationOf (h .command) → InTable op (h .address .0) (f .wear)
+  unfolding headFor
+  countable {h} {a} {op} p e g d o =
+      let k = all-but-last p e g d in
+      let r = arrived false k in
+      subst (λ (q : Operation). InTable q (h .address .0) (f .wear)) (sym o)
+      (subst (λ (q : Head). InTable (operationOf (q .command)) (q .address .0) (f .wear)) (sym e)
+      (in-table (rec .model) (operationOf (unworn .command)) (unworn .address .0) (f .wear) (k .table) (omega (arith, r .inside, r .whole))))
 
   -- the last row is left: the frame is what its command does, or refused by its counts
   taken-is : isDone (givenOf rec (x .state) H) ≡ true → isDone (saidOf rec (x .state) H) ≡ true
@@ -120,13 +148,31 @@ module _ (rec : Record) (x : Chip) (f : Sent) where
       go true e = rw e (ap (λ (s : State). stateOnly WornOut s (x .page) (f .wear) (f .out)) (sym (leaves-all (rec .model) WornOut (x .state) refl)))
       go false e = rw e
 
-  pub accept : {h : Head} {a : Answer} {r : Reply} {xs ws os : List ℕ} → isDone (givenOf rec (x .state) H) ≡ true → h ≡ unworn
-      → a ≡ saidOf rec (x .state) h → isDone a ≡ true
-      → Gives (takenOf rec x (h .command) (h .address) (f .bytes) (f .wear) (f .out)) r xs ws os
+  -- counted and done
+  pub accept : {h : Head} {a : Answer} {op : Operation} {done : Bool} {ws : List ℕ} {r : Reply} {xs os : List ℕ} → isDone (givenOf rec (x .state) H) ≡ true → h ≡ unworn
+      → a ≡ saidOf rec (x .state) h → isDone a ≡ true → op ≡ operationOf (h .command)
+      → done ≡ not (wornOut op (h .address .0) (f .wear)) → ws ≡ cond done (counted op (h .address .0) (f .wear)) (f .wear) → done ≡ true
+      → Does (acceptedOf rec x (h .command) (h .address) (f .bytes) [] (f .out)) r xs os
       → Gives (frameOf rec x f) r xs ws os
-  accept {h} {a} {r} {xs} {ws} {os} p e g d q =
+  accept {h} {a} {op} {done} {ws} {r} {xs} {os} p e g d o n w y q =
+      let spare : wornOut (operationOf (h .command)) (h .address .0) (f .wear) ≡ false = ap (λ (k : Operation). wornOut k (h .address .0) (f .wear)) (sym o) ∙ not-true _ (sym n ∙ y) in
+      let table : acceptedOf rec x (h .command) (h .address) (f .bytes) (f .wear) (f .out) .wear ≡ ws = table-after rec x (h .address) (f .bytes) (f .wear) (f .out) (h .command) ∙ ap (λ (k : Operation). counted k (h .address .0) (f .wear)) (sym o) ∙ sym (w ∙ rw y) in
+      let taken : takenOf rec x (h .command) (h .address) (f .bytes) (f .wear) (f .out) ≡ acceptedOf rec x (h .command) (h .address) (f .bytes) (f .wear) (f .out) = rw spare in
       subst (λ (k : Effect). Gives k r xs ws os)
-      (ap (λ (k : Head). takenOf rec x (k .command) (k .address) (f .bytes) (f .wear) (f .out)) e ∙ taken-is p (sym (ap isDone (said e g)) ∙ d)) q
+      (sym taken ∙ ap (λ (k : Head). takenOf rec x (k .command) (k .address) (f .bytes) (f .wear) (f .out)) e ∙ taken-is p (sym (ap isDone (said e g)) ∙ d))
+      (subst (λ (k : List ℕ). Gives (acceptedOf rec x (h .command) (h .address) (f .bytes) (f .wear) (f .out)) r xs k os) table (with-table rec x (h .address) (f .bytes) (f .wear) (f .out) (h .command) q))
+
+  -- refused by its counts
+  pub worn-out : {h : Head} {a : Answer} {op : Operation} {done : Bool} {ws : List ℕ} {r : Reply} → isDone (givenOf rec (x .state) H) ≡ true → h ≡ unworn
+      → a ≡ saidOf rec (x .state) h → isDone a ≡ true → op ≡ operationOf (h .command)
+      → done ≡ not (wornOut op (h .address .0) (f .wear)) → ws ≡ cond done (counted op (h .address .0) (f .wear)) (f .wear) → done ≡ false
+      → r ≡ quiet WornOut (x .state) → Gives (frameOf rec x f) r (x .page) ws (f .out)
+  worn-out {h} {a} {op} {done} {ws} {r} p e g d o n w y q =
+      let full : wornOut (operationOf (h .command)) (h .address .0) (f .wear) ≡ true = ap (λ (k : Operation). wornOut k (h .address .0) (f .wear)) (sym o) ∙ not-false _ (sym n ∙ y) in
+      let turned-away : takenOf rec x (h .command) (h .address) (f .bytes) (f .wear) (f .out) ≡ stateOnly WornOut (x .state) (x .page) (f .wear) (f .out) = rw full in
+      subst (λ (k : Effect). Gives k r (x .page) ws (f .out))
+      (sym turned-away ∙ ap (λ (k : Head). takenOf rec x (k .command) (k .address) (f .bytes) (f .wear) (f .out)) e ∙ taken-is p (sym (ap isDone (said e g)) ∙ d))
+      (record { reply = q; page-is = refl; wear-is = w ∙ rw y; out = refl })
 
   -- what a frame comes to, by whether it is refused
   abbrev either-way : Bool → Effect

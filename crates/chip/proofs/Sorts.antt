@@ -31,7 +31,7 @@ use Rattle.commands.specs.declared.Command.the-variants.{WriteEnable, WriteDisa
 use Rattle.commands.proofs.Rows.{half-only-3}
 use Rattle.states.proofs.States.{sleep-le, wake-le, sign-le, times, half-some}
 use Rattle.counts.specs.Counts.{counted, covered, sectors}
-use Rattle.effects.specs.Effects.{Effect, stateOnly, turned, worn, drives, folding, latched, dozing, starting, refusalLeaves, writeEnable, writeDisable, writeStatus, eraseStarts, sleep, idBytes, makerBytes, readStatus, readConfig, readFrom, programPage, readId, wakingTime, wake, readMaker}
+use Rattle.effects.specs.Effects.{Effect, stateOnly, turned, drives, folding, latched, dozing, starting, refusalLeaves, writeEnable, writeDisable, writeStatus, eraseStarts, sleep, idBytes, makerBytes, readStatus, readConfig, readFrom, programPage, readId, wakingTime, wake, readMaker}
 use Rattle.chip.specs.Frames.{acceptedOf}
 use Rattle.chip.specs.Driven.{drivenBytes, foldOf}
 use Rattle.counts.proofs.Laws.{uncounted, all-counted}
@@ -185,7 +185,7 @@ module _ (rec : Record) (x : Chip) (at : Address) (bytes wear out : List ℕ) wh
       → traitsOf (modelOf (rec .model) .register) c .«while_busy» ≡ false → traitsOf (modelOf (rec .model) .register) c .«while_asleep» ≡ false
       → placeOk (rec .model) op (at .0) ≡ ltb (at .0) (modelOf (rec .model) .length) → usedBytes op (at .0) ≡ 0
       → (Asked rec s c at bytes → recordOk rec ≡ true → 0 < operationTime rec op)
-      → Kind rec x c at bytes wear out 0 false (worn (x .page) out (eraseStarts rec s op (at .0) wear bytes))
+      → Kind rec x c at bytes wear out 0 false (turned (x .page) (counted op (at .0) wear) out (eraseStarts rec s op (at .0) bytes))
   unfolding eraseStarts
   erases op c e l b a p u t =
       begins op (starting s (getD bytes 0 0) (at .0) (operationTime rec op)) (x .page) (counted op (at .0) wear) false
@@ -269,7 +269,7 @@ module _ (rec : Record) (x : Chip) (at : Address) (bytes wear out : List ℕ) wh
   none op e = sym (uncounted op (at .0) wear e)
 
   pub table-after : (c : Command) → acceptedOf rec x c at bytes wear out .wear ≡ counted (operationOf c) (at .0) wear
-  unfolding acceptedOf covered eraseStarts
+  unfolding acceptedOf covered
   table-after WriteEnable = none Idle refl
   table-after WriteDisable = none Idle refl
   table-after ReadStatus = none Idle refl

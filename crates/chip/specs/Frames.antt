@@ -19,8 +19,9 @@ use Rattle.answers.specs.declared.Answer.the-variants.{Done, WornOut}
 use Rattle.ladder.specs.Ladder.{refusalOf}
 use Rattle.ladder.specs.Stages.{givenOf}
 use Rattle.ladder.specs.declared.Head.{Head}
-use Rattle.counts.specs.Counts.{wornOut}
-use Rattle.effects.specs.Effects.{Effect, shown, started, worn, turned, stateOnly, writeEnable, writeDisable, writeStatus, eraseStarts, sleep, refusalLeaves, readStatus, readConfig, readFrom, programPage, readId, wake, readMaker, Room}
+use Rattle.effects.specs.declared.Reply.{Reply}
+use Rattle.counts.specs.Counts.{wornOut, counted}
+use Rattle.effects.specs.Effects.{Effect, shown, started, turned, stateOnly, writeEnable, writeDisable, writeStatus, eraseStarts, sleep, refusalLeaves, readStatus, readConfig, readFrom, programPage, readId, wake, readMaker, Room}
 
 -- what a frame sends: its whole bytes, the tail bits after them and the WP# level; and the wear table and the output lent to it
 pub record Sent : Type 0 where
@@ -58,7 +59,7 @@ headOf rec x f =
     headFor (rec .model) (length (x .cells)) (length (f .wear)) (pageOk (rec .model) (x .state) (x .page)) (f .bytes) (f .tail) (f .wp) (length (f .out))
     (wornBy (rec .model) (f .bytes) (f .wear))
 
--- an accepted frame, by its command: no command looks at the tail bits, nor but for the refusals at the WP# level, and none changes a cell
+-- an accepted frame, by its command; each sector that an erase covers counts one more (house). No command looks at the tail bits, nor but for the refusals at the WP# level, and none changes a cell
 unfoldable pub acceptedOf : Record → Chip → Command → Address → List ℕ → List ℕ → List ℕ → Effect
 acceptedOf rec x WriteEnable at bytes wear out = turned (x .page) wear out (writeEnable (x .state))
 acceptedOf rec x WriteDisable at bytes wear out = turned (x .page) wear out (writeDisable (x .state))
@@ -67,10 +68,10 @@ acceptedOf rec x ReadConfig at bytes wear out = shown (x .page) wear (readConfig
 acceptedOf rec x WriteStatus at bytes wear out = started wear out (writeStatus rec (x .state) (x .page) bytes)
 acceptedOf rec x Read at bytes wear out = shown (x .page) wear (readFrom 4 (x .state) (x .cells) at bytes out)
 acceptedOf rec x FastRead at bytes wear out = shown (x .page) wear (readFrom 5 (x .state) (x .cells) at bytes out)
-acceptedOf rec x EraseSector at bytes wear out = worn (x .page) out (eraseStarts rec (x .state) ErasesSector (at .0) wear bytes)
-acceptedOf rec x EraseHalf at bytes wear out = worn (x .page) out (eraseStarts rec (x .state) ErasesHalf (at .0) wear bytes)
-acceptedOf rec x EraseBlock at bytes wear out = worn (x .page) out (eraseStarts rec (x .state) ErasesBlock (at .0) wear bytes)
-acceptedOf rec x EraseChip at bytes wear out = worn (x .page) out (eraseStarts rec (x .state) ErasesChip noAddress wear bytes)
+acceptedOf rec x EraseSector at bytes wear out = turned (x .page) (counted ErasesSector (at .0) wear) out (eraseStarts rec (x .state) ErasesSector (at .0) bytes)
+acceptedOf rec x EraseHalf at bytes wear out = turned (x .page) (counted ErasesHalf (at .0) wear) out (eraseStarts rec (x .state) ErasesHalf (at .0) bytes)
+acceptedOf rec x EraseBlock at bytes wear out = turned (x .page) (counted ErasesBlock (at .0) wear) out (eraseStarts rec (x .state) ErasesBlock (at .0) bytes)
+acceptedOf rec x EraseChip at bytes wear out = turned (x .page) (counted ErasesChip noAddress wear) out (eraseStarts rec (x .state) ErasesChip noAddress bytes)
 acceptedOf rec x Program at bytes wear out = started wear out (programPage rec (x .state) (x .page) at bytes)
 acceptedOf rec x ReadId at bytes wear out = shown (x .page) wear (readId rec (x .state) bytes out)
 acceptedOf rec x Wake at bytes wear out = shown (x .page) wear (wake rec (x .state) bytes out)
@@ -94,12 +95,17 @@ abbrev pub takenOf : Record → Chip → Command → Address → List ℕ → Li
 takenOf rec x c at bytes wear out =
     cond (wornOut (operationOf c) (at .0) wear) (stateOnly WornOut (x .state) (x .page) wear out) (acceptedOf rec x c at bytes wear out)
 
+-- the reply, the page data and the output of an effect: what the code of the commands gives; the wear table is not lent to it
+pub record Does (e : Effect) (r : Reply) (page os : List ℕ) : Type 0 where
+  pub reply : r ≡ e .reply
+  pub page-is : page ≡ e .page
+  pub out : os ≡ e .out
+
 -- what those rows have shown of it, for the code below them
-pub record Ready (rec : Record) (x : Chip) (c : Command) (at : Address) (bytes wear out : List ℕ) : Type 0 where
+pub record Ready (rec : Record) (x : Chip) (c : Command) (at : Address) (bytes out : List ℕ) : Type 0 where
   pub level : x .state .bp ≤ 15
   pub whole : length (x .cells) ≡ modelOf (rec .model) .length
   pub inside : at .0 < length (x .cells)
-  pub table : length wear ≡ modelOf (rec .model) .sectors
   pub page-data : length (x .page) ≡ 256
   pub written : c ≡ WriteStatus → length bytes ≤ mostWritten (modelOf (rec .model) .register)
   pub fits : Room (fewest (traitsOf (modelOf (rec .model) .register) c)) bytes out

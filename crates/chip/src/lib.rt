@@ -1,9 +1,10 @@
 // The chip: any frame, on values and slices.
 ghost use mathlib.Core.Path.{_≡_};
 ghost use mathlib.Core.Bool.{false};
+ghost use mathlib.Core.List.{[]};
 ghost use Rattle.states.specs.States.{chipOf};
 ghost use Rattle.effects.specs.Effects.{Gives};
-ghost use Rattle.chip.specs.Frames.{sentOf, headFor, takenOf, frameOf, Ready, Heard};
+ghost use Rattle.chip.specs.Frames.{sentOf, headFor, acceptedOf, frameOf, Does, Ready, Heard};
 use answers::Answer;
 use commands::Command;
 use commands::Operation;
@@ -47,20 +48,19 @@ fn head(
     }
 }
 
-// A frame that 1 to 17 and 24 let pass, by its command: an erase may still be refused, by its counts.
+// An accepted frame, by its command. What it counts was counted before.
 fn accepted(
     rec: Record,
     st: State,
     c: Command,
     page: &mut [u8],
     array: &[u8],
-    wear: &mut [u32],
     at: Address,
     bytes: &[u8],
     out: &mut [u8],
 ) -> Reply
-    requires { ⌜ Ready rec (chipOf st (now page) (now array)) c at (now bytes) (now wear) (now out) ⌝ }
-    ensures { λ r. ⌜ Gives (takenOf rec (chipOf st (now (page .entry)) (now (array .entry))) c at (now (bytes .entry)) (now (wear .entry)) (now (out .entry))) r (now (page .exit)) (now (wear .exit)) (now (out .exit)) ⌝ }
+    requires { ⌜ Ready rec (chipOf st (now page) (now array)) c at (now bytes) (now out) ⌝ }
+    ensures { λ r. ⌜ Does (acceptedOf rec (chipOf st (now (page .entry)) (now (array .entry))) c at (now (bytes .entry)) [] (now (out .entry))) r (now (page .exit)) (now (out .exit)) ⌝ }
 {
     match c {
         Command::WriteEnable => effects::write_enable(st),
@@ -70,14 +70,10 @@ fn accepted(
         Command::WriteStatus => starts::write_status(rec, st, page, bytes),
         Command::Read => shows::read_from(4, st, array, at, bytes, out),
         Command::FastRead => shows::read_from(5, st, array, at, bytes, out),
-        Command::EraseSector => {
-            starts::erase(rec, st, Operation::ErasesSector, at.0, wear, bytes)
-        }
-        Command::EraseHalf => { starts::erase(rec, st, Operation::ErasesHalf, at.0, wear, bytes) }
-        Command::EraseBlock => { starts::erase(rec, st, Operation::ErasesBlock, at.0, wear, bytes) }
-        Command::EraseChip => {
-            starts::erase(rec, st, Operation::ErasesChip, 0xFFFFFF, wear, bytes)
-        }
+        Command::EraseSector => effects::erase(rec, st, Operation::ErasesSector, at.0, bytes),
+        Command::EraseHalf => effects::erase(rec, st, Operation::ErasesHalf, at.0, bytes),
+        Command::EraseBlock => effects::erase(rec, st, Operation::ErasesBlock, at.0, bytes),
+        Command::EraseChip => effects::erase(rec, st, Operation::ErasesChip, 0xFFFFFF, bytes),
         Command::Program => starts::program_page(rec, st, page, at, bytes),
         Command::ReadId => shows::read_id(rec, st, bytes, out),
         Command::Wake => shows::wake(rec, st, bytes, out),
@@ -116,7 +112,10 @@ fn spoken(
     if answers::is_done(answer) {
         let c = h.command;
         let at = h.address;
-        accepted(rec, st, c, page, array, wear, at, bytes, out)
+        if !counts::count(wear, commands::operation_of(c), at.0) {
+            return effects::quiet(Answer::WornOut, st);
+        }
+        accepted(rec, st, c, page, array, at, bytes, out)
     } else {
         effects::refuse(rec.model, answer, st)
     }

@@ -19,8 +19,7 @@ use Rattle.states.specs.declared.Record.{Record}
 use Rattle.states.specs.declared.State.{State}
 use Rattle.answers.specs.Answers.{saysProtected}
 use Rattle.answers.specs.declared.Answer.{Answer}
-use Rattle.answers.specs.declared.Answer.the-variants.{Done, WornOut}
-use Rattle.counts.specs.Counts.{wornOut, counted}
+use Rattle.answers.specs.declared.Answer.the-variants.{Done}
 use Rattle.effects.specs.declared.Reply.{Reply}
 
 -- a whole frame: the reply, and the page data, the wear table and the output after. A frame changes no cell
@@ -30,7 +29,7 @@ pub record Effect : Type 0 where
   pub wear : List ℕ
   pub out : List ℕ
 
--- what a command does that drives bytes out, what one does that starts an operation with page data, and what one does that erases
+-- what a command does that drives bytes out, and what one does that starts an operation with page data
 pub record Shown : Type 0 where
   pub reply : Reply
   pub out : List ℕ
@@ -39,19 +38,12 @@ pub record Started : Type 0 where
   pub reply : Reply
   pub page : List ℕ
 
-pub record Worn : Type 0 where
-  pub reply : Reply
-  pub wear : List ℕ
-
 -- the other buffers are as they were
 abbrev pub shown : List ℕ → List ℕ → Shown → Effect
 shown page wear e = record { reply = e .reply; page = page; wear = wear; out = e .out }
 
 abbrev pub started : List ℕ → List ℕ → Started → Effect
 started wear out e = record { reply = e .reply; page = e .page; wear = wear; out = out }
-
-abbrev pub worn : List ℕ → List ℕ → Worn → Effect
-worn page out e = record { reply = e .reply; page = page; wear = e .wear; out = out }
 
 -- what a function's result and its lent buffers at exit have to be
 pub record Gives (e : Effect) (r : Reply) (page wear os : List ℕ) : Type 0 where
@@ -67,10 +59,6 @@ pub record Shows (e : Shown) (r : Reply) (os : List ℕ) : Type 0 where
 pub record Starts (e : Started) (r : Reply) (page : List ℕ) : Type 0 where
   pub reply : r ≡ e .reply
   pub page-is : page ≡ e .page
-
-pub record Wears (e : Worn) (r : Reply) (wear : List ℕ) : Type 0 where
-  pub reply : r ≡ e .reply
-  pub wear-is : wear ≡ e .wear
 
 -- ---- replies
 -- nothing is driven
@@ -141,18 +129,9 @@ unfoldable pub readFrom : ℕ → State → List ℕ → Address → List ℕ �
 readFrom first s cells at bytes out =
     record { reply = drives s first (length bytes); out = lay out first (ring cells (at .0) (length bytes - first)) }
 
--- 20, 52, D8, 60 and C7: the erase starts; the cells change when its time has run out (000 L315, L327, L335, 003 L1233). Each sector that it covers counts one more (house)
-unfoldable pub eraseStarts : Record → State → Operation → ℕ → List ℕ → List ℕ → Worn
-eraseStarts rec s op place wear bytes =
-    record {
-      reply = quiet Done (starting s (getD bytes 0 0) place (operationTime rec op));
-      wear = counted op place wear;
-    }
-
--- unless a count would pass its top: then nothing changes (house)
-abbrev pub eraseOrWornOut : Record → State → Operation → ℕ → List ℕ → List ℕ → Worn
-eraseOrWornOut rec s op place wear bytes =
-    cond (wornOut op place wear) (record { reply = quiet WornOut s; wear = wear }) (eraseStarts rec s op place wear bytes)
+-- 20, 52, D8, 60 and C7: the erase starts; the cells change when its time has run out (000 L315, L327, L335, 003 L1233)
+unfoldable pub eraseStarts : Record → State → Operation → ℕ → List ℕ → Reply
+eraseStarts rec s op place bytes = quiet Done (starting s (getD bytes 0 0) place (operationTime rec op))
 
 -- 02: the bytes from position 4 on fold into the page data; the cells change when the time has run out (000 L343)
 unfoldable pub programPage : Record → State → List ℕ → Address → List ℕ → Started

@@ -1,8 +1,9 @@
 // What each command does, apart from the frame that carries it (specs/Effects.antt); here replies, and the commands that turn the state.
 ghost use mathlib.Core.Path.{_≡_};
 ghost use Prim.Native.Nat.{_-_};
-ghost use Rattle.effects.specs.Effects.{quiet as Effects·quiet, drives, folding, latched, dozing, starting, refusalLeaves, writeEnable, writeDisable, sleep as Effects·sleep};
+ghost use Rattle.effects.specs.Effects.{quiet as Effects·quiet, drives, folding, latched, dozing, starting, refusalLeaves, writeEnable, writeDisable, eraseStarts as Effects·erase, sleep as Effects·sleep};
 use answers::Answer;
+use commands::Operation;
 use states::Record;
 use states::State;
 
@@ -108,6 +109,17 @@ pub fn write_disable(st: State) -> Reply
     ensures { λ r. ⌜ r ≡ writeDisable st ⌝ }
 {
     quiet(Answer::Done, latch(st, false))
+}
+
+// 20, 52, D8, 60 and C7
+pub fn erase(rec: Record, st: State, op: Operation, place: u32, bytes: &[u8]) -> Reply
+    ensures { λ r. ⌜ r ≡ Effects·erase rec st op place (now (bytes .entry)) ⌝ }
+{
+    let time = states::operation_time(rec, op);
+    quiet(
+        Answer::Done,
+        start(st, parts::byte_at(bytes, 0), place, time),
+    )
 }
 
 // B9

@@ -7,7 +7,7 @@ use native.Mathlib.Omega.{arith}
 use lib.Dec.{lit≤}
 use lib.ListN.{length, replicate, length-replicate}
 use Rattle.commands.specs.declared.Operation.{Operation}
-use Rattle.counts.specs.Counts.{wornOut}
+use Rattle.counts.specs.Counts.{wornOut, counted}
 use Rattle.counts.proofs.Laws.{none-worn, new-table}
 use Rattle.models.specs.Models.{modelOf, addressOf}
 use Rattle.states.specs.States.{recordOk, longestOf, noCommand, noAddress, blankPage, Chip, chipOf}
@@ -16,7 +16,7 @@ use Rattle.states.specs.declared.Record.{Record}
 use Rattle.states.specs.declared.State.{State}
 use Rattle.answers.specs.declared.Answer.the-variants.{Done}
 use Rattle.states.proofs.States.{times, has-half, longest-in-range, by-longest}
-use Rattle.effects.specs.Effects.{Effect, stateOnly, worn, started, shown, drives, dozing, starting, wakingTime, wake, writeStatus, eraseStarts, programPage}
+use Rattle.effects.specs.Effects.{Effect, stateOnly, turned, started, shown, drives, dozing, starting, wakingTime, wake, writeStatus, eraseStarts, programPage}
 use Rattle.time.specs.Time.{later, waited}
 use Rattle.chip.specs.Frames.{frameOf}
 use Rattle.calls.specs.Calls.{Call, sends, waits, ours, left, run, Bench, frame}
@@ -88,19 +88,19 @@ module _ (rec : Record) (cells : List ℕ) (j : Job) (e : recordOk rec ≡ true)
   by-sector : longestOf rec ≡ rec .sector → Reached
   unfolding eraseStarts starting
   by-sector m =
-      by (0x20 ∷ 0 ∷ 0 ∷ 0 ∷ []) (worn blankPage room (eraseStarts rec (enabled 0) ErasesSector (addressOf (rec .model) 0 0 0 .0) new (0x20 ∷ 0 ∷ 0 ∷ 0 ∷ []))) (rec .sector)
+      by (0x20 ∷ 0 ∷ 0 ∷ 0 ∷ []) (turned blankPage (counted ErasesSector (addressOf (rec .model) 0 0 0 .0) new) room (eraseStarts rec (enabled 0) ErasesSector (addressOf (rec .model) 0 0 0 .0) (0x20 ∷ 0 ∷ 0 ∷ 0 ∷ []))) (rec .sector)
       (erase-taken rec armed (arms .bench) refl refl new room new-fits 0 0 0 refl refl refl (lit≤ tt) (unworn ErasesSector _)) refl refl (times rec e .sector) m
 
   by-block : longestOf rec ≡ rec .block → Reached
   unfolding eraseStarts starting
   by-block m =
-      by (0xD8 ∷ 0 ∷ 0 ∷ 0 ∷ []) (worn blankPage room (eraseStarts rec (enabled 0) ErasesBlock (addressOf (rec .model) 0 0 0 .0) new (0xD8 ∷ 0 ∷ 0 ∷ 0 ∷ []))) (rec .block)
+      by (0xD8 ∷ 0 ∷ 0 ∷ 0 ∷ []) (turned blankPage (counted ErasesBlock (addressOf (rec .model) 0 0 0 .0) new) room (eraseStarts rec (enabled 0) ErasesBlock (addressOf (rec .model) 0 0 0 .0) (0xD8 ∷ 0 ∷ 0 ∷ 0 ∷ []))) (rec .block)
       (block-taken rec armed (arms .bench) refl refl new room new-fits 0 0 0 refl refl refl (lit≤ tt) (unworn ErasesBlock _)) refl refl (times rec e .block) m
 
   by-chip : longestOf rec ≡ rec .chip → Reached
   unfolding eraseStarts starting
   by-chip m =
-      by (0xC7 ∷ []) (worn blankPage room (eraseStarts rec (enabled 0) ErasesChip noAddress new (0xC7 ∷ []))) (rec .chip)
+      by (0xC7 ∷ []) (turned blankPage (counted ErasesChip noAddress new) room (eraseStarts rec (enabled 0) ErasesChip noAddress (0xC7 ∷ []))) (rec .chip)
       (chip-taken rec armed (arms .bench) refl refl new room new-fits refl refl refl (lit≤ tt) (unworn ErasesChip _)) refl refl (times rec e .chip) m
 
   -- a model that has the sixth time has that erase
@@ -108,7 +108,7 @@ module _ (rec : Record) (cells : List ℕ) (j : Job) (e : recordOk rec ≡ true)
   unfolding eraseStarts starting
   by-half m =
       let t : 0 < rec .half = subst (λ (us : ℕ). 0 < us) m (longest-in-range rec e .some) in
-      by (0x52 ∷ 0 ∷ 0 ∷ 0 ∷ []) (worn blankPage room (eraseStarts rec (enabled 0) ErasesHalf (addressOf (rec .model) 0 0 0 .0) new (0x52 ∷ 0 ∷ 0 ∷ 0 ∷ []))) (rec .half)
+      by (0x52 ∷ 0 ∷ 0 ∷ 0 ∷ []) (turned blankPage (counted ErasesHalf (addressOf (rec .model) 0 0 0 .0) new) room (eraseStarts rec (enabled 0) ErasesHalf (addressOf (rec .model) 0 0 0 .0) (0x52 ∷ 0 ∷ 0 ∷ 0 ∷ []))) (rec .half)
       (half-taken rec armed (arms .bench) refl refl new room new-fits 0 0 0 (has-half rec e t) refl refl refl (lit≤ tt) (unworn ErasesHalf _)) refl refl t m
 
   -- ---- from power-on: B9, and AB after it

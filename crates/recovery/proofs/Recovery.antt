@@ -30,7 +30,8 @@ use Rattle.states.specs.declared.Record.{Record}
 use Rattle.states.specs.declared.State.{State}
 use Rattle.answers.specs.declared.Answer.the-variants.{Done}
 use Rattle.states.proofs.States.{Resting, sound, times, busy-le, busy-le-all, settle-le-all, blank-page}
-use Rattle.effects.specs.Effects.{Effect, quiet, stateOnly, turned, worn, started, shown, drives, latched, dozing, starting, writeStatus, eraseStarts as Effects·erase, programPage, readFrom}
+use Rattle.effects.specs.Effects.{Effect, quiet, stateOnly, turned, started, shown, drives, latched, dozing, starting, writeStatus, eraseStarts as Effects·erase, programPage, readFrom}
+use Rattle.counts.specs.Counts.{counted}
 use Rattle.counts.proofs.Laws.{sector-spared, sector-counted}
 use Rattle.operations.specs.Operations.{runs, pageAddress, configAfter, written, forgotten, finished}
 use Rattle.operations.proofs.Kept.{finished-settle}
@@ -224,7 +225,7 @@ module _ (rec : Record) (j : Job) (x : Chip) (b : Bench rec x) (f : JobFits rec 
   pub worn-table : length (j .worn) ≡ modelOf (rec .model) .sectors
   worn-table = f .after .same ∙ f .table
 
-  erase-counts : worn blankPage (j .outs .erase) (Effects·erase rec (enabled v) ErasesSector (to .0) (j .wear) (erase j .bytes))
+  erase-counts : turned blankPage (counted ErasesSector (to .0) (j .wear)) (j .outs .erase) (Effects·erase rec (enabled v) ErasesSector (to .0) (erase j .bytes))
       ≡ turned blankPage (j .worn) (j .outs .erase) (quiet Done (running v 0x20 (to .0) (rec .sector)))
   unfolding Effects·erase starting
   erase-counts = ap (λ (ws : List ℕ). turned blankPage ws (j .outs .erase) (quiet Done (running v 0x20 (to .0) (rec .sector)))) (sector-counted (to .0) (j .wear) (j .worn) counted-in (f .after))

@@ -1,9 +1,8 @@
-// The commands that start an operation: data bytes go into the page data, an erase is counted in the wear table, and no cell changes yet.
+// The commands that start an operation with page data: the data bytes go into the page data, and no cell changes yet.
 ghost use mathlib.Core.Path.{_≡_};
 ghost use Prim.Native.Nat.{_≤_};
 ghost use lib.ListN.{length};
-ghost use Rattle.counts.specs.Counts.{InTable};
-ghost use Rattle.effects.specs.Effects.{Starts, Wears, writeStatus, programPage, eraseOrWornOut};
+ghost use Rattle.effects.specs.Effects.{Starts, writeStatus, programPage};
 use answers::Answer;
 use commands::Operation;
 use effects::Reply;
@@ -34,24 +33,4 @@ pub fn program_page(rec: Record, st: State, page: &mut [u8], at: Address, bytes:
     let time = states::operation_time(rec, Operation::Programs);
     let command = parts::byte_at(bytes, 0);
     effects::taken(effects::start(st, command, at.0, time), fold)
-}
-
-// 20, 52, D8, 60 and C7: the erase is counted; where a count would pass its top it is refused.
-pub fn erase(
-    rec: Record,
-    st: State,
-    op: Operation,
-    place: u32,
-    wear: &mut [u32],
-    bytes: &[u8],
-) -> Reply
-    requires { ⌜ InTable op place (now wear) ⌝ }
-    ensures { λ r. ⌜ Wears (eraseOrWornOut rec st op place (now (wear .entry)) (now (bytes .entry))) r (now (wear .exit)) ⌝ }
-{
-    if counts::count(wear, op, place) {
-        let time = states::operation_time(rec, op);
-        let sent = parts::byte_at(bytes, 0);
-        return effects::quiet(Answer::Done, effects::start(st, sent, place, time));
-    }
-    effects::quiet(Answer::WornOut, st)
 }

@@ -5,12 +5,9 @@ use lib.ListN.{length}
 use denote.Ref.{now}
 use Rattle.models.specs.Models.{modelOf}
 use Rattle.commands.specs.Commands.{traitsOf}
-use Rattle.states.specs.States.{noAddress, chipOf}
-use Rattle.commands.specs.declared.Operation.the-variants.{ErasesSector, ErasesHalf, ErasesBlock, ErasesChip}
-use Rattle.counts.specs.Counts.{covered, wornOut}
-use Rattle.counts.proofs.Laws.{in-table, chip-in-table}
+use Rattle.states.specs.States.{chipOf}
 use Rattle.chip.specs.Frames.{acceptedOf}
-use Rattle.chip.proofs.Ready.{at-command, at-erase, room-for, at-most-3}
+use Rattle.chip.proofs.Ready.{at-command, room-for, at-most-3}
 use borrow.Author.Needs.{needs}
 use Rattle.chip.proofs.accepted.Statement.{statement}
 use Rattle.chip.proofs.accepted.Tie as tie
@@ -18,206 +15,185 @@ use Rattle.chip.proofs.accepted.Tie as tie
 read-status-requires : tie.Need-read-status-requires
 unfolding traitsOf
 read-status-requires c κs =
-    let p = c .before .before .before .before .before .before .before .before .pre in
+    let p = c .before .before .before .before .before .before .before .pre in
     let e = c .before .enum-told3 .given .1 in
     (omega (arith, p .level), room-for p e)
 
 read-config-requires : tie.Need-read-config-requires
 unfolding traitsOf
 read-config-requires c κs =
-    let p = c .before .before .before .before .before .before .before .before .pre in
+    let p = c .before .before .before .before .before .before .before .pre in
     let e = c .before .enum-told4 .given .1 in
     room-for p e
 
 write-status-requires : tie.Need-write-status-requires
 unfolding traitsOf
 write-status-requires c κs =
-    let p = c .before .before .before .before .before .before .before .before .pre in
-    let a = c .before .before .before .before .before .before .before .before .args in
+    let p = c .before .before .before .before .before .before .before .pre in
+    let a = c .before .before .before .before .before .before .before .args in
     let e = c .before .enum-told5 .given .1 in
     (p .page-data, room-for p e .long, at-most-3 (modelOf (a .rec .model) .register) (length (now (a .bytes))) (p .written e))
 
 read-from-requires : tie.Need-read-from-requires
 unfolding traitsOf
 read-from-requires c κs =
-    let p = c .before .before .before .before .before .before .before .before .pre in
+    let p = c .before .before .before .before .before .before .before .pre in
     let e = c .before .enum-told6 .given .1 in
     (p .inside, room-for p e)
 
 read-from-requires-2 : tie.Need-read-from-requires-2
 unfolding traitsOf
 read-from-requires-2 c κs =
-    let p = c .before .before .before .before .before .before .before .before .pre in
+    let p = c .before .before .before .before .before .before .before .pre in
     let e = c .before .enum-told7 .given .1 in
     (p .inside, room-for p e)
-
-erase-requires : tie.Need-erase-requires
-erase-requires c κs =
-    let a = c .before .before .before .before .before .before .before .before .args in
-    let p = c .before .before .before .before .before .before .before .before .pre in
-    in-table (a .rec .model) _ (a .at .0) (now (a .wear)) (p .table) (omega (arith, p .inside, p .whole))
-
-erase-requires-2 : tie.Need-erase-requires-2
-erase-requires-2 c κs =
-    let a = c .before .before .before .before .before .before .before .before .args in
-    let p = c .before .before .before .before .before .before .before .before .pre in
-    in-table (a .rec .model) _ (a .at .0) (now (a .wear)) (p .table) (omega (arith, p .inside, p .whole))
-
-erase-requires-3 : tie.Need-erase-requires-3
-erase-requires-3 c κs =
-    let a = c .before .before .before .before .before .before .before .before .args in
-    let p = c .before .before .before .before .before .before .before .before .pre in
-    in-table (a .rec .model) _ (a .at .0) (now (a .wear)) (p .table) (omega (arith, p .inside, p .whole))
-
-erase-requires-4 : tie.Need-erase-requires-4
-erase-requires-4 c κs = chip-in-table _ (now (c .before .before .before .before .before .before .before .before .args .wear))
 
 program-page-requires : tie.Need-program-page-requires
 unfolding traitsOf
 program-page-requires c κs =
-    let p = c .before .before .before .before .before .before .before .before .pre in
+    let p = c .before .before .before .before .before .before .before .pre in
     let e = c .before .enum-told12 .given .1 in
     (p .page-data, room-for p e .long)
 
 read-id-requires : tie.Need-read-id-requires
 unfolding traitsOf
 read-id-requires c κs =
-    let p = c .before .before .before .before .before .before .before .before .pre in
+    let p = c .before .before .before .before .before .before .before .pre in
     let e = c .before .enum-told13 .given .1 in
     room-for p e
 
 wake-requires : tie.Need-wake-requires
 unfolding traitsOf
 wake-requires c κs =
-    let p = c .before .before .before .before .before .before .before .before .pre in
+    let p = c .before .before .before .before .before .before .before .pre in
     let e = c .before .enum-told14 .given .1 in
     room-for p e
 
 read-maker-requires : tie.Need-read-maker-requires
 unfolding traitsOf
 read-maker-requires c κs =
-    let p = c .before .before .before .before .before .before .before .before .pre in
+    let p = c .before .before .before .before .before .before .before .pre in
     let e = c .before .enum-told15 .given .1 in
     room-for p e
 
 returns : tie.Need-returns
-unfolding acceptedOf covered wornOut
+unfolding acceptedOf
 returns c =
-    let a = c .before .before .before .before .before .before .before .before .args in
-    at-command (a .rec) (chipOf (a .st) (now (a .page)) (now (a .array))) (a .at) (now (a .bytes)) (now (a .wear)) (now (a .out)) (c .before .enum-told .given .1)
-    (record { reply = c .write-enable .ensures; page-is = refl; wear-is = refl; out = refl })
+    let a = c .before .before .before .before .before .before .before .args in
+    at-command (a .rec) (chipOf (a .st) (now (a .page)) (now (a .array))) (a .at) (now (a .bytes)) (now (a .out)) (c .before .enum-told .given .1)
+    (record { reply = c .write-enable .ensures; page-is = refl; out = refl })
 
 returns-2 : tie.Need-returns-2
-unfolding acceptedOf covered wornOut
+unfolding acceptedOf
 returns-2 c =
-    let a = c .before .before .before .before .before .before .before .before .args in
-    at-command (a .rec) (chipOf (a .st) (now (a .page)) (now (a .array))) (a .at) (now (a .bytes)) (now (a .wear)) (now (a .out)) (c .before .enum-told2 .given .1)
-    (record { reply = c .write-disable .ensures; page-is = refl; wear-is = refl; out = refl })
+    let a = c .before .before .before .before .before .before .before .args in
+    at-command (a .rec) (chipOf (a .st) (now (a .page)) (now (a .array))) (a .at) (now (a .bytes)) (now (a .out)) (c .before .enum-told2 .given .1)
+    (record { reply = c .write-disable .ensures; page-is = refl; out = refl })
 
 returns-3 : tie.Need-returns-3
-unfolding acceptedOf covered wornOut
+unfolding acceptedOf
 returns-3 c =
-    let a = c .before .before .before .before .before .before .before .before .before .before .before .args in
-    at-command (a .rec) (chipOf (a .st) (now (a .page)) (now (a .array))) (a .at) (now (a .bytes)) (now (a .wear)) (now (a .out)) (c .before .before .before .before .enum-told3 .given .1)
-    (record { reply = c .before .before .read-status .ensures .reply; page-is = refl; wear-is = refl; out = c .before .before .read-status .ensures .out })
+    let a = c .before .before .before .before .before .before .before .before .before .before .args in
+    at-command (a .rec) (chipOf (a .st) (now (a .page)) (now (a .array))) (a .at) (now (a .bytes)) (now (a .out)) (c .before .before .before .before .enum-told3 .given .1)
+    (record { reply = c .before .before .read-status .ensures .reply; page-is = refl; out = c .before .before .read-status .ensures .out })
 
 returns-4 : tie.Need-returns-4
-unfolding acceptedOf covered wornOut
+unfolding acceptedOf
 returns-4 c =
-    let a = c .before .before .before .before .before .before .before .before .before .before .before .args in
-    at-command (a .rec) (chipOf (a .st) (now (a .page)) (now (a .array))) (a .at) (now (a .bytes)) (now (a .wear)) (now (a .out)) (c .before .before .before .before .enum-told4 .given .1)
-    (record { reply = c .before .before .read-config .ensures .reply; page-is = refl; wear-is = refl; out = c .before .before .read-config .ensures .out })
+    let a = c .before .before .before .before .before .before .before .before .before .before .args in
+    at-command (a .rec) (chipOf (a .st) (now (a .page)) (now (a .array))) (a .at) (now (a .bytes)) (now (a .out)) (c .before .before .before .before .enum-told4 .given .1)
+    (record { reply = c .before .before .read-config .ensures .reply; page-is = refl; out = c .before .before .read-config .ensures .out })
 
 returns-5 : tie.Need-returns-5
-unfolding acceptedOf covered wornOut
+unfolding acceptedOf
 returns-5 c =
-    let a = c .before .before .before .before .before .before .before .before .before .before .before .args in
-    at-command (a .rec) (chipOf (a .st) (now (a .page)) (now (a .array))) (a .at) (now (a .bytes)) (now (a .wear)) (now (a .out)) (c .before .before .before .before .enum-told5 .given .1)
-    (record { reply = c .before .before .write-status .ensures .reply; page-is = c .before .before .write-status .ensures .page-is; wear-is = refl; out = refl })
+    let a = c .before .before .before .before .before .before .before .before .before .before .args in
+    at-command (a .rec) (chipOf (a .st) (now (a .page)) (now (a .array))) (a .at) (now (a .bytes)) (now (a .out)) (c .before .before .before .before .enum-told5 .given .1)
+    (record { reply = c .before .before .write-status .ensures .reply; page-is = c .before .before .write-status .ensures .page-is; out = refl })
 
 returns-6 : tie.Need-returns-6
-unfolding acceptedOf covered wornOut
+unfolding acceptedOf
 returns-6 c =
-    let a = c .before .before .before .before .before .before .before .before .before .before .before .args in
-    at-command (a .rec) (chipOf (a .st) (now (a .page)) (now (a .array))) (a .at) (now (a .bytes)) (now (a .wear)) (now (a .out)) (c .before .before .before .before .enum-told6 .given .1)
-    (record { reply = c .before .before .read-from .ensures .reply; page-is = refl; wear-is = refl; out = c .before .before .read-from .ensures .out })
+    let a = c .before .before .before .before .before .before .before .before .before .before .args in
+    at-command (a .rec) (chipOf (a .st) (now (a .page)) (now (a .array))) (a .at) (now (a .bytes)) (now (a .out)) (c .before .before .before .before .enum-told6 .given .1)
+    (record { reply = c .before .before .read-from .ensures .reply; page-is = refl; out = c .before .before .read-from .ensures .out })
 
 returns-7 : tie.Need-returns-7
-unfolding acceptedOf covered wornOut
+unfolding acceptedOf
 returns-7 c =
-    let a = c .before .before .before .before .before .before .before .before .before .before .before .args in
-    at-command (a .rec) (chipOf (a .st) (now (a .page)) (now (a .array))) (a .at) (now (a .bytes)) (now (a .wear)) (now (a .out)) (c .before .before .before .before .enum-told7 .given .1)
-    (record { reply = c .before .before .read-from2 .ensures .reply; page-is = refl; wear-is = refl; out = c .before .before .read-from2 .ensures .out })
+    let a = c .before .before .before .before .before .before .before .before .before .before .args in
+    at-command (a .rec) (chipOf (a .st) (now (a .page)) (now (a .array))) (a .at) (now (a .bytes)) (now (a .out)) (c .before .before .before .before .enum-told7 .given .1)
+    (record { reply = c .before .before .read-from2 .ensures .reply; page-is = refl; out = c .before .before .read-from2 .ensures .out })
 
 returns-8 : tie.Need-returns-8
-unfolding acceptedOf covered wornOut
+unfolding acceptedOf
 returns-8 c =
-    let a = c .before .before .before .before .before .before .before .before .before .before .before .args in
-    at-command (a .rec) (chipOf (a .st) (now (a .page)) (now (a .array))) (a .at) (now (a .bytes)) (now (a .wear)) (now (a .out)) (c .before .before .before .before .enum-told8 .given .1)
-    (at-erase (a .rec) (chipOf (a .st) (now (a .page)) (now (a .array))) (a .at) (now (a .bytes)) (now (a .wear)) (now (a .out)) ErasesSector (a .at .0) (c .before .before .erase .ensures))
+    let a = c .before .before .before .before .before .before .before .args in
+    at-command (a .rec) (chipOf (a .st) (now (a .page)) (now (a .array))) (a .at) (now (a .bytes)) (now (a .out)) (c .before .enum-told8 .given .1)
+    (record { reply = c .erase .ensures; page-is = refl; out = refl })
 
 returns-9 : tie.Need-returns-9
-unfolding acceptedOf covered wornOut
+unfolding acceptedOf
 returns-9 c =
-    let a = c .before .before .before .before .before .before .before .before .before .before .before .args in
-    at-command (a .rec) (chipOf (a .st) (now (a .page)) (now (a .array))) (a .at) (now (a .bytes)) (now (a .wear)) (now (a .out)) (c .before .before .before .before .enum-told9 .given .1)
-    (at-erase (a .rec) (chipOf (a .st) (now (a .page)) (now (a .array))) (a .at) (now (a .bytes)) (now (a .wear)) (now (a .out)) ErasesHalf (a .at .0) (c .before .before .erase2 .ensures))
+    let a = c .before .before .before .before .before .before .before .args in
+    at-command (a .rec) (chipOf (a .st) (now (a .page)) (now (a .array))) (a .at) (now (a .bytes)) (now (a .out)) (c .before .enum-told9 .given .1)
+    (record { reply = c .erase2 .ensures; page-is = refl; out = refl })
 
 returns-10 : tie.Need-returns-10
-unfolding acceptedOf covered wornOut
+unfolding acceptedOf
 returns-10 c =
-    let a = c .before .before .before .before .before .before .before .before .before .before .before .args in
-    at-command (a .rec) (chipOf (a .st) (now (a .page)) (now (a .array))) (a .at) (now (a .bytes)) (now (a .wear)) (now (a .out)) (c .before .before .before .before .enum-told10 .given .1)
-    (at-erase (a .rec) (chipOf (a .st) (now (a .page)) (now (a .array))) (a .at) (now (a .bytes)) (now (a .wear)) (now (a .out)) ErasesBlock (a .at .0) (c .before .before .erase3 .ensures))
+    let a = c .before .before .before .before .before .before .before .args in
+    at-command (a .rec) (chipOf (a .st) (now (a .page)) (now (a .array))) (a .at) (now (a .bytes)) (now (a .out)) (c .before .enum-told10 .given .1)
+    (record { reply = c .erase3 .ensures; page-is = refl; out = refl })
 
 returns-11 : tie.Need-returns-11
-unfolding acceptedOf covered wornOut
+unfolding acceptedOf
 returns-11 c =
-    let a = c .before .before .before .before .before .before .before .before .before .before .before .args in
-    at-command (a .rec) (chipOf (a .st) (now (a .page)) (now (a .array))) (a .at) (now (a .bytes)) (now (a .wear)) (now (a .out)) (c .before .before .before .before .enum-told11 .given .1)
-    (at-erase (a .rec) (chipOf (a .st) (now (a .page)) (now (a .array))) (a .at) (now (a .bytes)) (now (a .wear)) (now (a .out)) ErasesChip noAddress (c .before .before .erase4 .ensures))
+    let a = c .before .before .before .before .before .before .before .args in
+    at-command (a .rec) (chipOf (a .st) (now (a .page)) (now (a .array))) (a .at) (now (a .bytes)) (now (a .out)) (c .before .enum-told11 .given .1)
+    (record { reply = c .erase4 .ensures; page-is = refl; out = refl })
 
 returns-12 : tie.Need-returns-12
-unfolding acceptedOf covered wornOut
+unfolding acceptedOf
 returns-12 c =
-    let a = c .before .before .before .before .before .before .before .before .before .before .before .args in
-    at-command (a .rec) (chipOf (a .st) (now (a .page)) (now (a .array))) (a .at) (now (a .bytes)) (now (a .wear)) (now (a .out)) (c .before .before .before .before .enum-told12 .given .1)
-    (record { reply = c .before .before .program-page .ensures .reply; page-is = c .before .before .program-page .ensures .page-is; wear-is = refl; out = refl })
+    let a = c .before .before .before .before .before .before .before .before .before .before .args in
+    at-command (a .rec) (chipOf (a .st) (now (a .page)) (now (a .array))) (a .at) (now (a .bytes)) (now (a .out)) (c .before .before .before .before .enum-told12 .given .1)
+    (record { reply = c .before .before .program-page .ensures .reply; page-is = c .before .before .program-page .ensures .page-is; out = refl })
 
 returns-13 : tie.Need-returns-13
-unfolding acceptedOf covered wornOut
+unfolding acceptedOf
 returns-13 c =
-    let a = c .before .before .before .before .before .before .before .before .before .before .before .args in
-    at-command (a .rec) (chipOf (a .st) (now (a .page)) (now (a .array))) (a .at) (now (a .bytes)) (now (a .wear)) (now (a .out)) (c .before .before .before .before .enum-told13 .given .1)
-    (record { reply = c .before .before .read-id .ensures .reply; page-is = refl; wear-is = refl; out = c .before .before .read-id .ensures .out })
+    let a = c .before .before .before .before .before .before .before .before .before .before .args in
+    at-command (a .rec) (chipOf (a .st) (now (a .page)) (now (a .array))) (a .at) (now (a .bytes)) (now (a .out)) (c .before .before .before .before .enum-told13 .given .1)
+    (record { reply = c .before .before .read-id .ensures .reply; page-is = refl; out = c .before .before .read-id .ensures .out })
 
 returns-14 : tie.Need-returns-14
-unfolding acceptedOf covered wornOut
+unfolding acceptedOf
 returns-14 c =
-    let a = c .before .before .before .before .before .before .before .before .before .before .before .args in
-    at-command (a .rec) (chipOf (a .st) (now (a .page)) (now (a .array))) (a .at) (now (a .bytes)) (now (a .wear)) (now (a .out)) (c .before .before .before .before .enum-told14 .given .1)
-    (record { reply = c .before .before .wake .ensures .reply; page-is = refl; wear-is = refl; out = c .before .before .wake .ensures .out })
+    let a = c .before .before .before .before .before .before .before .before .before .before .args in
+    at-command (a .rec) (chipOf (a .st) (now (a .page)) (now (a .array))) (a .at) (now (a .bytes)) (now (a .out)) (c .before .before .before .before .enum-told14 .given .1)
+    (record { reply = c .before .before .wake .ensures .reply; page-is = refl; out = c .before .before .wake .ensures .out })
 
 returns-15 : tie.Need-returns-15
-unfolding acceptedOf covered wornOut
+unfolding acceptedOf
 returns-15 c =
-    let a = c .before .before .before .before .before .before .before .before .before .before .before .args in
-    at-command (a .rec) (chipOf (a .st) (now (a .page)) (now (a .array))) (a .at) (now (a .bytes)) (now (a .wear)) (now (a .out)) (c .before .before .before .before .enum-told15 .given .1)
-    (record { reply = c .before .before .read-maker .ensures .reply; page-is = refl; wear-is = refl; out = c .before .before .read-maker .ensures .out })
+    let a = c .before .before .before .before .before .before .before .before .before .before .args in
+    at-command (a .rec) (chipOf (a .st) (now (a .page)) (now (a .array))) (a .at) (now (a .bytes)) (now (a .out)) (c .before .before .before .before .enum-told15 .given .1)
+    (record { reply = c .before .before .read-maker .ensures .reply; page-is = refl; out = c .before .before .read-maker .ensures .out })
 
 returns-16 : tie.Need-returns-16
-unfolding acceptedOf covered wornOut
+unfolding acceptedOf
 returns-16 c =
-    let a = c .before .before .before .before .before .before .before .before .args in
-    at-command (a .rec) (chipOf (a .st) (now (a .page)) (now (a .array))) (a .at) (now (a .bytes)) (now (a .wear)) (now (a .out)) (c .before .enum-told16 .given .1)
-    (record { reply = c .sleep .ensures; page-is = refl; wear-is = refl; out = refl })
+    let a = c .before .before .before .before .before .before .before .args in
+    at-command (a .rec) (chipOf (a .st) (now (a .page)) (now (a .array))) (a .at) (now (a .bytes)) (now (a .out)) (c .before .enum-told16 .given .1)
+    (record { reply = c .sleep .ensures; page-is = refl; out = refl })
 
 returns-17 : tie.Need-returns-17
-unfolding acceptedOf covered wornOut
+unfolding acceptedOf
 returns-17 c =
-    let a = c .before .before .before .before .before .before .before .before .args in
-    at-command (a .rec) (chipOf (a .st) (now (a .page)) (now (a .array))) (a .at) (now (a .bytes)) (now (a .wear)) (now (a .out)) (c .before .enum-told17 .given .1)
-    (record { reply = c .quiet .ensures; page-is = refl; wear-is = refl; out = refl })
+    let a = c .before .before .before .before .before .before .before .args in
+    at-command (a .rec) (chipOf (a .st) (now (a .page)) (now (a .array))) (a .at) (now (a .bytes)) (now (a .out)) (c .before .enum-told17 .given .1)
+    (record { reply = c .quiet .ensures; page-is = refl; out = refl })
 
 pub accepted-spec : {M : Type 1} → statement M
 accepted-spec =
@@ -238,13 +214,13 @@ accepted-spec =
     (λ c. search needs)
     read-from-requires-2
     (λ c. search needs)
-    erase-requires
+    (λ c κs. search needs)
     (λ c. search needs)
-    erase-requires-2
+    (λ c κs. search needs)
     (λ c. search needs)
-    erase-requires-3
+    (λ c κs. search needs)
     (λ c. search needs)
-    erase-requires-4
+    (λ c κs. search needs)
     (λ c. search needs)
     program-page-requires
     (λ c. search needs)
@@ -269,13 +245,9 @@ accepted-spec =
     returns-6
     (λ c. search needs)
     returns-7
-    (λ c. search needs)
     returns-8
-    (λ c. search needs)
     returns-9
-    (λ c. search needs)
     returns-10
-    (λ c. search needs)
     returns-11
     (λ c. search needs)
     returns-12
