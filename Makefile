@@ -1,12 +1,13 @@
 # What each target does is said by `make`.
 .DEFAULT_GOAL := help
-.PHONY: help test run compare explain example bench benchmark
+.PHONY: help test run compare explain wear example bench benchmark
 
 help:
 	@echo 'make test                          prove everything, try the must-fail edits, run the programs and the host tests'
 	@echo 'make run SCRIPT=FILE               run a script through the runner; the log goes to standard output'
 	@echo 'make compare SCRIPT=FILE LOG=FILE  run a script and compare its log with a stored one'
 	@echo 'make explain SCRIPT=FILE           run a script and show each line beside its answer in words'
+	@echo 'make wear SCRIPT=FILE              run a script and write the wear sheet: how often it erased each sector'
 	@echo 'make example                       run the two programs of host/example: firmware with its mistake and mended, and a board pulled in mid-erase'
 	@echo 'make bench, make benchmark         count instructions against the independent C model'
 
@@ -21,6 +22,9 @@ compare:
 
 explain:
 	@host/explain/explain.sh "$$SCRIPT"
+
+wear:
+	@tools/run.sh "$$SCRIPT" 'make wear' wear
 
 example:
 	@tools/rattle.sh 'make example' archive

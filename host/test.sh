@@ -47,7 +47,8 @@ check() {
 }
 
 compile() {
-    for source in "$here"/model/model.c "$here"/test/*.c "$here"/example/*.c "$here"/benchmark/empty.c; do
+    "$host" cc -std=c99 $flags -r -nostdlib "$here"/model/*.c -o "$obj/model.o"
+    for source in "$here"/test/*.c "$here"/example/*.c "$here"/benchmark/empty.c; do
         "$host" cc -std=c99 $flags -c "$source" -o "$obj/$(basename "$source" .c).o"
     done
 }
@@ -57,7 +58,7 @@ stand_in() {
     echo "the independent model stands in for the archive: this tries the tests only"
     archive=$obj/stand_in.o
     "$host" cc -std=c99 $flags -Dref_frame=gwo_frame -Dref_wait=gwo_wait -Dref_power_cycle=gwo_power_cycle \
-        -Dref_cut=gwo_cut -c "$here/model/model.c" -o "$archive"
+        -Dref_cut=gwo_cut -Dref_wear_report=gwo_wear_report -r -nostdlib "$here"/model/*.c -o "$archive"
 }
 
 link() {
@@ -83,16 +84,21 @@ header() {
         "$host" run "$bin/header_$2" "header as $2"
 }
 
-# Firmware of an earlier header, without a warning; it must not be edited.
+# by_names REQUEST: firmware of an earlier header, without a warning; it must not be edited.
 by_names() {
-    "$host" cc -std=c99 $flags -Werror "$here/test/by_names_05.c" "$archive" "$obj/model.o" -o "$bin/by_names" &&
-        "$host" run "$bin/by_names"
+    "$host" cc -std=c99 $flags -Werror "$here/test/by_names_$1.c" "$archive" "$obj/model.o" -o "$bin/by_names_$1" &&
+        "$host" run "$bin/by_names_$1"
+}
+
+# Firmware that lends no wear table, with a call of its own in the archive's place.
+no_sheet() {
+    "$host" cc -std=c99 $flags -Werror "$here/test/no_sheet.c" -o "$bin/no_sheet" && "$host" run "$bin/no_sheet"
 }
 
 example() {
     "$host" run "$bin/firmware" >"$GWO_BUILD/example.got" && "$host" run "$bin/unplugged" >>"$GWO_BUILD/example.got" &&
         diff "$here/example/output.txt" "$GWO_BUILD/example.got" &&
-        echo "example: last spring's fold, the table mended, and a table lost in mid-erase and won back"
+        echo "example: last spring's fold, the table mended, a table lost in mid-erase and won back, and its wear sheet"
 }
 
 # The C of README.md, as it stands there, prints what is said there.
@@ -131,7 +137,8 @@ compile
 link
 for standard in c99 c11; do check "header-$standard" header c $standard; done
 for standard in c++98 c++17; do check "header-$standard" header c++ $standard; done
-check by_names by_names
+for request in 05 06; do check "by_names_$request" by_names $request; done
+check no_sheet no_sheet
 check example example
 check readme readme
 check rules "$host" run "$bin/rules"

@@ -148,7 +148,7 @@ def main():
     with open("crates/bench_sheet/stdin", "w", newline="") as f:
         f.write("\n".join(b.lines) + "\n")
     with open("crates/bench_sheet/stdout", "w", newline="") as f:
-        f.write("step|case|wanted|answer\tfrom\tcount\tbytes\tnote\tstatus\tasleep\tbusy\tsettle\tcommand\taddress\tcells\n")
+        f.write("step|case|wanted|answer\tfrom\tcount\tbytes\tnote\tstatus\tasleep\tbusy\tsettle\tcommand\taddress\tcells\tcount\ttotal\n")
         f.write("\n".join(b.rows) + "\n")
 
 

@@ -13,6 +13,8 @@ TIMES = {1: (15000, 5000, 120000, 2000000, 2000000), 2: (40000, 3000, 200000, 20
 # settling after B9, after the short AB, after the long AB: model 1's are house, model 2's 002 L802-806 rounded up
 SETTLES = {1: (10, 10, 10), 2: (10, 9, 9)}
 BLOCKS = {1: 1, 2: 4}
+SECTORS = {1: 16, 2: 64}
+TOP = 0xFFFFFFFF  # the highest count of a wear table
 ID = {1: (0xC2, 0x20, 0x10), 2: (0xC2, 0x20, 0x12)}
 SIGNATURE = {1: 0x05, 2: 0x11}
 PROTECTED = {1: ((), (0,), (0,), (0,)), 2: ((), (3,), (2, 3), (0, 1, 2, 3))}
@@ -20,14 +22,16 @@ EXACT = {0x06: 1, 0x04: 1, 0xB9: 1, 0x60: 1, 0xC7: 1, 0x01: 2, 0x20: 4, 0x52: 4,
 LEAST = {0x05: 1, 0x03: 4, 0x0B: 5, 0x9F: 1, 0x90: 4}  # and any tail
 CHANGES = {0x01: 0, 0x02: 1, 0x20: 2, 0x52: 3, 0xD8: 3, 0x60: 4, 0xC7: 4}  # what starts an operation, and the place of its time
 PLACED = (0x02, 0x20, 0x52, 0xD8)  # operations with an address
+ERASES = (0x20, 0x52, 0xD8, 0x60, 0xC7)
 NO_COMMAND, NO_ADDRESS = 0xFF, 0xFFFFFF  # of an idle chip; the chip's erase has no address either
 COMMANDS = (0x06, 0x04, 0x05, 0x01, 0x03, 0x0B, 0x20, 0x52, 0xD8, 0x60, 0xC7, 0x02, 0x9F, 0xAB, 0x90, 0xB9)
 UNKNOWN = (0x00, 0x07, 0x3B, 0x5A, 0xFF)
 
 
 class Chip:
-    def __init__(self, model, blocks):
+    def __init__(self, model, blocks, sectors=None):
         self.model = model
+        self.wear = [0] * (16 * blocks if sectors is None else sectors)
         self.times = TIMES.get(model, TIMES[1])
         self.settles = SETTLES.get(model, SETTLES[1])
         self.cells = bytearray(b"\xff" * (BLOCK * blocks))
@@ -114,7 +118,19 @@ class Chip:
             return n >= 5 and tail == 0
         return n >= 5 or (n == 1 and tail == 0)  # AB
 
+    def covered(self, sent):
+        """The sectors that an erase covers."""
+        if sent[0] in (0x60, 0xC7):
+            return range(len(self.wear))
+        size = SECTOR if sent[0] == 0x20 else BLOCK
+        first = self.addressed(sent) // size * size // SECTOR
+        return range(first, first + size // SECTOR)
+
     def refusal(self, sent, tail, wp, room):
+        if self.bad() in (1, 2):
+            return self.bad()
+        if len(self.wear) != SECTORS[self.model]:
+            return 24
         if self.bad():
             return self.bad()
         if len(sent) > 65541 or tail > 7:
@@ -142,6 +158,8 @@ class Chip:
             return 17
         if command in PLACED and self.addressed(sent) // BLOCK in PROTECTED[self.model][self.bp]:
             return 17
+        if command in ERASES and any(self.wear[sector] == TOP for sector in self.covered(sent)):
+            return 25
         return 0
 
     def addressed(self, sent):
@@ -186,6 +204,9 @@ class Chip:
         self.command, self.busy = sent[0], self.times[CHANGES[sent[0]]]
         if self.command in PLACED:
             self.address = self.addressed(sent)
+        if self.command in ERASES:
+            for sector in self.covered(sent):
+                self.wear[sector] += 1
         if self.command == 0x01:
             self.address, self.page[0] = 1, sent[1]
         if self.command == 0x02:
@@ -204,11 +225,11 @@ class Cases:
         assert len(hexed) % 2 == 0 and len(hexed) <= 32
         self.lines.append("%s\t%s" % (letter, hexed.upper()))
 
-    def fresh(self, model, blocks=None):
+    def fresh(self, model, blocks=None, sectors=None):
         self.model = model
         blocks = BLOCKS[model] if blocks is None else blocks
-        self.say("M", "%02x%02x" % (model, blocks))
-        self.chip, self.at = Chip(model, blocks), 0
+        self.say("M", "%02x%02x%s" % (model, blocks, "" if sectors is None else "%02x" % sectors))
+        self.chip, self.at = Chip(model, blocks, sectors), 0
 
     def state(self, srwd=0, bp=0, wel=0, asleep=0, busy=0, settle=0, command=NO_COMMAND, address=NO_ADDRESS):
         c = self.chip
@@ -234,6 +255,10 @@ class Cases:
         self.chip.cells[at:at + 8] = eight
         self.say("C", "%06x%s" % (at, eight.hex()))
 
+    def count(self, sector, count):
+        self.chip.wear[sector] = count
+        self.say("T", "%06x%08x" % (sector, count))
+
     def look(self, at):
         self.at = at
         self.say("L", "%06x" % at)
@@ -251,9 +276,12 @@ class Cases:
         c.folded = False
         n = len(c.cells)
         eight = bytes(c.cells[(self.at + i) % n] for i in range(8)) if n else b""
+        sector = self.at % n // SECTOR if n else len(c.wear)
+        count = c.wear[sector] if sector < len(c.wear) else "-"
+        total = sum(c.wear) if len(c.wear) in (16, 64, 4096) else "-"
         self.lines.append("%s|%s" % (line, note))
-        self.rows.append("%s|%s|%d\t%s\t%02X\t%d\t%d\t%d\t%02X\t%06X\t%s" % (
-            line, note, answer, fields, c.status(), c.asleep, c.busy, c.settle, c.command, c.address, eight.hex().upper()))
+        self.rows.append("%s|%s|%d\t%s\t%02X\t%d\t%d\t%d\t%02X\t%06X\t%s\t%s\t%s" % (
+            line, note, answer, fields, c.status(), c.asleep, c.busy, c.settle, c.command, c.address, eight.hex().upper(), count, total))
 
     def frame(self, sent, tail=0, wp=1):
         assert len(sent) <= 300
@@ -534,6 +562,47 @@ def wrong_setups(b):
         b.power()
 
 
+def tables(b, model):
+    """Tables of another length, also where an earlier or a later refusal applies; calls that take no table."""
+    for blocks, sectors in ((None, 0), (None, SECTORS[model] - 1), (None, SECTORS[model] + 1), (None, 80 - SECTORS[model]), (3, SECTORS[model]), (3, 1)):
+        b.fresh(model, blocks, sectors)
+        for sent in (b"\x05\0", b"\x20\0\0\0", b""):
+            b.frame(sent)
+        b.state(bp=4)
+        b.frame(b"\x05\0")
+        b.wait(0)
+    b.fresh(3, 1, 15)
+    b.frame(b"\x05\0")
+    b.fresh(model, None, 1)
+    b.running(0x20, 1)
+    b.frame(b"\x05\0")
+    b.power()
+    b.wait(1)
+    b.power()
+
+
+def counts(b):
+    """A count at its top, and one below it: its sector, its neighbours, its block and the chip."""
+    last = SECTORS[b.model] - 1
+    for sector in (0, 1, last):
+        for command in ERASES:
+            for address in sorted({0x000FFF, 0x001000, 0x001FFF, 0x002000, last * SECTOR, last * SECTOR - 1}) if command in PLACED else (None,):
+                sent = bytes([command]) + (b"" if address is None else address.to_bytes(3, "big"))
+                b.count(sector, TOP - 1)
+                b.look(sector * SECTOR)
+                for _ in range(2):
+                    b.state(wel=1)
+                    b.frame(sent)
+        b.count(sector, 7)
+    b.count(1, TOP)
+    for sent in (b"\x02\x00\x10\x00\x55", b"\x20\x00\x10\x00", b"\xC7"):
+        for extra in (dict(), dict(bp=3), dict(wel=0), dict(asleep=1), dict(settle=1)):
+            b.state(**dict(dict(wel=1), **extra))
+            b.frame(sent)
+    b.state(wel=1)
+    b.frame(b"\x20\x00\x10\x00", tail=1)
+
+
 def history(b, rng, steps):
     """A long run from power-on, with frames near each other, so that they meet."""
     for _ in range(steps):
@@ -577,6 +646,9 @@ def main():
         b.fresh(model)
         valid_states(b)
         remembered(b)
+        tables(b, model)
+        b.fresh(model)
+        counts(b)
         b.fresh(model)
         history(b, random.Random(model), 500)
     wrong_setups(b)
@@ -588,11 +660,11 @@ def main():
             assert b.seen[model, command] >= 12, (model, command)
         assert sum(b.seen[model, u] for u in UNKNOWN) >= 12
     text = "\n".join(b.lines) + "\n"
-    assert len(text) < 262144, len(text)
+    assert len(text) < 262144, len(text)  # as much as the program reads
     with open("crates/frames/stdin", "w", newline="") as f:
         f.write(text)
     with open("crates/frames/stdout", "w", newline="") as f:
-        f.write("step|model, status before|answer\tfrom\tcount\tbytes\tnote\tstatus\tasleep\tbusy\tsettle\tcommand\taddress\tcells\n")
+        f.write("step|model, status before|answer\tfrom\tcount\tbytes\tnote\tstatus\tasleep\tbusy\tsettle\tcommand\taddress\tcells\tcount\ttotal\n")
         f.write("\n".join(b.rows) + "\n")
 
 

@@ -1,12 +1,15 @@
 #!/usr/bin/env bash
-# Every script of this folder goes through the runner, and its log has to be the one stored beside it. Then what no stored
-# log can show: empty input, lines that are typed, a line of 100 MB, an output that fails, an input that fails.
+# Every script of this folder goes through the runner, and its log has to be the one stored beside it; one with a sheet goes through the
+# program wear too. Then what no stored log or sheet can show: empty input, lines that are typed, a line of 100 MB, an output that fails, an
+# input that fails; and the words that wear is started with.
 #   scripts/test.sh
-# GWO_RUNNER is the runner (target/bin/runner): a program, or a command that starts it, as seen from the project's folder.
+# GWO_RUNNER is the runner (target/bin/runner), GWO_WEAR the other program (target/bin/wear): a program, or a command that starts it, as seen
+# from the project's folder.
 set -u
 cd "$(dirname "$0")/.." || exit
 
 runner=${GWO_RUNNER:-target/bin/runner} # never quoted: it may be several words
+wear=${GWO_WEAR:-target/bin/wear}       # nor this
 header=$'line\tanswer\tfrom\tbytes\tnote'
 patience=30       # seconds for what has to come by itself
 most_memory=65536 # kB, an emulator's own memory included; the long line has more
@@ -136,6 +139,50 @@ failing_input() {
     ended $? && echo "$header" | diff -a - "$work/log" && named input
 }
 
+# same_sheet SCRIPT SHEET: nothing goes to standard error.
+same_sheet() {
+    timeout "$patience" $wear <"$1" >"$work/sheet" 2>"$work/error" || { echo "wear ended with status $?"; return 1; }
+    diff -a "$2" "$work/sheet" && diff -a /dev/null "$work/error"
+}
+
+# No line is played, so that no sector is worn; the last line counts without its newline too.
+unworn() {
+    same_sheet /dev/null <(sed 's/^\( *[0-9]* *\)[1-9][0-9]*  #*$/\10/; s/^total.*/total 0/; s/^largest.*/largest 0, first in sector 0/; s/^mean.*/mean 0 and 0\/16/' scripts/wear.sheet) &&
+        same_sheet <(head -c -1 scripts/wear.txt) scripts/wear.sheet
+}
+
+sheet_full_output() {
+    timeout "$patience" $wear <scripts/wear.txt >/dev/full 2>"$work/error"
+    ended $? && named output
+}
+
+# Of a script that cannot be read there is no sheet.
+sheet_failing_input() {
+    timeout "$patience" $wear <. >"$work/sheet" 2>"$work/error"
+    ended $? && diff -a /dev/null "$work/sheet" && named input
+}
+
+# --help alone shows the use on standard output, and no sheet.
+sheet_help() {
+    timeout "$patience" $wear --help <scripts/wear.txt >"$work/sheet" 2>"$work/error" &&
+        head -n 1 "$work/sheet" | grep -qx 'usage: wear <SCRIPT >SHEET' && ! grep -q '^total' "$work/sheet" && diff -a /dev/null "$work/error"
+}
+
+# sheet_refused WORD..: it shows its use on standard error and runs nothing.
+sheet_refused() {
+    timeout "$patience" $wear "$@" <scripts/wear.txt >"$work/sheet" 2>"$work/error" &&
+        diff -a /dev/null "$work/sheet" && grep -qx 'wear: it knows no word but --help' "$work/error" && grep -q '^usage: wear' "$work/error" ||
+        { echo "started with ${1:0:40} it does not show its use"; return 1; }
+}
+
+sheet_words() {
+    local word
+    for word in x -h --hel --helpp --HELP '' "$(printf '%05000d' 0)"; do
+        sheet_refused "$word" || return 1
+    done
+    sheet_help && sheet_refused --help x && sheet_refused x --help
+}
+
 no_script() {
     echo "there is no script to $1"
     return 1
@@ -147,6 +194,9 @@ done
 for log in scripts/*.log; do
     [ -f "${log%.log}.txt" ] || check "$(basename "$log" .log)" no_script "$log"
 done
+for sheet in scripts/*.sheet; do
+    check "sheet of $(basename "$sheet" .sheet)" same_sheet "${sheet%.sheet}.txt" "$sheet"
+done
 check 'empty input' empty_input
 check 'typed lines' typed_lines
 check 'line of 100 MB' long_line
@@ -154,5 +204,9 @@ check 'closed output' closed_output
 check 'closed output, no signal' closed_output_unsignalled
 check 'full output' full_output
 check 'failing input' failing_input
+check 'sheet of no line, and of a last line without its newline' unworn
+check 'sheet, full output' sheet_full_output
+check 'sheet, failing input' sheet_failing_input
+check 'sheet, words' sheet_words
 echo "$passed passed, $failed failed"
 [ "$failed" -eq 0 ]

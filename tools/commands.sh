@@ -1,7 +1,7 @@
 #!/usr/bin/env bash
 # The Makefile's commands: what they say, and their exit status.
 #   tools/commands.sh
-# target/bin/runner and the archive are built; a stand-in for rt says what rt would, so that nothing is proved here.
+# target/bin/runner, target/bin/wear and the archive are built; a stand-in for rt says what rt would, so that nothing is proved here.
 set -u
 cd "$(dirname "$0")/.." || exit
 unset MAKEFLAGS MFLAGS MAKELEVEL SCRIPT LOG
@@ -127,6 +127,11 @@ same() {
     ends 0 '' tools/compare.sh scripts/fold.txt scripts/fold.log
 }
 
+sheet() {
+    gives scripts/wear.sheet make wear SCRIPT=scripts/wear.txt &&
+        gives scripts/wear.sheet make wear SCRIPT=<(cat scripts/wear.txt)
+}
+
 explains() {
     gives host/explain/samples/windows.want make explain SCRIPT=host/explain/samples/windows.txt
 }
@@ -145,6 +150,9 @@ check 'compare: different' differs
 check 'compare: no such log' ends 2 'make compare: there is no file none' tools/compare.sh scripts/fold.txt none
 check 'explain: a folder' ends 2 'make explain: scripts is a folder' make explain SCRIPT=scripts
 check 'explain' explains
+check 'wear: no file is named' ends 2 'make wear: which file? SCRIPT=FILE is missing' make wear
+check 'wear: a folder' ends 2 'make wear: scripts is a folder, not a file' make wear SCRIPT=scripts
+check 'wear' sheet
 check 'example' gives host/example/output.txt make example
 check 'run: what is proved is said' progress
 check 'run: it is said at once' at_once

@@ -1,13 +1,14 @@
 #!/usr/bin/env bash
 # Asks the toolchain for what a command runs; what is up to date is not proved again.
 #   tools/rattle.sh COMMAND runner     target/bin/runner
+#   tools/rattle.sh COMMAND wear       target/bin/wear
 #   tools/rattle.sh COMMAND archive    target/staticlib/libpod.a
 # COMMAND is who asks. Which crates are proved, and how many are left, goes to standard error as it comes.
 set -u
 cd "$(dirname "$0")/.." || exit 2
 command=$1
 case $2 in
-runner) crate=runner made=target/bin/runner ask="rt check runner" ;;
+runner | wear) crate=$2 made=target/bin/$2 ask="rt check $2" ;;
 archive) crate=pod made=target/staticlib/libpod.a ask="rt staticlib pod" ;;
 *) echo "tools/rattle.sh: there is nothing of the name $2" >&2; exit 2 ;;
 esac

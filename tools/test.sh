@@ -32,7 +32,8 @@ count rt ci
 proved=$SECONDS
 if rt staticlib pod; then
     GWO_RUNNER="$PWD/tools/host.sh program $PWD/target/bin/runner"
-    export GWO_RUNNER
+    GWO_WEAR="$PWD/tools/host.sh program $PWD/target/bin/wear"
+    export GWO_RUNNER GWO_WEAR
     count host/test.sh
     count scripts/test.sh
     count tools/commands.sh

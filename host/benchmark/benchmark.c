@@ -22,11 +22,12 @@ frame_call empty_frame;
 wait_call empty_wait;
 power_cycle_call empty_power_cycle;
 cut_call empty_cut;
+report_call empty_report;
 copy_call empty_copy;
 set_call empty_set;
 
 enum { OURS, MODEL, MEMORY, EMPTY, EMPTY_MEMORY };
-enum kind { FRAME, WAIT, POWER_CYCLE, CUT };
+enum kind { FRAME, WAIT, POWER_CYCLE, CUT, REPORT };
 enum memory { NONE, COPY, SET };
 
 /* SHORT rows have a limit of 300 instructions; FOLDED and AS_MODEL_2 are held against the row before. */
@@ -59,6 +60,12 @@ static const struct row rows[] = {
     {"9F, 64 KiB", 1, 0, 0, 0, FRAME, {0x9F}, 1 + READ_64K, 0, 1, 0, COPY, READ_64K, "-", 0},
     {"sector erase", 1, 2, 0, 0, FRAME, {0x20, 0, 0x12, 0x34}, 4, 0, 1, 0, NONE, 0, "-", SHORT},
     {"chip erase", 1, 2, 0, 0, FRAME, {0xC7}, 1, 0, 1, 0, NONE, 0, "-", SHORT},
+    {"block erase", 1, 2, 0, 0, FRAME, {0xD8, 0, 0x12, 0x34}, 4, 0, 1, 0, NONE, 0, "-", SHORT},
+    {"chip erase, model 2", 2, 2, 0, 0, FRAME, {0xC7}, 1, 0, 1, 0, NONE, 0, "-", 0},
+    {"chip erase, model 3", 3, 2, 0, 0, FRAME, {0xC7}, 1, 0, 1, 0, NONE, 0, "-", 0},
+    {"report, 16 sectors", 1, 0, 0, 0, REPORT, {0}, 0, 0, 0, 0, NONE, 0, "-", SHORT},
+    {"report, 64 sectors", 2, 0, 0, 0, REPORT, {0}, 0, 0, 0, 0, NONE, 0, "-", 0},
+    {"report, 4,096 sectors", 3, 0, 0, 0, REPORT, {0}, 0, 0, 0, 0, NONE, 0, "-", 0},
     {"program, 1 byte", 1, 2, 0, 0, FRAME, {0x02, 0, 0x12, 0x34}, 4 + 1, 0, 1, 0, NONE, 0, "-", SHORT},
     {"program, 256 bytes", 1, 2, 0, 0, FRAME, {0x02, 0, 0x12, 0x34}, 4 + 256, 0, 1, 0, COPY, 256, "-", 0},
     {"program, 65,537 bytes", 1, 2, 0, 0, FRAME, {0x02, 0, 0x12, 0x34}, 4 + 65537, 0, 1, 0, COPY, 256, "-", FOLDED},
@@ -78,6 +85,8 @@ static const struct row rows[] = {
     {"cut of a sector erase", 1, 3, 0, 5000, CUT, {0x20, 0, 0x12, 0x34}, 0, 0, 0, 0, COPY, 4096, "-", 0},
     {"cut of a chip erase, model 2", 2, 3, 0, 5000, CUT, {0x60, 0xFF, 0xFF, 0xFF}, 0, 0, 0, 0, COPY, 262144, "-", 0},
     {"refused 1, record", 4, 0, 0, 0, FRAME, {0x06}, 1, 0, 1, 1, NONE, 0, "-", SHORT},
+    {"refused 24, table", 1, 0, 0, 0, FRAME, {0x06}, 1, 0, 1, 24, NONE, 0, "-", SHORT},
+    {"refused 24, report", 1, 0, 0, 0, REPORT, {0}, 0, 0, 0, 24, NONE, 0, "-", SHORT},
     {"refused 3, state", 1, 0x10, 0, 0, FRAME, {0x06}, 1, 0, 1, 3, NONE, 0, "-", SHORT},
     {"refused 4, tail", 1, 0, 0, 0, FRAME, {0x06}, 1, 8, 1, 4, NONE, 0, "-", SHORT},
     {"refused 10, empty", 1, 0, 0, 0, FRAME, {0}, 0, 0, 1, 10, NONE, 0, "-", SHORT},
@@ -91,6 +100,7 @@ static const struct row rows[] = {
     {"refused 15, WEL 0", 1, 0, 0, 0, FRAME, {0x02}, 4 + 256, 0, 1, 15, NONE, 0, "-", SHORT},
     {"refused 16, SRWD", 1, 0x82, 0, 0, FRAME, {0x01, 0}, 2, 0, 0, 16, NONE, 0, "-", SHORT},
     {"refused 17, protected", 1, 6, 0, 0, FRAME, {0x20, 0, 0, 0}, 4, 0, 1, 17, NONE, 0, "-", SHORT},
+    {"refused 25, count", 1, 2, 0, 0, FRAME, {0x20, 0, 0x12, 0x34}, 4, 0, 1, 25, NONE, 0, "-", SHORT},
     {"status, model 2", 2, 0, 0, 0, FRAME, {0x05}, 2, 0, 1, 0, NONE, 0, "-", SHORT},
     {"status, model 3", 3, 0, 0, 0, FRAME, {0x05}, 2, 0, 1, 0, NONE, 0, "-", SHORT | AS_MODEL_2},
     {"write enable, model 2", 2, 0, 0, 0, FRAME, {0x06}, 1, 0, 1, 0, NONE, 0, "-", SHORT},
@@ -100,6 +110,8 @@ static const struct row rows[] = {
     {"read, 16 bytes, model 2", 2, 0, 0, 0, FRAME, {0x03, 0, 0x12, 0x34}, 4 + 16, 0, 1, 0, COPY, 16, "-", SHORT},
     {"read, 16 bytes, model 3", 3, 0, 0, 0, FRAME, {0x03, 0, 0x12, 0x34}, 4 + 16, 0, 1, 0, COPY, 16, "-",
      SHORT | AS_MODEL_2},
+    {"sector erase, model 2", 2, 2, 0, 0, FRAME, {0x20, 0, 0x12, 0x34}, 4, 0, 1, 0, NONE, 0, "-", SHORT},
+    {"sector erase, model 3", 3, 2, 0, 0, FRAME, {0x20, 0, 0x12, 0x34}, 4, 0, 1, 0, NONE, 0, "-", SHORT | AS_MODEL_2},
     {"program, 256 bytes, model 2", 2, 2, 0, 0, FRAME, {0x02, 0, 0x12, 0x34}, 4 + 256, 0, 1, 0, COPY, 256, "-", 0},
     {"program, 256 bytes, model 3", 3, 2, 0, 0, FRAME, {0x02, 0, 0x12, 0x34}, 4 + 256, 0, 1, 0, COPY, 256, "-",
      AS_MODEL_2},
@@ -133,8 +145,11 @@ static uint8_t frame[65600] __attribute__((aligned(4096)));
 static uint8_t out[65600] __attribute__((aligned(4096)));
 static uint8_t state[GWO_STATE_LENGTH];
 static struct gwo_record record;
-static size_t array_len;
+static size_t array_len, wear_len;
+static uint32_t wear[GWO_MODEL_3_SECTORS] __attribute__((aligned(4096)));
 static uint32_t from, count, fold;
+static uint64_t total;
+static uint32_t smallest, largest, sector, mean, remainder;
 
 /* The operation that runs in a busy chip: the row's, of a frame's row a chip erase; data bytes of a program are 5A. */
 static void prepare_operation(const struct row *r)
@@ -149,6 +164,18 @@ static void prepare_operation(const struct row *r)
         state[16] = operation[4];
     if (operation[0] == 0x02)
         memset(state + 16, 0x5A, 256);
+}
+
+/* Counts that rise from sector to sector; a row that is answered 24 or 25 has one too few, or a full one. */
+static void prepare_wear(const struct row *r)
+{
+    uint32_t i;
+
+    wear_len = array_len / GWO_SECTOR_LENGTH - (r->answer == 24 ? 1 : 0);
+    for (i = 0; i < GWO_MODEL_3_SECTORS; i++)
+        wear[i] = i * 1000;
+    if (r->answer == 25)
+        wear[1] = GWO_WEAR_TOP;
 }
 
 /* A number that is no model has the first one's record and array. */
@@ -166,6 +193,7 @@ static void prepare(const struct row *r)
     left[0] = (uint8_t)r->left_us;
     left[1] = (uint8_t)(r->left_us >> 8);
     prepare_operation(r);
+    prepare_wear(r);
     for (i = 0; i < GWO_MODEL_2_LENGTH; i++) /* all that the rows read or write, but for model 3's chip erase */
         array[i] = (uint8_t)(i * 7);
     memset(frame, 0x5A, sizeof frame);
@@ -183,7 +211,7 @@ static STRETCH uint32_t count_frame(frame_call *f, const struct row *r, int stre
     MARK_START(stretch);
     answer = f(record.model, record.status_us, record.page_us, record.sector_us, record.block_us, record.chip_us,
                record.half_us, record.sleep_us, record.wake_us, record.sign_us, state, sizeof state, array, array_len,
-               frame, r->frame_len, r->tail, r->wp, out, r->frame_len, &from, &count, &fold);
+               wear, wear_len, frame, r->frame_len, r->tail, r->wp, out, r->frame_len, &from, &count, &fold);
     MARK_END(stretch, name);
     return answer;
 }
@@ -226,6 +254,17 @@ static STRETCH uint32_t count_cut(cut_call *f, const struct row *r, int stretch,
     return answer;
 }
 
+static STRETCH uint32_t count_report(report_call *f, int stretch, const char *name)
+{
+    uint32_t answer;
+
+    (void)stretch, (void)name;
+    MARK_START(stretch);
+    answer = f(wear, wear_len, &total, &smallest, &largest, &sector, &mean, &remainder);
+    MARK_END(stretch, name);
+    return answer;
+}
+
 static STRETCH void count_copy(copy_call *f, size_t n, int stretch, const char *name)
 {
     (void)stretch, (void)name;
@@ -248,12 +287,14 @@ static uint32_t call_once(const struct row *r, int who, int stretch, const char 
     static wait_call *const waits[] = {gwo_wait, ref_wait, NULL, empty_wait};
     static power_cycle_call *const power_cycles[] = {gwo_power_cycle, ref_power_cycle, NULL, empty_power_cycle};
     static cut_call *const cuts[] = {gwo_cut, ref_cut, NULL, empty_cut};
+    static report_call *const reports[] = {gwo_wear_report, ref_wear_report, NULL, empty_report};
 
     prepare(r);
     switch (r->kind) {
     case FRAME: return count_frame(frames[who], r, stretch, name);
     case WAIT: return count_wait(waits[who], stretch, name);
     case CUT: return count_cut(cuts[who], r, stretch, name);
+    case REPORT: return count_report(reports[who], stretch, name);
     default: return count_power_cycle(power_cycles[who], stretch, name);
     }
 }

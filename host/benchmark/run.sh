@@ -13,12 +13,12 @@ archive=${1:-${GWO_ARCHIVE:-$root/target/staticlib/libpod.a}}
 flags="-std=gnu99 -O2 -Wall -Wextra -I$root/host/include -I$root/host/model -I$here"
 mkdir -p "$build"
 
-"$host" cc $flags -c "$root/host/model/model.c" -o "$build/model.o"
+"$host" cc $flags -r -nostdlib "$root"/host/model/*.c -o "$build/model.o"
 "$host" cc $flags -c "$here/empty.c" -o "$build/empty.o"
 "$host" cc $flags -fno-builtin $("$host" count-flags) -c "$here/benchmark.c" -o "$build/benchmark.o"
 if [ "$archive" = model ]; then
     "$host" cc $flags -Dref_frame=gwo_frame -Dref_wait=gwo_wait -Dref_power_cycle=gwo_power_cycle \
-        -Dref_cut=gwo_cut -c "$root/host/model/model.c" -o "$build/stand_in.o"
+        -Dref_cut=gwo_cut -Dref_wear_report=gwo_wear_report -r -nostdlib "$root"/host/model/*.c -o "$build/stand_in.o"
     archive=$build/stand_in.o
 elif [ ! -f "$archive" ]; then
     echo "host/benchmark/run.sh: there is no archive at $archive" >&2

@@ -9,6 +9,7 @@ void flash_power_on(struct flash *f)
     f->record = gwo_bench_model_1;
     gwo_factory_state(f->state);
     memset(f->array, 0xFF, sizeof f->array);
+    memset(f->wear, 0, sizeof f->wear);
 }
 
 void stop_unless_done(uint32_t number)
@@ -33,8 +34,8 @@ uint32_t transfer(struct flash *f, const uint8_t *out, uint8_t *in, size_t n)
     uint32_t from, count, fold;
 
     memset(in, 0, n);
-    stop_unless_done(gwo_record_frame_fold(&f->record, f->state, sizeof f->state, f->array, sizeof f->array,
-                                           out, n, 0, 1, in, n, &from, &count, &fold));
+    stop_unless_done(gwo_record_frame_wear(&f->record, f->state, sizeof f->state, f->array, sizeof f->array,
+                                           f->wear, GWO_MODEL_1_SECTORS, out, n, 0, 1, in, n, &from, &count, &fold));
     return fold;
 }
 
@@ -65,6 +66,18 @@ void erase_sector(struct flash *f, uint32_t address)
     write_enable(f);
     transfer(f, frame, in, addressed(frame, 0x20, address));
     wait_until_ready(f);
+}
+
+void show_wear(const struct flash *f)
+{
+    uint64_t total;
+    uint32_t smallest, largest, sector, mean, remainder;
+
+    stop_unless_done(gwo_wear_report(f->wear, GWO_MODEL_1_SECTORS, &total, &smallest, &largest, &sector, &mean,
+                                     &remainder));
+    printf("  erases counted: %lu, from %lu to %lu a sector, the most in sector %lu; mean %lu, remainder %lu\n",
+           (unsigned long)total, (unsigned long)smallest, (unsigned long)largest, (unsigned long)sector,
+           (unsigned long)mean, (unsigned long)remainder);
 }
 
 void read_bytes(struct flash *f, uint32_t address, uint8_t *bytes, size_t n)

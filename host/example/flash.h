@@ -9,9 +9,10 @@ struct flash {
     struct gwo_record record;
     uint8_t state[GWO_STATE_LENGTH];
     uint8_t array[GWO_MODEL_1_LENGTH];
+    uint32_t wear[GWO_MODEL_1_SECTORS]; /* how often each sector was erased */
 };
 
-/* A chip from the factory. */
+/* A chip from the factory, no sector of it erased yet. */
 void flash_power_on(struct flash *f);
 
 /* Ends the program where the chip has refused a call. */
@@ -29,6 +30,9 @@ void write_enable(struct flash *f);
 void wait_until_ready(struct flash *f);
 
 void erase_sector(struct flash *f, uint32_t address);
+
+/* The wear sheet in a line. */
+void show_wear(const struct flash *f);
 
 /* Up to a page, from one address on. */
 void read_bytes(struct flash *f, uint32_t address, uint8_t *bytes, size_t n);

@@ -1,7 +1,8 @@
 /*
  * A controller keeps a table of records in a sector of its flash chip. It erases the sector to write the table anew,
  * and in the middle of the erase the board is pulled. The sector holds neither the old table nor FF then: every cell
- * has come part of the way. Its neighbours have lost nothing, and thirteen calls win the table back.
+ * has come part of the way. Its neighbours have lost nothing, and thirteen calls win the table back. The wear sheet has
+ * both erases: one is counted when the chip takes it, whether or not it comes to its end.
  */
 #include "flash.h"
 
@@ -105,10 +106,10 @@ static void say(const char *what, uint32_t answer)
 static void frame_is(const char *what, const uint8_t *frame, size_t n)
 {
     uint8_t in[4 + GWO_PAGE_LENGTH];
-    uint32_t from, count;
+    uint32_t from, count, fold;
 
-    say(what, gwo_record_frame(&flash.record, flash.state, sizeof flash.state, flash.array, sizeof flash.array,
-                               frame, n, 0, 1, in, n, &from, &count));
+    say(what, gwo_record_frame_wear(&flash.record, flash.state, sizeof flash.state, flash.array, sizeof flash.array,
+                                    flash.wear, GWO_MODEL_1_SECTORS, frame, n, 0, 1, in, n, &from, &count, &fold));
 }
 
 static void wait_is(uint32_t us)
@@ -149,9 +150,11 @@ int main(void)
            (unsigned long)flash.record.sector_us / 2);
     show_table();
     show_changed();
+    show_wear(&flash);
     printf("Thirteen calls win the table back.\n");
     thirteen_calls();
     show_table();
     show_changed();
+    show_wear(&flash);
     return 0;
 }

@@ -219,9 +219,9 @@ static uint32_t looks_too_far(const struct call *c)
 }
 
 const struct pod mistakes[MISTAKES] = {
-    {refuses_all, refuses_time, refuses_time, refuses_time}, {same_byte, NULL, NULL, NULL},
-    {NULL, waits_without_cells, NULL, cuts_without_cells},
-    {first_frame_only, first_wait_only, first_power_cycle_only, first_cut_only}, {NULL, next_page, NULL, NULL},
-    {keeps_first, NULL, NULL, NULL}, {NULL, stores, NULL, NULL},
-    {clears_early, waits_early, power_cycles_early, cuts_early}, {blocked_by_wp, NULL, NULL, NULL},
-    {reads_while_busy, NULL, NULL, NULL}, {looks_too_far, NULL, NULL, NULL}};
+    {.frame = refuses_all, .wait = refuses_time, .power_cycle = refuses_time, .cut = refuses_time},
+    {.frame = same_byte}, {.wait = waits_without_cells, .cut = cuts_without_cells},
+    {.frame = first_frame_only, .wait = first_wait_only, .power_cycle = first_power_cycle_only, .cut = first_cut_only},
+    {.wait = next_page}, {.frame = keeps_first}, {.wait = stores},
+    {.frame = clears_early, .wait = waits_early, .power_cycle = power_cycles_early, .cut = cuts_early},
+    {.frame = blocked_by_wp}, {.frame = reads_while_busy}, {.frame = looks_too_far}};

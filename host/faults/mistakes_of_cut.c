@@ -86,5 +86,5 @@ static uint32_t cuts_and_remembers(const struct call *c)
 }
 
 const struct pod mistakes_of_cut[MISTAKES_OF_CUT] = {
-    {NULL, NULL, NULL, touches_the_neighbour}, {changes_at_once, NULL, NULL, NULL}, {NULL, NULL, NULL, takes_every_bit},
-    {NULL, NULL, cycles_while_busy, NULL}, {NULL, waits_and_remembers, NULL, cuts_and_remembers}};
+    {.cut = touches_the_neighbour}, {.frame = changes_at_once}, {.cut = takes_every_bit},
+    {.power_cycle = cycles_while_busy}, {.wait = waits_and_remembers, .cut = cuts_and_remembers}};

@@ -71,5 +71,5 @@ static uint32_t copies_the_page(const struct call *c)
 }
 
 const struct pod mistakes_of_fold[MISTAKES_OF_FOLD] = {
-    {never_says_it, NULL, NULL, NULL}, {says_it_of_a_page, NULL, NULL, NULL}, {says_it_when_refused, NULL, NULL, NULL},
-    {says_it_of_a_read, NULL, NULL, NULL}, {copies_the_page, NULL, NULL, NULL}};
+    {.frame = never_says_it}, {.frame = says_it_of_a_page}, {.frame = says_it_when_refused},
+    {.frame = says_it_of_a_read}, {.frame = copies_the_page}};

@@ -128,6 +128,5 @@ static uint32_t strays(const struct call *c)
 }
 
 const struct pod mistakes_of_model_3[MISTAKES_OF_MODEL_3] = {
-    {NULL, writes_tb, NULL, NULL}, {NULL, NULL, power_clears_tb, NULL}, {keeps_latch, NULL, NULL, NULL},
-    {clears_latch, NULL, NULL, NULL}, {NULL, erases_a_block, NULL, NULL}, {small_area, NULL, NULL, NULL},
-    {large_area, NULL, NULL, NULL}, {always_top, NULL, NULL, NULL}, {NULL, strays, NULL, NULL}};
+    {.wait = writes_tb}, {.power_cycle = power_clears_tb}, {.frame = keeps_latch}, {.frame = clears_latch},
+    {.wait = erases_a_block}, {.frame = small_area}, {.frame = large_area}, {.frame = always_top}, {.wait = strays}};

@@ -80,5 +80,5 @@ static uint32_t one_time_for_both(const struct call *c)
 }
 
 const struct pod mistakes_of_sleep[MISTAKES_OF_SLEEP] = {
-    {never_says_22, NULL, NULL, NULL}, {refuses_no_command, NULL, NULL, NULL}, {shows_its_status, NULL, NULL, NULL},
-    {settles_awake, NULL, NULL, NULL}, {one_time_for_both, NULL, NULL, NULL}};
+    {.frame = never_says_22}, {.frame = refuses_no_command}, {.frame = shows_its_status}, {.frame = settles_awake},
+    {.frame = one_time_for_both}};

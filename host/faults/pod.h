@@ -4,13 +4,15 @@
 
 #include "gwo.h"
 
-/* The arguments of gwo_frame, gwo_wait, gwo_power_cycle or gwo_cut. */
+/* The arguments of gwo_frame, gwo_wait, gwo_power_cycle, gwo_cut or gwo_wear_report. */
 struct call {
     struct gwo_record record;
     uint8_t *state;
     size_t state_len;
     uint8_t *array; /* a frame may not write to it */
     size_t array_len;
+    uint32_t *wear; /* a report may not write to it */
+    size_t wear_len;
     const uint8_t *frame;
     size_t frame_len;
     uint32_t tail, wp;
@@ -20,22 +22,29 @@ struct call {
     uint32_t us;
     const uint8_t *pattern;
     size_t pattern_len;
+    uint64_t *total;
+    uint32_t *smallest, *largest, *sector, *mean, *remainder;
 };
 
 typedef uint32_t answers(const struct call *c);
 
 /* A pod answers its calls so; where it has no function it is right. */
 struct pod {
-    answers *frame, *wait, *power_cycle, *cut;
+    answers *frame, *wait, *power_cycle, *cut, *report;
 };
 
-/* 1 to 11; those of model 3, from 12 on; of the fold, from 21 on; of sleep, from 26 on; and of a cut, from 31 on. */
-enum { MISTAKES = 11, MISTAKES_OF_MODEL_3 = 9, MISTAKES_OF_FOLD = 5, MISTAKES_OF_SLEEP = 5, MISTAKES_OF_CUT = 5 };
+/*
+ * 1 to 11; those of model 3, from 12 on; of the fold, from 21 on; of sleep, from 26 on; of a cut, from 31 on; and of
+ * wear, from 36 on.
+ */
+enum { MISTAKES = 11, MISTAKES_OF_MODEL_3 = 9, MISTAKES_OF_FOLD = 5, MISTAKES_OF_SLEEP = 5, MISTAKES_OF_CUT = 5,
+       MISTAKES_OF_WEAR = 11 };
 extern const struct pod mistakes[MISTAKES], mistakes_of_model_3[MISTAKES_OF_MODEL_3],
-    mistakes_of_fold[MISTAKES_OF_FOLD], mistakes_of_sleep[MISTAKES_OF_SLEEP], mistakes_of_cut[MISTAKES_OF_CUT];
+    mistakes_of_fold[MISTAKES_OF_FOLD], mistakes_of_sleep[MISTAKES_OF_SLEEP], mistakes_of_cut[MISTAKES_OF_CUT],
+    mistakes_of_wear[MISTAKES_OF_WEAR];
 
 /* Without a fault. */
-answers right_frame, right_wait, right_power_cycle, right_cut;
+answers right_frame, right_wait, right_power_cycle, right_cut, right_report;
 
 /* The address in a frame of 4 bytes or more, modulo the array. */
 uint32_t address_in(const struct call *c);

@@ -31,8 +31,8 @@ for program in firmware unplugged; do
     "$host" cc "$obj/$program.o" "$obj"/flash.o $pod -o "$out/$program"
 done
 
-# The bytes of stack that the four calls take without a fault: the limits for the faulty ones.
-own=$(GWO_FAULT=0 "$host" run "$out/stack" 65536 65536 65536 65536 | awk '/^  gwo_/ { print $2 }')
+# The bytes of stack that the five calls take without a fault: the limits for the faulty ones.
+own=$(GWO_FAULT=0 "$host" run "$out/stack" 65536 65536 65536 65536 65536 | awk '/^  gwo_/ { print $2 }')
 
 # passes FAULT TEST: runs one of the five, or a group of rules, with that fault; its words go to $out/log.
 passes() {
@@ -123,5 +123,16 @@ fault 32 "cells change when the frame is taken" rules:operations rules:erasing r
 fault 33 "a cut takes the pattern for bits that were not to change" rules:cuts compare
 fault 34 "a power cycle is taken while busy" "rules:time and power" "rules:refused in order" rules:operations compare
 fault 35 "an operation that has ended is not forgotten" rules:operations rules:cuts "rules:bench sheet" compare thirteen example
+fault 36 "sectors are counted when the erase comes to its end" "rules:wear counts" rules:erasing compare thirteen example
+fault 37 "a chip erase counts one sector" "rules:wear counts" "rules:wear reports" rules:erasing compare
+fault 38 "25 comes before 17" "rules:wear counts" "rules:refused in order" compare
+fault 39 "24 comes after 3" "rules:wear counts" "rules:refused in order" compare
+fault 40 "only the first sector of a unit can be full" "rules:wear counts" compare
+fault 41 "a full count beside the unit refuses the erase" "rules:wear counts" compare thirteen
+fault 42 "an erase that protection refuses is counted" "rules:protected areas" "rules:refused in order" compare
+fault 43 "25 clears WEL on model 3" "rules:wear counts" "rules:refused in order" compare thirteen
+fault 44 "the report has the last sector with the largest count" "rules:wear reports" compare
+fault 45 "the total of a report has 32 bits" "rules:wear reports" compare
+fault 46 "a refused report writes its results" "rules:wear reports" compare
 echo "$passed passed, $failed failed"
 [ $failed -eq 0 ]

@@ -3,23 +3,29 @@
  *
  * The archive libpod.a answers frames as the Macronix KH25L512 (model 1), KH25L2006E
  * (model 2) and KH25L12845G (model 3) do. It keeps no memory of its own: the caller
- * lends the chip's state (272 packed bytes) and its array, and each call alters them there.
- * Every call is answered by a number (enum gwo_number), for any argument at all.
+ * lends the chip's state (272 packed bytes), its array and its wear table, and each call alters
+ * them there. Every call is answered by a number (enum gwo_number), for any argument at all.
  *
  * A status write, program or erase takes time. The frame only starts it: the chip is busy, and the
  * state remembers what it is doing. Cells and register bits change when the time has run out, in the
  * wait that brings it to 0 and in the array that is lent to that wait; until then 05 and 15 show the
  * old bits. When the power is cut before that, the operation is left unfinished (gwo_cut).
  *
+ * The wear table has a count for each sector: how often it was erased. Frames are lent it; waits, power
+ * cycles and cuts are not. A frame that starts an erase adds one to the count of each sector that the
+ * erase covers, at once, whether the erase then comes to its end or is cut. On a chip from the factory all
+ * counts are 0. gwo_wear_report sums a table up.
+ *
  * The caller's duties are those of C, and no others:
- *  - each pointer points to as many bytes as its length says, and may be null
- *    where the length is 0;
- *  - from, count and fold each point to a number of their own;
+ *  - each pointer points to as many bytes as its length says, that to a wear table to as many
+ *    32-bit numbers, and may be null where the length is 0;
+ *  - the pointers to results (from, count and fold, and the six of a report) each point to a number
+ *    of their own;
  *  - no two of the lent buffers overlap: the output is not the frame.
  *
- * A refused call changes nothing but *from, *count and *fold, which become 0. The one exception
- * is the KH25L12845G's own: on model 3 a program or erase that protection refuses (17) clears
- * the write enable latch in the state, and 06 has to come again.
+ * A refused frame changes nothing but *from, *count and *fold, which become 0, and any other refused
+ * call changes nothing. The one exception is the KH25L12845G's own: on model 3 a program or erase that
+ * protection refuses (17) clears the write enable latch in the state, and 06 has to come again.
  *
  * The 272 bytes of a state: the status register; 1 in deep power-down, else 0; the configuration
  * register, 0 on models 1 and 2; 0; the microseconds that the chip is still busy, in four bytes,
@@ -53,12 +59,20 @@ extern "C" {
 #define GWO_MODEL_2_LENGTH 262144u   /* the array of the KH25L2006E */
 #define GWO_MODEL_3_LENGTH 16777216u /* the array of the KH25L12845G */
 
+/* Sectors: so many counts has the wear table. */
+#define GWO_MODEL_1_SECTORS 16u
+#define GWO_MODEL_2_SECTORS 64u
+#define GWO_MODEL_3_SECTORS 4096u
+
+#define GWO_WEAR_TOP 4294967295u /* the highest count */
+
 /* What a call is answered. Of several that apply, the first in this order is given. */
 enum gwo_number {
     GWO_DONE = 0,           /* taken: a status write, program or erase is started, all else is done */
     GWO_BAD_RECORD = 1,     /* the model isn't 1, 2 or 3, or a time isn't 1 to 1,000,000,000 us;
                                half_us must be 0 on models 1 and 2, and 1 to 1,000,000,000 on model 3 */
     GWO_BAD_ARRAY = 2,      /* the array's length isn't the model's */
+    GWO_BAD_WEAR = 24,      /* the wear table's length isn't the model's number of sectors; of a report: no model's */
     GWO_BAD_STATE = 3,      /* the 272 bytes are not the packing of a valid state */
     GWO_BAD_FRAME = 4,      /* over 65,541 bytes, or over 7 tail bits */
     GWO_SHORT_OUTPUT = 5,   /* the output buffer is shorter than the frame */
@@ -72,6 +86,7 @@ enum gwo_number {
     GWO_STATUS_LOCKED = 16, /* status write with SRWD 1 and WP# low */
     GWO_PROTECTED = 17,     /* the addressed unit is protected by BP (on model 3 by BP and TB);
                                on model 3 the write enable latch clears, and nothing else changes */
+    GWO_WEAR_FULL = 25,     /* an erase, and the count of a sector that it covers is 4,294,967,295 */
     GWO_BAD_PATTERN = 23,   /* a cut whose pattern isn't as long as what the running operation changes */
     GWO_BAD_LINE = 20       /* a script line that is not well formed (the runner only) */
 };
@@ -83,6 +98,7 @@ static inline const char *gwo_text(uint32_t number)
     case GWO_DONE: return "done";
     case GWO_BAD_RECORD: return "record: model or a time out of range";
     case GWO_BAD_ARRAY: return "array length is not the model's";
+    case GWO_BAD_WEAR: return "wear table's length is not the number of sectors";
     case GWO_BAD_STATE: return "state not valid";
     case GWO_BAD_FRAME: return "frame over 65,541 bytes, or tail over 7 bits";
     case GWO_SHORT_OUTPUT: return "output buffer shorter than the frame";
@@ -95,6 +111,7 @@ static inline const char *gwo_text(uint32_t number)
     case GWO_NOT_ENABLED: return "write enable latch not set";
     case GWO_STATUS_LOCKED: return "status register locked by SRWD and WP#";
     case GWO_PROTECTED: return "unit protected";
+    case GWO_WEAR_FULL: return "erase count at its highest";
     case GWO_BAD_PATTERN: return "pattern length is not that of the running operation";
     case GWO_BAD_LINE: return "script line not well formed";
     default: return "no number of this model";
@@ -120,11 +137,17 @@ static inline void gwo_factory_state(uint8_t *state)
  * *fold is 1 when a page program was taken that ran past the end of its page, so that it went on
  * at the start of the same page: the low address byte and the number of data bytes add up to
  * more than 256. It is 0 for every other frame.
+ *
+ * wear has wear_len counts, one for each sector: 16, 64 or 4,096. Where the frame starts an erase each sector that
+ * it covers is counted: 1 by 20; 16 by D8, and by 52 on models 1 and 2; 8 by 52 on model 3; all by 60 and C7. An
+ * erase is refused (25), and nothing is counted, when one of these counts could not rise. No other frame looks at
+ * the counts.
  */
 uint32_t gwo_frame(uint32_t model, uint32_t status_us, uint32_t page_us, uint32_t sector_us,
                    uint32_t block_us, uint32_t chip_us, uint32_t half_us,
                    uint32_t sleep_us, uint32_t wake_us, uint32_t sign_us,
                    uint8_t *state, size_t state_len, const uint8_t *array, size_t array_len,
+                   uint32_t *wear, size_t wear_len,
                    const uint8_t *frame, size_t frame_len, uint32_t tail, uint32_t wp,
                    uint8_t *out, size_t out_len, uint32_t *from, uint32_t *count, uint32_t *fold);
 
@@ -165,6 +188,14 @@ uint32_t gwo_cut(uint32_t model, uint32_t status_us, uint32_t page_us, uint32_t 
                  uint32_t sleep_us, uint32_t wake_us, uint32_t sign_us,
                  uint8_t *state, size_t state_len, uint8_t *array, size_t array_len,
                  const uint8_t *pattern, size_t pattern_len);
+
+/*
+ * What a wear table comes to: *total is the sum of its counts, *smallest and *largest are two of them, and *sector
+ * is the first sector that has the largest; *mean is the whole part of total / wear_len, and *remainder what is
+ * left. The table is only read. Only 24 can refuse it, and then none of the six is written.
+ */
+uint32_t gwo_wear_report(const uint32_t *wear, size_t wear_len, uint64_t *total, uint32_t *smallest,
+                         uint32_t *largest, uint32_t *sector, uint32_t *mean, uint32_t *remainder);
 
 /*
  * The chip record under one name. Firmware that fills it from a named bench record, or by field
@@ -211,6 +242,12 @@ static inline size_t gwo_array_length(uint32_t model)
     }
 }
 
+/* The number of sectors that a model has, as many counts as its wear table; 0 for a number that is no model. */
+static inline size_t gwo_sector_count(uint32_t model)
+{
+    return gwo_array_length(model) / GWO_SECTOR_LENGTH;
+}
+
 /* The record that the functions below pass: a sleep_us, wake_us or sign_us of 0 is the model's bench value. */
 static inline struct gwo_record gwo_record_filled(const struct gwo_record *r)
 {
@@ -228,8 +265,9 @@ static inline struct gwo_record gwo_record_filled(const struct gwo_record *r)
 }
 
 /* gwo_frame under a record. */
-static inline uint32_t gwo_record_frame_fold(const struct gwo_record *r, uint8_t *state, size_t state_len,
+static inline uint32_t gwo_record_frame_wear(const struct gwo_record *r, uint8_t *state, size_t state_len,
                                              const uint8_t *array, size_t array_len,
+                                             uint32_t *wear, size_t wear_len,
                                              const uint8_t *frame, size_t frame_len,
                                              uint32_t tail, uint32_t wp,
                                              uint8_t *out, size_t out_len,
@@ -239,11 +277,38 @@ static inline uint32_t gwo_record_frame_fold(const struct gwo_record *r, uint8_t
 
     return gwo_frame(f.model, f.status_us, f.page_us, f.sector_us, f.block_us, f.chip_us, f.half_us,
                      f.sleep_us, f.wake_us, f.sign_us,
-                     state, state_len, array, array_len, frame, frame_len, tail, wp,
+                     state, state_len, array, array_len, wear, wear_len, frame, frame_len, tail, wp,
                      out, out_len, from, count, fold);
 }
 
-/* The same for firmware that does not ask for the fold. */
+/*
+ * The same for firmware that keeps no wear sheet: its erases are counted in a table that nobody reads, and that is
+ * cleared when a count in it is full, so that 24 and 25 are never answered. The table takes 16 KiB in each source file
+ * that calls this or gwo_record_frame. All chips share it: of several threads each lends a table of its own, to the
+ * function above.
+ */
+static inline uint32_t gwo_record_frame_fold(const struct gwo_record *r, uint8_t *state, size_t state_len,
+                                             const uint8_t *array, size_t array_len,
+                                             const uint8_t *frame, size_t frame_len,
+                                             uint32_t tail, uint32_t wp,
+                                             uint8_t *out, size_t out_len,
+                                             uint32_t *from, uint32_t *count, uint32_t *fold)
+{
+    static uint32_t unread[GWO_MODEL_3_SECTORS];
+    const size_t sectors = gwo_sector_count(r->model);
+    uint32_t number = gwo_record_frame_wear(r, state, state_len, array, array_len, unread, sectors, frame, frame_len,
+                                            tail, wp, out, out_len, from, count, fold);
+    size_t i;
+
+    if (number != GWO_WEAR_FULL)
+        return number;
+    for (i = 0u; i < sectors; i++)
+        unread[i] = 0u;
+    return gwo_record_frame_wear(r, state, state_len, array, array_len, unread, sectors, frame, frame_len, tail, wp,
+                                 out, out_len, from, count, fold);
+}
+
+/* The same for firmware that does not ask for the fold either. */
 static inline uint32_t gwo_record_frame(const struct gwo_record *r, uint8_t *state, size_t state_len,
                                         const uint8_t *array, size_t array_len,
                                         const uint8_t *frame, size_t frame_len,

@@ -272,12 +272,16 @@ static bool taken_while_busy(const struct chip *chip, uint8_t command)
     return command == READ_STATUS || (command == READ_CONFIG && chip->large);
 }
 
-/* 01, Numbers returned, from 10 on. */
+/* 01, Numbers returned, from 4 to 17. */
 static uint32_t frame_refusal(const struct chip *chip, const struct state *s, const uint8_t *frame,
-                              size_t len, uint32_t tail, uint32_t wp)
+                              size_t len, uint32_t tail, uint32_t wp, size_t out_len)
 {
     uint32_t number;
 
+    if (len > FRAME_LIMIT || tail > 7)
+        return 4;
+    if (out_len < len)
+        return 5;
     if (len == 0)
         return 10;
     if (s->settling_us > 0)
@@ -290,6 +294,40 @@ static uint32_t frame_refusal(const struct chip *chip, const struct state *s, co
     if (number != 0)
         return number;
     return write_refusal(chip, s, frame, wp);
+}
+
+/* The sectors that an erase covers; no other command covers any. */
+struct sectors {
+    uint32_t first, n;
+};
+
+static struct sectors covered_by(const struct chip *chip, const uint8_t *frame)
+{
+    struct sectors s = {0, 0};
+
+    switch (frame[0]) {
+    case SECTOR_ERASE: case ERASE_52: case BLOCK_ERASE:
+        s.n = unit_of(chip, frame[0]) / SECTOR;
+        s.first = address(frame, chip->size) / SECTOR / s.n * s.n;
+        break;
+    case CHIP_ERASE_60: case CHIP_ERASE_C7:
+        s.n = chip->size / SECTOR;
+        break;
+    }
+    return s;
+}
+
+/* Each of them is counted once more; false, and none is, where a count is at its highest. */
+static bool count_sectors(struct sectors s, uint32_t *wear)
+{
+    uint32_t i;
+
+    for (i = s.first; i < s.first + s.n; i++)
+        if (wear[i] == UINT32_MAX)
+            return false;
+    for (i = s.first; i < s.first + s.n; i++)
+        wear[i]++;
+    return true;
 }
 
 /* The address rises by one, from the last to 0. */
@@ -542,6 +580,7 @@ uint32_t ref_frame(uint32_t model, uint32_t status_us, uint32_t page_us, uint32_
                    uint32_t block_us, uint32_t chip_us, uint32_t half_us,
                    uint32_t sleep_us, uint32_t wake_us, uint32_t sign_us,
                    uint8_t *state, size_t state_len, const uint8_t *array, size_t array_len,
+                   uint32_t *wear, size_t wear_len,
                    const uint8_t *frame, size_t frame_len, uint32_t tail, uint32_t wp,
                    uint8_t *out, size_t out_len, uint32_t *from, uint32_t *count, uint32_t *fold)
 {
@@ -551,25 +590,23 @@ uint32_t ref_frame(uint32_t model, uint32_t status_us, uint32_t page_us, uint32_
     struct state s;
     uint32_t number;
 
-    *from = 0;
-    *count = 0;
-    *fold = 0;
+    *from = *count = *fold = 0;
     if (!record_ok(&r))
         return 1;
     chip = &chips[model - 1];
     if (array_len != chip->size)
         return 2;
+    if (wear_len != chip->size / SECTOR)
+        return 24;
     if (!unpack(&s, state, state_len, &r))
         return 3;
-    if (frame_len > FRAME_LIMIT || tail > 7)
-        return 4;
-    if (out_len < frame_len)
-        return 5;
-    number = frame_refusal(chip, &s, frame, frame_len, tail, wp);
+    number = frame_refusal(chip, &s, frame, frame_len, tail, wp, out_len);
     if (number == 17 && chip->large) { /* 003 L803 */
         s.wel = 0;
         pack(&s, state);
     }
+    if (number == 0 && !count_sectors(covered_by(chip, frame), wear))
+        number = 25;
     if (number != 0)
         return number;
     driven(answer(chip, &s, array, frame, frame_len, out), frame_len, from, count);

@@ -1,8 +1,8 @@
 /*
- * An independent model of the three chips in plain C, written from the rules (01) and the
+ * An independent model of the three chips in plain C, written from the rules (01 and 02) and the
  * data sheets alone. The host tests compare the archive with it; the benchmark
- * takes it as the baseline. Its four functions have the forms of
- * gwo_frame, gwo_wait, gwo_power_cycle and gwo_cut under names of their own.
+ * takes it as the baseline. Its five functions have the forms of
+ * gwo_frame, gwo_wait, gwo_power_cycle, gwo_cut and gwo_wear_report under names of their own.
  */
 #ifndef REF_MODEL_H
 #define REF_MODEL_H
@@ -14,6 +14,7 @@ typedef uint32_t frame_call(uint32_t model, uint32_t status_us, uint32_t page_us
                             uint32_t block_us, uint32_t chip_us, uint32_t half_us,
                             uint32_t sleep_us, uint32_t wake_us, uint32_t sign_us,
                             uint8_t *state, size_t state_len, const uint8_t *array, size_t array_len,
+                            uint32_t *wear, size_t wear_len,
                             const uint8_t *frame, size_t frame_len, uint32_t tail, uint32_t wp,
                             uint8_t *out, size_t out_len, uint32_t *from, uint32_t *count, uint32_t *fold);
 
@@ -33,9 +34,13 @@ typedef uint32_t cut_call(uint32_t model, uint32_t status_us, uint32_t page_us, 
                           uint8_t *state, size_t state_len, uint8_t *array, size_t array_len,
                           const uint8_t *pattern, size_t pattern_len);
 
+typedef uint32_t report_call(const uint32_t *wear, size_t wear_len, uint64_t *total, uint32_t *smallest,
+                             uint32_t *largest, uint32_t *sector, uint32_t *mean, uint32_t *remainder);
+
 frame_call ref_frame;
 wait_call ref_wait;
 power_cycle_call ref_power_cycle;
 cut_call ref_cut;
+report_call ref_wear_report;
 
 #endif

@@ -1,9 +1,9 @@
 /*
  * Random calls to the archive and to the independent model, side by side: the answer,
- * state, array, output and frame must agree after every one; the 16 MiB of model 3 around the
+ * state, array, counts, output, frame and results must agree after every one; the 16 MiB of model 3 around the
  * addressed block, and whole now and then, after the end of a chip erase and at the end. Only a call that ends a
- * program or an erase can write to the array. Arguments: how many calls (1,000,000), and the seed. It stops at the
- * first difference.
+ * program or an erase can write to the array, and only a frame that starts an erase to the counts. Arguments: how many
+ * calls (1,000,000), and the seed. It stops at the first difference.
  */
 #include "compare.h"
 #include "model.h"
@@ -19,7 +19,7 @@ enum { LARGE_EVERY = 1024, SMALL_EVERY = 64 }; /* so often all that could be len
 
 static void show(const struct call *c, const uint8_t *state, const char *what)
 {
-    static const char *const kinds[KINDS] = {"frame", "wait", "power cycle", "cut"};
+    static const char *const kinds[KINDS] = {"frame", "wait", "power cycle", "cut", "report"};
     const struct gwo_record *r = &c->record;
     const uint8_t *frame = last_of(&model.frame, c->frame_len);
     size_t i;
@@ -32,8 +32,8 @@ static void show(const struct call *c, const uint8_t *state, const char *what)
            (unsigned long)r->sign_us, (unsigned long)c->state_len);
     for (i = 0; i < c->state_len && i < 24; i++)
         printf(" %02X", state[i]);
-    printf("\n  array of %lu, %lu us, pattern of %lu", (unsigned long)c->array_len, (unsigned long)c->us,
-           (unsigned long)c->pattern_len);
+    printf("\n  array of %lu, %lu counts, %lu us, pattern of %lu", (unsigned long)c->array_len,
+           (unsigned long)c->wear_len, (unsigned long)c->us, (unsigned long)c->pattern_len);
     if (c->kind == FRAME)
         printf(", tail %lu, WP# %lu, output of %lu, frame of %lu:", (unsigned long)c->tail, (unsigned long)c->wp,
                (unsigned long)c->out_len, (unsigned long)c->frame_len);
@@ -68,12 +68,16 @@ static const char *difference(const struct call *c, const uint8_t *state, uint32
 {
     if (!same(&ours.state, &model.state, c->state_len))
         return "the state";
+    if (c->kind == REPORT)
+        return same(&ours.results, &model.results, sizeof(struct results)) ? NULL : "a result";
     if (c->kind != FRAME)
         return same_array(c, state, number) ? NULL : "the array";
     if (!same(&ours.numbers, &model.numbers, NUMBERS))
         return "the first driven position, the count or the fold";
     if (!same(&ours.out, &model.out, c->out_len))
         return "the output";
+    if (has_counted(c, number) && !same_counts())
+        return "a count";
     return same(&ours.frame, &model.frame, c->frame_len) ? NULL : "the frame";
 }
 
@@ -104,6 +108,7 @@ static uint32_t frame_on(frame_call *f, const struct side *s, const struct call 
     return f(r->model, r->status_us, r->page_us, r->sector_us, r->block_us, r->chip_us, r->half_us,
              r->sleep_us, r->wake_us, r->sign_us, last_of(&s->state, c->state_len), c->state_len,
              last_of(&s->array, c->array_len), c->array_len,
+             (uint32_t *)(void *)last_of(&s->wear, c->wear_len * sizeof(uint32_t)), c->wear_len,
              last_of(&s->frame, c->frame_len), c->frame_len, c->tail, c->wp,
              last_of(&s->out, c->out_len), c->out_len, &numbers[0], &numbers[1], &numbers[2]);
 }
@@ -134,6 +139,16 @@ static uint32_t cut_on(cut_call *f, const struct side *s, const struct call *c)
              last_of(&s->array, c->array_len), c->array_len, last_of(&s->pattern, c->pattern_len), c->pattern_len);
 }
 
+static uint32_t report_on(report_call *f, const struct side *s, const struct call *c)
+{
+    static const struct results unset = {0xA5A5A5A5, 0xA5A5A5A5, 0xA5A5A5A5, 0xA5A5A5A5, 0xA5A5A5A5, 0, 0xA5A5A5A5};
+    struct results *r = (struct results *)(void *)last_of(&s->results, sizeof *r);
+
+    *r = unset;
+    return f((const uint32_t *)(const void *)last_of(&s->wear, c->wear_len * sizeof(uint32_t)), c->wear_len, &r->total,
+             &r->smallest, &r->largest, &r->sector, &r->mean, &r->remainder);
+}
+
 /* Whether an operation has begun in this call, or goes on in it. */
 static int has_work(const struct call *c, const uint8_t *state, uint32_t number)
 {
@@ -161,6 +176,10 @@ static void guard_for(const struct call *c, const uint8_t *state, uint32_t numbe
         guard_lift(&over_array);
     else if (has_work(c, state, number))
         guard_cells(c, c->kind == FRAME ? addressed(c) : get_place(state));
+    if (has_counted(c, number))
+        guard_lift(&over_wear);
+    else
+        guard_over(&over_wear, ours.wear.start, ours.wear.end);
     guard_over(&over_pattern, last_of(&ours.pattern, c->pattern_len), ours.pattern.end);
 }
 
@@ -171,6 +190,7 @@ static uint32_t ours_gives(const struct call *c)
     case FRAME: return frame_on(gwo_frame, &ours, c);
     case WAIT: return wait_on(gwo_wait, &ours, c);
     case CUT: return cut_on(gwo_cut, &ours, c);
+    case REPORT: return report_on(gwo_wear_report, &ours, c);
     default: return power_cycle_on(gwo_power_cycle, &ours, c);
     }
 }
@@ -181,6 +201,7 @@ static uint32_t model_gives(const struct call *c)
     case FRAME: return frame_on(ref_frame, &model, c);
     case WAIT: return wait_on(ref_wait, &model, c);
     case CUT: return cut_on(ref_cut, &model, c);
+    case REPORT: return report_on(ref_wear_report, &model, c);
     default: return power_cycle_on(ref_power_cycle, &model, c);
     }
 }
@@ -220,6 +241,8 @@ static void lend_side(struct side *s)
     s->frame = lend(FRAME_ROOM + MARGIN);
     s->out = lend(OUT_ROOM + MARGIN);
     s->numbers = lend(NUMBERS + MARGIN);
+    s->wear = lend(WEAR_ROOM * sizeof(uint32_t));
+    s->results = lend(sizeof(struct results) + MARGIN);
 }
 
 int main(int argc, char **argv)
@@ -236,8 +259,11 @@ int main(int argc, char **argv)
     scatter(&dice, model.pattern.start, ARRAY_ROOM);
     memcpy(ours.pattern.start, model.pattern.start, ARRAY_ROOM);
     fill_cells(0, ARRAY_ROOM);
+    fresh_counts();
     while (rig_calls < calls && one_call())
         continue;
+    if (failures() == 0 && !same_counts())
+        fail("at the end: counts that were compared only now differ");
     if (failures() == 0 && same_cells(ARRAY_ROOM) && calls >= 50000)
         check_variety();
     return rig_end();

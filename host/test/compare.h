@@ -10,26 +10,35 @@ enum { STATE = GWO_STATE_LENGTH, STATE_ROOM = 280, FRAME_ROOM = 65600, OUT_ROOM 
 /* Arrays are the last bytes of one room; those of models 1 and 2, and most wrong lengths, of its small end. */
 enum { PAGE = 256, BLOCK = 65536, ARRAY_ROOM = 16777216 + BLOCK, SMALL_ROOM = 327680 };
 
+/* So are wear tables, in counts. */
+enum { WEAR_ROOM = 4160 };
+
 enum { MODELS = 3 };
-enum kind { FRAME, WAIT, POWER_CYCLE, CUT, KINDS };
+enum kind { FRAME, WAIT, POWER_CYCLE, CUT, REPORT, KINDS };
 
 /* One call, as chosen. */
 struct call {
     enum kind kind;
     struct gwo_record record;
-    size_t state_len, array_len, frame_len, out_len, pattern_len;
+    size_t state_len, array_len, wear_len, frame_len, out_len, pattern_len;
     uint32_t tail, wp, us;
 };
 
 /* What is lent to one of the two: each call takes the last bytes of them. */
 struct side {
-    struct lent state, array, frame, out, numbers, pattern;
+    struct lent state, array, wear, frame, out, numbers, pattern, results;
+};
+
+/* The results of a report, as they are lent: the total ends at unmapped memory. */
+struct results {
+    uint32_t smallest, largest, sector, mean, remainder, unused;
+    uint64_t total;
 };
 
 extern struct side ours, model;
 
-/* The archive's array and pattern can be written to by the choice of a call, and else only where the call may. */
-extern struct guard over_array, over_pattern;
+/* The archive's array, pattern and counts can be written to by the choice of a call, and else only where it may. */
+extern struct guard over_array, over_pattern, over_wear;
 
 /* The choice of every call follows from the seed alone. */
 extern struct dice dice;
@@ -54,12 +63,25 @@ uint32_t addressed(const struct call *c);
 /* New cells in both arrays, mostly in the page of an address, at times in three blocks around it. */
 void refresh_cells(const struct call *c, uint32_t address);
 
+/* The wear table of a frame or of a report; and all counts anew. */
+void choose_wear(struct call *c);
+void fresh_counts(void);
+
+/* Whether the call has counted sectors, by its answer; and whether all counts that could be lent agree. */
+int has_counted(const struct call *c, uint32_t number);
+int same_counts(void);
+
+/* Counts what a call met of the tables; a failure unless all of it was met on a model. */
+void note_wear(const struct call *c, uint32_t number);
+void wear_met(uint32_t chip);
+
 /* Counts a call, by the packed state before it and its answer. */
 void note(const struct call *c, const uint8_t *state, uint32_t number);
 
 /*
  * A failure unless on each model every number was met, by each kind of call that can be answered so, every command
- * accepted, every operation completed and cut, and programs ended on both sides of their page's end; and unless all
+ * accepted, every operation completed and cut, programs ended on both sides of their page's end, and every kind of
+ * wear table; and unless all
  * that only model 3 has was met, and all that sleep takes.
  */
 void check_variety(void);

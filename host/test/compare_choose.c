@@ -213,7 +213,8 @@ static void choose_pattern(struct call *c)
 
 void choose(struct call *c)
 {
-    static const enum kind others[] = {WAIT, WAIT, WAIT, WAIT, CUT, CUT, POWER_CYCLE};
+    static const enum kind others[] = {WAIT, WAIT, WAIT, WAIT, WAIT, WAIT, CUT, CUT, CUT, POWER_CYCLE, POWER_CYCLE,
+                                       REPORT};
 
     memset(c, 0, sizeof *c);
     c->kind = chance(&dice, 78) ? FRAME : ONE_OF(others);
@@ -226,6 +227,8 @@ void choose(struct call *c)
         choose_pattern(c);
     if (c->kind == FRAME)
         choose_frame(c);
-    else if (chance(&dice, 60))
+    else if (c->kind != REPORT && chance(&dice, 60))
         refresh_cells(c, get_place(last_of(&model.state, STATE)));
+    if (c->kind == FRAME || c->kind == REPORT)
+        choose_wear(c);
 }

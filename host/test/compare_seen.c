@@ -16,7 +16,7 @@ static void note_operation(const struct call *c, const uint8_t *state, uint32_t 
     uint32_t busy = get_us(state + BUSY_AT);
     uint8_t command = state[COMMAND_AT] == 0x01 && get_place(state) == 2 ? TWO : state[COMMAND_AT];
 
-    if (number != 0 || busy == 0)
+    if ((c->kind != WAIT && c->kind != CUT) || number != 0 || busy == 0)
         return;
     completed[c->record.model][command] += c->kind == WAIT && c->us >= busy;
     cut_short[c->record.model][command] += c->kind == CUT;
@@ -101,6 +101,7 @@ void note(const struct call *c, const uint8_t *state, uint32_t number)
     answered[chip][c->kind][number % 32]++;
     note_sleep(c, state, number);
     note_operation(c, state, number);
+    note_wear(c, number);
     if (c->kind != FRAME || (number != 0 && number != 17))
         return;
     if (number == 0)
@@ -112,7 +113,7 @@ void note(const struct call *c, const uint8_t *state, uint32_t number)
 /* The numbers that a kind of call can be answered. */
 static void numbers_met(uint32_t chip, enum kind kind, const uint8_t *numbers, size_t n)
 {
-    static const char *const names[KINDS] = {"frames", "waits", "power cycles", "cuts"};
+    static const char *const names[KINDS] = {"frames", "waits", "power cycles", "cuts", "reports"};
     size_t i;
 
     printf("  model %lu, %s:", (unsigned long)chip, names[kind]);
@@ -126,13 +127,15 @@ static void numbers_met(uint32_t chip, enum kind kind, const uint8_t *numbers, s
 
 static void all_numbers_met(uint32_t chip)
 {
-    static const uint8_t frames[] = {0, 1, 2, 3, 4, 5, 10, 22, 11, 12, 13, 14, 15, 16, 17}, waits[] = {0, 1, 2, 3},
-                         power_cycles[] = {0, 1, 3, 11}, cuts[] = {0, 1, 2, 3, 23};
+    static const uint8_t frames[] = {0, 1, 2, 24, 3, 4, 5, 10, 22, 11, 12, 13, 14, 15, 16, 17, 25},
+                         waits[] = {0, 1, 2, 3}, power_cycles[] = {0, 1, 3, 11}, cuts[] = {0, 1, 2, 3, 23},
+                         reports[] = {0, 24};
 
     numbers_met(chip, FRAME, frames, sizeof frames);
     numbers_met(chip, WAIT, waits, sizeof waits);
     numbers_met(chip, POWER_CYCLE, power_cycles, sizeof power_cycles);
     numbers_met(chip, CUT, cuts, sizeof cuts);
+    numbers_met(chip, REPORT, reports, sizeof reports);
 }
 
 /* The last operation is model 3's. */
@@ -206,6 +209,7 @@ void check_variety(void)
         commands_met(chip);
         operations_met(chip);
         endings_met(chip);
+        wear_met(chip);
     }
     for (i = 0; i < RARE; i++) {
         printf("%s%s: %lu", i == 0 ? "  on model 3: " : ", ", names[i], met[i]);

@@ -8,6 +8,7 @@
 static int failed;
 static const char *program = "header";
 static uint8_t array[GWO_MODEL_3_LENGTH], state[GWO_STATE_LENGTH];
+static uint32_t wear[GWO_MODEL_3_SECTORS];
 
 static void check(int ok, const char *what)
 {
@@ -20,7 +21,7 @@ static void check(int ok, const char *what)
 /* Each number has a text of its own; any other has the one for no number. */
 static void texts(void)
 {
-    static const uint32_t numbers[] = {0, 1, 2, 3, 4, 5, 10, 22, 11, 12, 13, 14, 15, 16, 17, 23, 20, 6};
+    static const uint32_t numbers[] = {0, 1, 2, 24, 3, 4, 5, 10, 22, 11, 12, 13, 14, 15, 16, 17, 25, 23, 20, 6};
     const size_t n = sizeof numbers / sizeof numbers[0];
     size_t i, k;
 
@@ -32,6 +33,7 @@ static void texts(void)
     check(strcmp(gwo_text(6), gwo_text(0xFFFFFFFFu)) == 0, "two texts for no number");
     check(GWO_SETTLING == 22, "the number of a chip that settles");
     check(GWO_BAD_PATTERN == 23, "the number of a pattern of another length");
+    check(GWO_BAD_WEAR == 24 && GWO_WEAR_FULL == 25, "the numbers of a table and of a count");
 }
 
 static void lengths(void)
@@ -40,6 +42,10 @@ static void lengths(void)
     check(gwo_array_length(3) == 16777216 && GWO_MODEL_3_LENGTH == 256 * GWO_BLOCK_LENGTH, "array length of model 3");
     check(gwo_array_length(0) == 0 && gwo_array_length(4) == 0, "array lengths of no model");
     check(GWO_HALF_BLOCK_LENGTH == 32768 && GWO_BLOCK_LENGTH == 65536, "a half block");
+    check(gwo_sector_count(1) == 16 && gwo_sector_count(2) == 64 && gwo_sector_count(3) == 4096, "sectors");
+    check(gwo_sector_count(0) == 0 && gwo_sector_count(4) == 0, "sectors of no model");
+    check(GWO_MODEL_1_SECTORS == 16 && GWO_MODEL_2_SECTORS == 64 && GWO_MODEL_3_SECTORS == 4096, "their names");
+    check(GWO_WEAR_TOP == 0xFFFFFFFFu, "the highest count");
 }
 
 static int settles_for(const struct gwo_record *r, uint32_t sleep, uint32_t wake, uint32_t sign)
@@ -173,7 +179,7 @@ static void sleeps(const struct gwo_record *r, uint8_t sleep, uint8_t wake, uint
     check(gwo_record_power_cycle(r, state, sizeof state) == GWO_DONE && state[8] == 0, "a power cycle while settling");
 }
 
-/* The four calls themselves with these three times. */
+/* The four calls on a record themselves with these three times. */
 static uint32_t calls_give(const struct gwo_record *r, uint32_t sleep, uint32_t wake, uint32_t sign)
 {
     const uint8_t write_enable[] = {0x06};
@@ -189,7 +195,7 @@ static uint32_t calls_give(const struct gwo_record *r, uint32_t sleep, uint32_t 
     check(gwo_power_cycle(r->model, r->status_us, r->page_us, r->sector_us, r->block_us, r->chip_us, r->half_us,
                           sleep, wake, sign, state, sizeof state) == number, "a power cycle is answered as a wait");
     check(gwo_frame(r->model, r->status_us, r->page_us, r->sector_us, r->block_us, r->chip_us, r->half_us,
-                    sleep, wake, sign, state, sizeof state, array, n, write_enable, 1, 0, 1,
+                    sleep, wake, sign, state, sizeof state, array, n, wear, n / 4096, write_enable, 1, 0, 1,
                     out, 1, &from, &count, &fold) == number, "a frame is answered as a wait");
     return number;
 }
@@ -233,6 +239,41 @@ static void fold(const struct gwo_record *r)
     state[0] = 2;
     check(gwo_record_frame_fold(r, state, s, array, n, two, 5, 0, 1, out, 5, &from, &count, &said) == GWO_DONE, "02");
     check(said == 0, "a program to its page's end");
+}
+
+/* 20 of the second sector on an enabled chip, with a table. */
+static uint32_t erase_with(const struct gwo_record *r, uint32_t *counts, size_t n)
+{
+    static const uint8_t sector_erase[] = {0x20, 0x00, 0x1F, 0xFF};
+    uint8_t out[4];
+    uint32_t from, count, fold;
+
+    gwo_factory_state(state);
+    state[0] = 2;
+    return gwo_record_frame_wear(r, state, sizeof state, array, gwo_array_length(r->model), counts, n, sector_erase, 4,
+                                 0, 1, out, 4, &from, &count, &fold);
+}
+
+/* A count rises at once; one that is full stays, and the erase is refused. A table of another length is, too. */
+static void wears(const struct gwo_record *r)
+{
+    const size_t n = gwo_sector_count(r->model);
+    uint64_t total = 7;
+    uint32_t low, high, sector, mean, rest;
+
+    memset(wear, 0, sizeof wear);
+    check(erase_with(r, wear, n) == GWO_DONE && wear[0] == 0 && wear[1] == 1 && wear[2] == 0, "a count");
+    wear[1] = GWO_WEAR_TOP;
+    check(erase_with(r, wear, n) == GWO_WEAR_FULL && wear[1] == GWO_WEAR_TOP && state[0] == 2, "a full count");
+    check(erase_with(r, wear, n - 1) == GWO_BAD_WEAR && erase_with(r, wear, n + 1) == GWO_BAD_WEAR, "another length");
+    check(erase_with(r, NULL, 0) == GWO_BAD_WEAR, "no table");
+    wear[0] = 5;
+    check(gwo_wear_report(wear, n - 1, &total, &low, &high, &sector, &mean, &rest) == GWO_BAD_WEAR, "a bad report");
+    check(gwo_wear_report(NULL, 0, &total, &low, &high, &sector, &mean, &rest) == GWO_BAD_WEAR, "a report on nothing");
+    check(total == 7, "what a refused report leaves");
+    check(gwo_wear_report(wear, n, &total, &low, &high, &sector, &mean, &rest) == GWO_DONE, "a report");
+    check(total == (uint64_t)GWO_WEAR_TOP + 5 && low == 0 && high == GWO_WEAR_TOP && sector == 1, "its results");
+    check(mean == total / n && rest == 4, "its mean");
 }
 
 /* A pointer with the length 0 may be null: the call is answered, and the other buffers stay. */
@@ -279,6 +320,9 @@ int main(int argc, char **argv)
     fold(&gwo_bench_model_1);
     fold(&gwo_bench_model_2);
     fold(&gwo_bench_model_3);
+    wears(&gwo_bench_model_1);
+    wears(&gwo_bench_model_2);
+    wears(&gwo_bench_model_3);
     nulls(&gwo_bench_model_1);
     nulls(&gwo_bench_model_2);
     nulls(&gwo_bench_model_3);

@@ -1,6 +1,7 @@
 #include "jig.h"
 
 #include "jig_cells.h"
+#include "jig_wear.h"
 
 #include <stdarg.h>
 #include <stdio.h>
@@ -98,10 +99,12 @@ void jig_model(uint32_t model)
         make_buffers();
     given.record = bench(model);
     given.array_len = size_of(model);
+    given.wear_len = size_of(model) / SECTOR;
     empty_frame();
     jig_state(power_on);
     nothing_wanted();
     cells_fresh();
+    wear_fresh();
 }
 
 void jig_next(void)
@@ -329,9 +332,21 @@ static uint8_t *lend_cells(struct cells *c, uint32_t address, int may_write)
     return cells_lent(c, given.array_len);
 }
 
+/* Whether the given frame starts an erase when it is taken: the sectors of its unit are wanted to be counted. */
+static int counts(uint32_t number)
+{
+    uint32_t model = given.record.model, unit = number == 0 ? unit_of(model, given.frame[0]) : 0;
+
+    if (unit < SECTOR)
+        return 0;
+    wear_want_counted(given.wear_len, unit_start(model, given.frame[0], addressed()) / SECTOR, unit / SECTOR);
+    return 1;
+}
+
 void frame_gives(uint32_t number, const char *label)
 {
     const struct gwo_record *r = &given.record;
+    const int may_count = counts(number);
     const uint32_t unset[3] = {UNSET, UNSET, UNSET};
     uint8_t *state = place(&lent_state, given.state, given.state_len);
     uint8_t *frame = place(&lent_frame, given.frame, given.frame_len);
@@ -343,6 +358,7 @@ void frame_gives(uint32_t number, const char *label)
     got = gwo_frame(r->model, r->status_us, r->page_us, r->sector_us, r->block_us, r->chip_us, r->half_us,
                     r->sleep_us, r->wake_us, r->sign_us, state, given.state_len,
                     lend_cells(cells_of(given.array_len), addressed(), 0), given.array_len,
+                    wear_lent(given.wear_len, may_count), given.wear_len,
                     frame, given.frame_len, given.tail, given.wp, out, given.out_len,
                     &numbers[0], &numbers[1], &numbers[2]);
     same_number(got, number, "the answer", label);
@@ -352,6 +368,8 @@ void frame_gives(uint32_t number, const char *label)
     same_placed(state, wanted_state, given.state_len, "state", label);
     same_placed(frame, given.frame, given.frame_len, "frame", label);
     same_placed(out, wanted_out, given.out_len, "output", label);
+    if (may_count)
+        wear_same(given.wear_len, label);
 }
 
 void wait_gives(uint32_t us, uint32_t number, const char *label)

@@ -16,7 +16,7 @@ __attribute__((format(printf, 1, 2)))
 const char *named(const char *form, ...);
 
 enum { PAGE = 256, SECTOR = 4096, HALF_BLOCK = 32768, BLOCK = 65536, LONGEST_FRAME = 65541 };
-enum { FRAME_ROOM = 65600, OUT_ROOM = 65664, STATE_ROOM = 280, PATTERN_ROOM = 16777216 + BLOCK };
+enum { FRAME_ROOM = 65600, OUT_ROOM = 65664, STATE_ROOM = 280, PATTERN_ROOM = 16777216 + BLOCK, WEAR_ROOM = 4160 };
 
 /* What differs between the models. */
 struct part {
@@ -51,7 +51,7 @@ struct given {
     struct gwo_record record;
     uint8_t state[STATE_ROOM];
     size_t state_len;
-    size_t array_len;
+    size_t array_len, wear_len;
     uint8_t frame[FRAME_ROOM];
     size_t frame_len;
     uint32_t tail, wp;
@@ -63,10 +63,16 @@ extern struct given given;
 uint8_t cell(uint32_t address);
 uint8_t wanted_cell(uint32_t address);
 
-/* A fresh call: bench record, power-on state, every cell as above, an empty frame, WP# high, no pattern. */
+/* The count of a sector before the first call, by its place among the last WEAR_ROOM counts; and what is lent now. */
+uint32_t count_before(uint32_t place);
+uint32_t lent_count(uint32_t sector);
+
+/*
+ * A fresh call: bench record, power-on state, every cell and count as above, an empty frame, WP# high, no pattern.
+ */
 void jig_model(uint32_t model);
 
-/* The next call of the same chip: state and cells as the last one left them, an empty frame, no pattern. */
+/* The next call of the same chip: state, cells and counts as the last one left them, an empty frame, no pattern. */
 void jig_next(void);
 
 /* A chip that is busy runs C7, if jig_runs does not say after it what it runs. */
@@ -93,6 +99,9 @@ uint8_t *jig_pattern(size_t n);
 /* Sets n cells before the call, in what is given and in what is wanted alike. */
 void jig_cells(uint32_t at, uint32_t n, uint8_t value);
 
+/* The same of the counts of n sectors. */
+void jig_wear(uint32_t sector, uint32_t n, uint32_t count);
+
 /*
  * What is wanted, where it differs from a call that changes nothing. A chip that was busy and is wanted so goes on with
  * what it runs; one that was not runs what the given frame starts.
@@ -112,13 +121,21 @@ void want_cells_driven(uint32_t from, uint32_t address);
 /*
  * Make the call, and compare the answer and every lent byte. Only a call that ends a program or an erase can write to
  * the array, and then it is compared; none can write to a pattern. Of 16 MiB only the cells around the address (rig.h)
- * are guarded, and compared with those that are wanted otherwise: jig_whole compares all of them. It is the call
- * itself, for the functions on a record (gwo.h) put a bench value where a time is 0.
+ * are guarded, and compared with those that are wanted otherwise: jig_whole compares all of them. A frame that starts
+ * an erase is wanted to count the sectors of its unit, and no other can write to the counts. It is the call itself,
+ * for the functions on a record (gwo.h) put a bench value where a time is 0.
  */
 void frame_gives(uint32_t number, const char *label);
 void wait_gives(uint32_t us, uint32_t number, const char *label);
 void power_cycle_gives(uint32_t number, const char *label);
 void cut_gives(uint32_t number, const char *label);
 void jig_whole(const char *label);
+
+/* What a report on the wear table is wanted to give; where it is refused, no result is to be written. */
+struct report {
+    uint64_t total;
+    uint32_t smallest, largest, sector, mean, remainder;
+};
+void report_gives(uint32_t number, struct report want, const char *label);
 
 #endif

@@ -1,6 +1,6 @@
 /*
- * Every rule of 01 and of model 3 through the C interface, with the values that 01 and the sheets give.
- * Each call compares the answer, the state, the array, the whole output and the frame, in
+ * Every rule of 01, 02 and model 3 through the C interface, with the values that these and the sheets give.
+ * Each call compares the answer, the state, the array, the counts, the whole output and the frame, in
  * buffers that end at unmapped memory; the array of model 3 is compared whole after each group.
  *   rules [first [GROUP]]
  * With `first` it stops at a failure; with a group's name it runs that group alone.
@@ -30,6 +30,8 @@ static const struct {
     {"time and power", time_and_power},
     {"operations", operations},
     {"cuts", cuts},
+    {"wear counts", wear_counts},
+    {"wear reports", wear_reports},
     {"bench sheet", bench_sheet},
 };
 enum { GROUPS = sizeof groups / sizeof groups[0] };

@@ -19,6 +19,8 @@ void programming(void);                /* 02: fold, AND, the last byte counts */
 void folds(void);                      /* a program that ran past its page's end is said so */
 void time_and_power(void);             /* wait and power cycle */
 void operations(void);                 /* 01, 02, 20, 52, D8, 60, C7: remembered, and done when the time has run out */
+void wear_counts(void);                /* 20, 52, D8, 60, C7: the sectors that they cover are counted; 24 and 25 */
+void wear_reports(void);               /* what a wear table comes to */
 void cuts(void);                       /* what a cut leaves of each of them, and of a chip that runs none */
 void bench_sheet(void);                /* 01's cases, and model 3's */
 

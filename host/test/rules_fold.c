@@ -60,6 +60,7 @@ static void spoil(uint32_t model, uint32_t number)
     switch (number) {
     case 1: given.record.page_us = 0; break;
     case 2: given.array_len -= 1; break;
+    case 24: given.wear_len += 1; break;
     case 3: given.state[3] = 1; jig_packed(given.state, GWO_STATE_LENGTH); break;
     case 4: given.tail = 8; break;
     case 5: given.out_len = given.frame_len - 1; break;
@@ -75,7 +76,7 @@ static void spoil(uint32_t model, uint32_t number)
 /* Programs that would fold. */
 static void refused_programs(uint32_t model, size_t n)
 {
-    static const uint32_t numbers[] = {1, 2, 3, 4, 5, 22, 11, 12, 14, 15, 17};
+    static const uint32_t numbers[] = {1, 2, 24, 3, 4, 5, 22, 11, 12, 14, 15, 17};
     size_t i;
 
     for (i = 0; i < sizeof numbers / sizeof numbers[0]; i++) {

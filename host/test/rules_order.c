@@ -6,16 +6,17 @@
 
 /* What makes a number apply, one bit each; a call is refused by the first that applies. */
 enum {
-    RECORD = 1, ARRAY = 2, STATE = 4, FRAME = 8, OUTPUT = 16, EMPTY = 32, SETTLING = 64, BUSY = 128, ASLEEP = 256,
-    UNKNOWN = 512, LENGTH = 1024, NOT_ENABLED = 2048, LOCKED = 4096, EVERY = 8191
+    RECORD = 1, ARRAY = 2, WEAR = 4, STATE = 8, FRAME = 16, OUTPUT = 32, EMPTY = 64, SETTLING = 128, BUSY = 256,
+    ASLEEP = 512, UNKNOWN = 1024, LENGTH = 2048, NOT_ENABLED = 4096, LOCKED = 8192, FULL = 16384, EVERY = 32767
 };
 
 /* What a cut looks at besides: its pattern's length. */
-enum { PATTERN = 8192 };
+enum { PATTERN = 32768 };
 
+/* LOCKED and FULL have the command's own numbers. */
 static const struct rung { unsigned fault; uint32_t number; } ladder[] = {
-    {RECORD, 1}, {ARRAY, 2}, {STATE, 3}, {FRAME, 4}, {OUTPUT, 5}, {EMPTY, 10}, {SETTLING, 22}, {BUSY, 11},
-    {ASLEEP, 12}, {UNKNOWN, 13}, {LENGTH, 14}, {NOT_ENABLED, 15}, {LOCKED, 0}, {0, 0}};
+    {RECORD, 1}, {ARRAY, 2}, {WEAR, 24}, {STATE, 3}, {FRAME, 4}, {OUTPUT, 5}, {EMPTY, 10}, {SETTLING, 22},
+    {BUSY, 11}, {ASLEEP, 12}, {UNKNOWN, 13}, {LENGTH, 14}, {NOT_ENABLED, 15}, {LOCKED, 0}, {FULL, 0}, {0, 0}};
 
 /* The same for the calls without a frame. */
 static const struct rung of_waits[] = {{RECORD, 1}, {ARRAY, 2}, {STATE, 3}, {0, 0}},
@@ -28,19 +29,28 @@ static int together(unsigned faults)
     return !((faults & BUSY) && (faults & (SETTLING | ASLEEP | NOT_ENABLED)));
 }
 
-/* The number: of the first fault; 16 or 17, by the command, when LOCKED is the only one. */
-static uint32_t first_of(const struct rung *rung, unsigned faults, uint32_t when_locked)
+/* The commands that can be refused by all of them; a full count is a fault of an erase alone. */
+struct lockable {
+    const char *frame;
+    uint32_t when_locked, when_full;
+};
+static const struct lockable lockable[] = {{"0100", 16, 0}, {"0200000000", 17, 0}, {"20000000", 17, 25},
+                                           {"52000000", 17, 25}, {"D8000000", 17, 25}, {"60", 17, 25}, {"C7", 17, 25}};
+
+/* The number: of the first fault; 16, 17 or 25, by the command, when there is none before LOCKED and FULL. */
+static uint32_t first_of(const struct rung *rung, unsigned faults, const struct lockable *command)
 {
     for (; rung->fault != 0; rung++)
         if (faults & rung->fault)
-            return rung->fault == LOCKED ? when_locked : rung->number;
+            return rung->fault == LOCKED ? command->when_locked
+                   : rung->fault == FULL ? command->when_full : rung->number;
     return 0;
 }
 
 /* Whether number 4 is by length, not by tail: only where it is the first, for a long frame takes time. */
 static int too_long(unsigned faults, unsigned variant)
 {
-    return (faults & FRAME) && (faults & (RECORD | ARRAY | STATE)) == 0 && variant % 2 == 0;
+    return (faults & FRAME) && (faults & (RECORD | ARRAY | WEAR | STATE)) == 0 && variant % 2 == 0;
 }
 
 static void spoil_frame(unsigned faults, unsigned variant)
@@ -85,6 +95,10 @@ static void spoil_lent(uint32_t model, unsigned faults, unsigned variant)
         *(variant % 2 ? &given.record.chip_us : &given.record.half_us) = variant % 2 ? 0 : 1000000001;
     if (faults & ARRAY)
         given.array_len = variant % 2 ? 65537 : 4096;
+    if (faults & FULL)
+        jig_wear(0, 1, GWO_WEAR_TOP);
+    if (faults & WEAR)
+        given.wear_len = variant % 2 ? given.wear_len + 1 : given.wear_len / 2;
     if (faults & LOCKED)
         given.wp = 0;
 }
@@ -97,13 +111,12 @@ static int possible(unsigned faults, unsigned variant)
     return together(faults) && !(empty && (faults & OUTPUT));
 }
 
-static const struct { const char *frame; uint32_t when_locked; } lockable[] = {
-    {"0100", 16}, {"0200000000", 17}, {"20000000", 17}, {"52000000", 17}, {"D8000000", 17}, {"60", 17}, {"C7", 17}};
-
 static void refused(uint32_t model, size_t command, unsigned faults, unsigned variant)
 {
-    uint32_t number = first_of(ladder, faults, lockable[command].when_locked);
+    uint32_t number = first_of(ladder, faults, &lockable[command]);
 
+    if (number == 0)
+        return;
     jig_model(model);
     jig_frame(lockable[command].frame);
     spoil_lent(model, faults, variant);
@@ -116,7 +129,7 @@ static void refused(uint32_t model, size_t command, unsigned faults, unsigned va
 /* The last microsecond of a chip erase, or an idle chip. */
 static void wait_refused(uint32_t model, unsigned faults, unsigned variant)
 {
-    uint32_t number = first_of(of_waits, faults, 0);
+    uint32_t number = first_of(of_waits, faults, NULL);
 
     jig_model(model);
     spoil_lent(model, faults, variant);
@@ -129,7 +142,7 @@ static void wait_refused(uint32_t model, unsigned faults, unsigned variant)
 
 static void cut_refused(uint32_t model, unsigned faults, unsigned variant)
 {
-    uint32_t number = first_of(of_cuts, faults, 0);
+    uint32_t number = first_of(of_cuts, faults, NULL);
     size_t n = (faults & BUSY ? size_of(model) : 0) + (faults & PATTERN ? 1 + variant : 0);
     uint8_t *pattern;
 
@@ -146,7 +159,7 @@ static void cut_refused(uint32_t model, unsigned faults, unsigned variant)
 
 static void power_cycle_refused(uint32_t model, unsigned faults, unsigned variant)
 {
-    uint32_t number = first_of(of_power_cycles, faults, 0);
+    uint32_t number = first_of(of_power_cycles, faults, NULL);
 
     jig_model(model);
     spoil_lent(model, faults, variant);
@@ -186,7 +199,10 @@ void refused_in_order(void)
         for (faults = 1; faults <= EVERY; faults++)
             if (possible(faults, (unsigned)i % 2))
                 refused(1 + (faults / 4 + (uint32_t)i / 2) % MODELS, i, faults, (unsigned)i % 2);
-        for (model = 1; model <= MODELS; model++)
+        for (model = 1; model <= MODELS; model++) {
             refused(model, i, LOCKED, 0);
+            refused(model, i, FULL, 0);
+            refused(model, i, LOCKED | FULL, 0);
+        }
     }
 }

@@ -1,4 +1,4 @@
-/* 01, Numbers returned: 1, 2, 4, 5 and 10, and what a valid record is. */
+/* 01, Numbers returned: 1, 2, 4, 5 and 10, and what a valid record is; 24 is with the wear counts. */
 #include "jig.h"
 #include "rules.h"
 
@@ -82,6 +82,7 @@ static void other_model(uint32_t model)
         jig_model(model);
         given.record.model = other;
         given.array_len = size_of(other);
+        given.wear_len = size_of(other) / SECTOR;
         record_gives((model == 3) == (other == 3) ? 0 : 1,
                      named("the times of model %lu for model %lu", (unsigned long)model, (unsigned long)other));
     }

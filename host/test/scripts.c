@@ -106,6 +106,7 @@ static void read_step(const struct line *l, struct step *to)
 }
 
 static uint8_t cells[CELLS], packed[GWO_STATE_LENGTH], out[MOST_BYTES];
+static uint32_t wear[CELLS / GWO_SECTOR_LENGTH];
 static const struct gwo_record *const record = &gwo_bench_model_1;
 
 /* What a row of the log says after its number; the driven bytes are in out. */
@@ -121,8 +122,9 @@ static struct reply take_step(const struct step *s)
     switch (s->kind) {
     case FRAME:
         to.answer = ref_frame(r->model, r->status_us, r->page_us, r->sector_us, r->block_us, r->chip_us, r->half_us,
-                              r->sleep_us, r->wake_us, r->sign_us, packed, sizeof packed, cells, CELLS, s->frame,
-                              s->frame_len, s->tail, s->wp, out, sizeof out, &to.from, &to.count, &to.fold);
+                              r->sleep_us, r->wake_us, r->sign_us, packed, sizeof packed, cells, CELLS, wear,
+                              sizeof wear / sizeof wear[0], s->frame, s->frame_len, s->tail, s->wp, out, sizeof out,
+                              &to.from, &to.count, &to.fold);
         break;
     case WAIT:
         to.answer = ref_wait(r->model, r->status_us, r->page_us, r->sector_us, r->block_us, r->chip_us, r->half_us,

@@ -1,7 +1,8 @@
 /*
- * The deepest stack of gwo_frame, gwo_wait, gwo_power_cycle and gwo_cut, over calls of every kind on each model.
- *   stack [FRAME WAIT POWER_CYCLE CUT]
- * A call that takes more bytes than its limit is a failure. The limits are the archive's, or the four numbers.
+ * The deepest stack of gwo_frame, gwo_wait, gwo_power_cycle, gwo_cut and gwo_wear_report, over calls of every kind on
+ * each model.
+ *   stack [FRAME WAIT POWER_CYCLE CUT REPORT]
+ * A call that takes more bytes than its limit is a failure. The limits are the archive's, or the five numbers.
  */
 #include "stack.h"
 
@@ -11,26 +12,30 @@
 #include <stdlib.h>
 #include <string.h>
 
-static const char *const names[KINDS] = {"gwo_frame", "gwo_wait", "gwo_power_cycle", "gwo_cut"};
+static const char *const names[KINDS] = {"gwo_frame", "gwo_wait", "gwo_power_cycle", "gwo_cut", "gwo_wear_report"};
 
 /* What the archive was measured to take, in bytes; it may take SPARE more. */
-static const size_t measured[KINDS] = {288, 160, 67, 94};
+static const size_t measured[KINDS] = {272, 160, 67, 94, 40};
 enum { SPARE = 16 };
 
 static size_t limits[KINDS], most[KINDS];
 
 static uint8_t array[GWO_MODEL_3_LENGTH], frame[GWO_FRAME_LIMIT], out[GWO_FRAME_LIMIT], pattern[GWO_MODEL_3_LENGTH];
+static uint32_t wear[GWO_MODEL_3_SECTORS];
 
 /* On an idle chip with WEL 1 and no other bit set. */
 static struct call call_on(uint32_t model, enum kind kind)
 {
     static const struct gwo_record *const records[] = {&gwo_bench_model_1, &gwo_bench_model_2, &gwo_bench_model_3};
-    struct call c = {.kind = kind, .array = array, .out = out, .frame = frame, .pattern = pattern, .wp = 1};
+    struct call c = {.kind = kind, .array = array, .wear = wear, .out = out, .frame = frame, .pattern = pattern,
+                     .wp = 1};
 
     gwo_factory_state(c.state);
     c.state[0] = 2;
     c.record = *records[model - 1];
     c.array_len = gwo_array_length(model);
+    c.wear_len = gwo_sector_count(model);
+    wear[1] = 0;
     return c;
 }
 
@@ -48,6 +53,7 @@ static void spoil(struct call *c, uint32_t number)
     switch (number) {
     case 1: c->record.chip_us = 0; break;
     case 2: c->array_len -= 1; break;
+    case 24: c->wear_len -= 1; break;
     case 3: c->state[3] = 1; break;
     case 4: c->tail = 8; break;
     case 5: c->out_len -= 1; break;
@@ -58,6 +64,7 @@ static void spoil(struct call *c, uint32_t number)
     case 15: c->state[0] = 0; break;
     case 16: c->state[0] = 0x82, c->wp = 0; break;
     case 17: c->state[0] = 0x0E; break; /* BP 3 protects the last block */
+    case 25: c->wear[1] = GWO_WEAR_TOP; break; /* the sector that holds 001234 */
     }
 }
 
@@ -97,11 +104,13 @@ static const struct {
     {{0x02, 0, 0x12, 0x34}, 4 + 65537, 0, 1},
     {{0x20, 0, 0x12, 0x34}, 4, 0, 1}, {{0x52, 0, 0x12, 0x34}, 4, 0, 1}, {{0xD8, 0, 0x12, 0x34}, 4, 0, 1},
     {{0x60}, 1, 0, 1}, {{0xC7}, 1, 0, 1},
-    {{0x02}, 261, 1, 1}, {{0x02}, 261, 2, 1}, {{0x02}, 261, 3, 1}, {{0x02}, 261, 4, 1}, {{0x02}, 261, 5, 1},
-    {{0x02}, 0, 10, 1}, {{0x02}, 261, 22, 1}, {{0x05}, 2, 22, 1}, {{0xAB}, 5, 22, 1}, {{0x02}, 261, 11, 1},
+    {{0x02}, 261, 1, 1}, {{0x02}, 261, 2, 1}, {{0x02}, 261, 24, 1}, {{0x02}, 261, 3, 1}, {{0x02}, 261, 4, 1},
+    {{0x02}, 261, 5, 1}, {{0x02}, 0, 10, 1}, {{0x02}, 261, 22, 1}, {{0x05}, 2, 22, 1}, {{0xAB}, 5, 22, 1},
+    {{0x02}, 261, 11, 1},
     {{0x02}, 261, 12, 1}, {{0xFF}, 261, 13, 1}, {{0x02}, 261, 14, 1}, {{0x02}, 261, 15, 1}, {{0x01}, 2, 16, 1},
     {{0x02, 0xFF, 0xFF, 0xFF}, 261, 17, 1},
-    {{0x20, 0xFF, 0xFF, 0xFF}, 4, 17, 1}, {{0xC7}, 1, 17, 1},
+    {{0x20, 0xFF, 0xFF, 0xFF}, 4, 17, 1}, {{0xC7}, 1, 17, 1}, {{0x20, 0, 0x12, 0x34}, 4, 25, 1},
+    {{0x52, 0, 0x12, 0x34}, 4, 25, 1}, {{0xD8, 0, 0x12, 0x34}, 4, 25, 1}, {{0xC7}, 1, 25, 1},
 };
 
 static void frames(uint32_t model)
@@ -188,6 +197,15 @@ static void times(uint32_t model, enum kind kind)
         }
 }
 
+static void reports(uint32_t model)
+{
+    struct call c = call_on(model, REPORT);
+
+    measure(&c, 0);
+    spoil(&c, 24);
+    measure(&c, 24);
+}
+
 int main(int argc, char **argv)
 {
     uint32_t model;
@@ -195,7 +213,7 @@ int main(int argc, char **argv)
 
     rig_begin("stack");
     if (argc != 1 && argc != 1 + KINDS) {
-        printf("usage: stack [FRAME WAIT POWER_CYCLE CUT]\n");
+        printf("usage: stack [FRAME WAIT POWER_CYCLE CUT REPORT]\n");
         return 2;
     }
     for (k = 0; k < KINDS; k++)
@@ -206,11 +224,13 @@ int main(int argc, char **argv)
         times(model, WAIT);
         times(model, POWER_CYCLE);
         times(model, CUT);
+        reports(model);
     }
     for (k = 0; k < KINDS; k++)
         printf("  %-15s %4lu bytes, at most %lu\n", names[k], (unsigned long)most[k], (unsigned long)limits[k]);
     printf("stack: %lu calls, %lu failures; gwo_frame takes %lu bytes, gwo_wait %lu, gwo_power_cycle %lu, "
-           "gwo_cut %lu\n", rig_calls, failures(), (unsigned long)most[FRAME], (unsigned long)most[WAIT],
-           (unsigned long)most[POWER_CYCLE], (unsigned long)most[CUT]);
+           "gwo_cut %lu, gwo_wear_report %lu\n", rig_calls, failures(), (unsigned long)most[FRAME],
+           (unsigned long)most[WAIT], (unsigned long)most[POWER_CYCLE], (unsigned long)most[CUT],
+           (unsigned long)most[REPORT]);
     return failures() == 0 ? 0 : 1;
 }

@@ -4,7 +4,7 @@
 
 #include "gwo.h"
 
-enum kind { FRAME, WAIT, POWER_CYCLE, CUT, KINDS };
+enum kind { FRAME, WAIT, POWER_CYCLE, CUT, REPORT, KINDS };
 
 /* The arguments of a call. */
 struct call {
@@ -13,7 +13,8 @@ struct call {
     uint8_t state[GWO_STATE_LENGTH];
     uint8_t *array, *out;
     const uint8_t *frame, *pattern;
-    size_t array_len, frame_len, out_len, pattern_len;
+    uint32_t *wear;
+    size_t array_len, wear_len, frame_len, out_len, pattern_len;
     uint32_t tail, wp, us;
 };
 

@@ -16,6 +16,7 @@ frame_call empty_frame;
 wait_call empty_wait;
 power_cycle_call empty_power_cycle;
 cut_call empty_cut;
+report_call empty_report;
 
 /* What is called next: its arguments, who it is, and what it has answered. */
 static const struct call *now;
@@ -23,6 +24,7 @@ static frame_call *called_frame;
 static wait_call *called_wait;
 static power_cycle_call *called_power_cycle;
 static cut_call *called_cut;
+static report_call *called_report;
 static uint32_t answered;
 
 /* Lent to the call, which alters it. */
@@ -35,8 +37,8 @@ static void make_frame(void)
 
     answered = called_frame(r->model, r->status_us, r->page_us, r->sector_us, r->block_us, r->chip_us, r->half_us,
                             r->sleep_us, r->wake_us, r->sign_us, state, sizeof state, now->array, now->array_len,
-                            now->frame, now->frame_len, now->tail, now->wp, now->out, now->out_len,
-                            &from, &count, &fold);
+                            now->wear, now->wear_len, now->frame, now->frame_len, now->tail, now->wp,
+                            now->out, now->out_len, &from, &count, &fold);
 }
 
 static void make_wait(void)
@@ -65,10 +67,18 @@ static void make_cut(void)
                           now->pattern, now->pattern_len);
 }
 
+static void make_report(void)
+{
+    uint64_t total;
+    uint32_t smallest, largest, sector, mean, remainder;
+
+    answered = called_report(now->wear, now->wear_len, &total, &smallest, &largest, &sector, &mean, &remainder);
+}
+
 /* From the top of the painted stack to the deepest byte that the call has written. */
 static size_t depth(uint8_t paint)
 {
-    static void (*const makes[KINDS])(void) = {make_frame, make_wait, make_power_cycle, make_cut};
+    static void (*const makes[KINDS])(void) = {make_frame, make_wait, make_power_cycle, make_cut, make_report};
     static ucontext_t here, there;
     static struct lent stack;
     uint8_t *deepest;
@@ -108,11 +118,13 @@ size_t stack_of(const struct call *c, uint32_t *answer)
     called_wait = empty_wait;
     called_power_cycle = empty_power_cycle;
     called_cut = empty_cut;
+    called_report = empty_report;
     empty = deepest();
     called_frame = gwo_frame;
     called_wait = gwo_wait;
     called_power_cycle = gwo_power_cycle;
     called_cut = gwo_cut;
+    called_report = gwo_wear_report;
     whole = deepest();
     *answer = answered;
     return whole - empty;

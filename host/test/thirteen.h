@@ -14,6 +14,7 @@ struct run {
     size_t n;
     int cut;          /* the power is cut before the first call */
     int shorter;      /* the number of the wait that is one short, 0: none */
+    int full;         /* the count of the addressed sector is at its highest */
 };
 
 /* How many there were. */
@@ -22,12 +23,12 @@ extern unsigned long runs;
 /* A state that runs no operation, unless one is put into it. */
 void put_state(uint8_t *p, unsigned status, unsigned asleep, unsigned config, uint32_t busy, uint32_t settling);
 
-/* The array of a model: random cells. */
+/* The array of a model, random cells; and its wear table, random counts, many of them at their highest. */
 void lend_array(uint32_t model);
 
 /*
  * The thirteen calls as they are, with each of the five waits one microsecond shorter (where 16 MiB are being erased
- * the first alone), and after a cut.
+ * the first alone), with a full count, and after a cut.
  */
 void run_all_ways(struct run r);
 

@@ -1,6 +1,6 @@
 /*
- * The thirteen calls: what each is answered, and what it leaves in the state, the output and the array. The array that
- * counts is the one after the first wait, which may end what the chip was doing.
+ * The thirteen calls: what each is answered, and what it leaves in the state, the output, the array and the wear table.
+ * The array that matters is the one after the first wait, which may end what the chip was doing.
  */
 #include "thirteen.h"
 
@@ -16,6 +16,8 @@ unsigned long runs;
 static struct lent lent_state, lent_frame, lent_out, lent_numbers, lent_pattern;
 static uint8_t *array;
 static uint8_t cells_before[GWO_MODEL_3_LENGTH], cells_wanted[GWO_MODEL_3_LENGTH];
+static struct lent lent_wear;
+static uint32_t counts_before[GWO_MODEL_3_SECTORS], counts_wanted[GWO_MODEL_3_SECTORS];
 static const struct run *now;
 static int call_number;
 
@@ -74,6 +76,24 @@ static void state_is(unsigned status, unsigned asleep, uint32_t busy, uint32_t s
     state_with(config_then, status, asleep, busy, settling);
 }
 
+/* So many counts as the chip has sectors; the last of them ends at unmapped memory. */
+static uint32_t *counts(void)
+{
+    return (uint32_t *)(void *)last_of(&lent_wear, gwo_sector_count(now->record.model) * sizeof(uint32_t));
+}
+
+static void same_counts(void)
+{
+    size_t n = gwo_sector_count(now->record.model), i = 0;
+    const uint32_t *got = counts();
+
+    if (agree((const uint8_t *)got, (const uint8_t *)counts_wanted, n * sizeof *got))
+        return;
+    while (got[i] == counts_wanted[i])
+        i++;
+    wrong("a count is", got[i], counts_wanted[i]);
+}
+
 /* A frame with WP# high and no tail; it drives count bytes from position 4, or nothing, and never folds. */
 static void frame_answers(uint32_t number, const uint8_t *frame, size_t n, const uint8_t *driven, size_t count)
 {
@@ -88,9 +108,9 @@ static void frame_answers(uint32_t number, const uint8_t *frame, size_t n, const
     numbers[0] = numbers[1] = numbers[2] = UNSET;
     rig_calls++;
     call_number++;
-    got = gwo_record_frame_fold(&now->record, last_of(&lent_state, STATE), STATE, array,
-                                gwo_array_length(now->record.model), in, n, 0, 1, out, n, &numbers[0], &numbers[1],
-                                &numbers[2]);
+    got = gwo_record_frame_wear(&now->record, last_of(&lent_state, STATE), STATE, array,
+                                gwo_array_length(now->record.model), counts(), gwo_sector_count(now->record.model),
+                                in, n, 0, 1, out, n, &numbers[0], &numbers[1], &numbers[2]);
     if (got != number)
         wrong("the answer is", got, number);
     if (numbers[0] != (count > 0 ? 4 : 0) || numbers[1] != count)
@@ -229,17 +249,25 @@ static uint32_t inside(void)
     return now->address % (uint32_t)gwo_array_length(now->record.model);
 }
 
-/* Calls 8 and 9: the erase and its wait. */
-static void erase(void)
+/* Calls 8 and 9: the erase, which is counted at once, and its wait. A full count refuses it, the chip as it was. */
+static int erased(void)
 {
     uint8_t frame[4];
 
-    frame_answers(0, frame, addressed(frame, 0x20, NULL, 0), NULL, 0);
+    frame_answers(now->full ? 25 : 0, frame, addressed(frame, 0x20, NULL, 0), NULL, 0);
+    if (!now->full)
+        counts_wanted[inside() / SECTOR]++;
+    same_counts();
+    if (now->full) {
+        state_is(2, 0, 0, 0);
+        return 0;
+    }
     put_operation(running, 0x20, inside());
     state_is(2, 0, now->record.sector_us, 0);
     wait_for(now->record.sector_us);
     if (now->shorter != 9)
         memset(cells_wanted + inside() / SECTOR * SECTOR, 0xFF, SECTOR);
+    return 1;
 }
 
 /* Calls 11 and 12: the program and its wait. */
@@ -279,8 +307,7 @@ static void thirteen_calls(void)
     unprotect();
     if (!enabled_after(6, status_then & KEPT))
         return;
-    erase();
-    if (!enabled_after(9, 0))
+    if (!erased() || !enabled_after(9, 0))
         return;
     program();
     read_back();
@@ -314,6 +341,17 @@ static void put_back(size_t at, size_t n)
     memcpy(cells_wanted + at, cells_before + at, n);
 }
 
+/* All counts as they were; that of the addressed sector is low, any, one below its highest, or at it. */
+static void lay_counts(void)
+{
+    const uint32_t low[4] = {0, 1, (uint32_t)runs * 2654435u % 4000000000u, GWO_WEAR_TOP - 1};
+    size_t bytes = gwo_sector_count(now->record.model) * sizeof(uint32_t);
+
+    memcpy(counts_wanted, counts_before, bytes);
+    counts_wanted[inside() / SECTOR] = now->full ? GWO_WEAR_TOP : low[runs / 3 % 4];
+    memcpy(counts(), counts_wanted, bytes);
+}
+
 /* Around the calls' address and, where that is not enough, around the unit of what was running. */
 static void same_cells(size_t at, size_t unit)
 {
@@ -337,14 +375,25 @@ static void run_once(struct run r)
     call_number = 0;
     runs++;
     memcpy(last_of(&lent_state, STATE), r.before, STATE);
+    lay_counts();
     if (r.cut)
         cut(&r);
     thirteen_calls();
     same_cells(at, unit);
+    same_counts();
     if (failures() != before)
         at = 0, unit = size;
     put_back(inside() / SECTOR * SECTOR, SECTOR);
     put_back(at, unit);
+}
+
+/* A third of them are full. */
+static void draw_counts(struct dice *dice)
+{
+    size_t i;
+
+    for (i = 0; i < GWO_MODEL_3_SECTORS; i++)
+        counts_before[i] = chance(dice, 33) ? GWO_WEAR_TOP : (uint32_t)roll(dice);
 }
 
 void lend_array(uint32_t model)
@@ -357,8 +406,10 @@ void lend_array(uint32_t model)
         lent_frame = lend(MOST_FRAME);
         lent_out = lend(MOST_FRAME);
         lent_numbers = lend(NUMBERS);
+        lent_wear = lend(sizeof counts_before);
         lent_pattern = lend(GWO_MODEL_3_LENGTH);
         scatter(&dice, lent_pattern.start, GWO_MODEL_3_LENGTH);
+        draw_counts(&dice);
     }
     array = lend(size).start;
     scatter(&dice, cells_before, size);
@@ -378,11 +429,17 @@ void run_all_ways(struct run r)
     size_t i, ways = unit_of(r.record.model, r.before[COMMAND_AT]) < GWO_MODEL_3_LENGTH ? 6 : 2;
 
     r.cut = 0;
+    r.full = 0;
     for (i = 0; i < ways; i++) {
         r.shorter = shorter[i];
         run_once(r);
     }
-    r.cut = 1;
     r.shorter = 0;
+    if (ways == 6) {
+        r.full = 1;
+        run_once(r);
+    }
+    r.cut = 1;
+    r.full = 0;
     run_once(r);
 }

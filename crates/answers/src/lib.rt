@@ -20,6 +20,8 @@ pub enum Answer {
     NotEnabled,
     Locked,
     Protected,
+    BadTable,
+    WornOut,
 }
 
 // The answer's number in the table of refusals.
@@ -43,6 +45,8 @@ pub fn number_of(a: Answer) -> u32
         Answer::Protected => 17,
         Answer::Settling => 22,
         Answer::BadPattern => 23,
+        Answer::BadTable => 24,
+        Answer::WornOut => 25,
     }
 }
 

@@ -1,7 +1,7 @@
 -- Laws of single calls of the model, and how calls compose. Assumes nothing.
 use mathlib.Core.Path.{_≡_, refl, sym, ap, subst, _∙_}
 use mathlib.Core.Bool.{Bool, true, false, not, _&&_, _||_, and-false, cond}
-use mathlib.Core.List.{List, [], _∷_, _++_}
+use mathlib.Core.List.{List, [], _∷_, _++_, append-assoc}
 use mathlib.Core.Logic.{⊎-elim}
 use Prim.Native.Nat.{ℕ, suc, _+_, _-_, _≤_, _<_}
 use native.Mathlib.Omega.{arith}
@@ -15,7 +15,7 @@ use Rattle.models.specs.Models.{modelOf, addressOf, rangeOf, isProtected}
 use Rattle.models.proofs.Rules.{range-none, half-erase-model}
 use Rattle.parts.proofs.Lay.{lay-none}
 use Rattle.answers.specs.Answers.{isDone}
-use Rattle.commands.specs.Commands.{decodeOf, traitsOf, lengthOk}
+use Rattle.commands.specs.Commands.{decodeOf, traitsOf, lengthOk, operationOf}
 use Rattle.commands.specs.declared.Command.{Command}
 use Rattle.commands.specs.declared.Command.the-variants.{EraseHalf, Read, Program, WriteStatus}
 use Rattle.commands.proofs.Rows.{between, least-on, one-byte-write}
@@ -29,12 +29,13 @@ use Rattle.ladder.specs.Ladder.{ladder, refusalOf, asks}
 use Rattle.ladder.specs.declared.Head.{Head}
 use Rattle.ladder.proofs.Passed.{Clear, unrefused}
 use Rattle.commands.specs.declared.Operation.the-variants.{ErasesSector, ErasesHalf, ErasesBlock, ErasesChip}
+use Rattle.counts.specs.Counts.{covered, wornOut, counted}
 use Rattle.effects.specs.Effects.{Effect, stateOnly, turned, started, shown, drives, latched, dozing, writeEnable, writeStatus, eraseStarts, programPage, readFrom, wake, wakingTime, sleep}
 use Rattle.chip.specs.Frames.{Sent, headFor, headOf, acceptedOf, refusedOf, frameOf}
 use Rattle.time.specs.Time.{Aftermath, later, waited, waitOf}
 use Rattle.time.proofs.Time.{Fit, fit-taken}
 use Rattle.operations.specs.Operations.{finished}
-use Rattle.calls.specs.Calls.{Call, sends, waits, cycles, cuts, ours, left, after, answer, run, answers, Bench, Roomy, frame}
+use Rattle.calls.specs.Calls.{Call, sends, waits, cycles, cuts, ours, left, after, answer, run, answers, tables, Bench, Roomy, Tabled, frame}
 use Rattle.calls.proofs.Valid.{call-fine, call-length}
 
 -- a busy chip does not settle
@@ -46,24 +47,25 @@ module _ (rec : Record) (x : Chip) (b : Bench rec x) (f : Sent) where
   abbrev h : Head
   h = headOf rec x f
 
-  -- the first five rows of the table ask for a bench, a short enough frame and room; where the others stop nothing it is accepted
-  pub taken : length (f .bytes) ≤ 65541 → f .tail ≤ 7 → Roomy f → Clear (drop 5 (ladder rec (x .state) h (asks rec h)))
-      → frameOf rec x f ≡ acceptedOf rec x (h .command) (h .address) (f .bytes) (f .out)
+  -- the first six rows of the table ask for a bench, a table, a short enough frame and room; where the others stop nothing it is accepted
+  pub taken : length (f .bytes) ≤ 65541 → f .tail ≤ 7 → Roomy f → Tabled rec f → Clear (drop 6 (ladder rec (x .state) h (asks rec h)))
+      → frameOf rec x f ≡ acceptedOf rec x (h .command) (h .address) (f .bytes) (f .wear) (f .out)
   unfolding frameOf refusalOf headFor
-  taken l t r c =
+  taken l t r w c =
       let long : (ltb 65541 (length (f .bytes)) || ltb 7 (f .tail)) ≡ false = rw (le-ltb 65541 (length (f .bytes)) l, le-ltb 7 (f .tail) t) in
       let valid-page : (stateOk rec (x .state) && pageOk (rec .model) (x .state) (x .page)) ≡ true = rw (b .valid, b .page) in
       rw (unrefused (ladder rec (x .state) h (asks rec h))
-      (ap not (b .right), (ap not (eq-eqb (length (x .cells)) (modelOf (rec .model) .length) (b .whole)), (ap not valid-page, (long, (le-ltb (length (f .out)) (length (f .bytes)) r, c))))))
+      (ap not (b .right), (ap not (eq-eqb (length (x .cells)) (modelOf (rec .model) .length) (b .whole)), (ap not (eq-eqb (length (f .wear)) (modelOf (rec .model) .sectors) w), (ap not valid-page, (long, (le-ltb (length (f .out)) (length (f .bytes)) r, c)))))))
 
   -- on a busy chip it is answered 11, unless its command is taken while busy
-  busy-refusal : 0 < x .state .busy → 0 < length (f .bytes) → length (f .bytes) ≤ 65541 → f .tail ≤ 7 → Roomy f
+  busy-refusal : 0 < x .state .busy → 0 < length (f .bytes) → length (f .bytes) ≤ 65541 → f .tail ≤ 7 → Roomy f → Tabled rec f
       → traitsOf (modelOf (rec .model) .register) (decodeOf (rec .model) (getD (f .bytes) 0 0)) .«while_busy» ≡ false → refusalOf rec (x .state) h ≡ Busy
   unfolding refusalOf headFor
-  busy-refusal busy some l t r w =
+  busy-refusal busy some l t r k w =
       rw (
         b .right,
         eq-eqb (length (x .cells)) (modelOf (rec .model) .length) (b .whole),
+        eq-eqb (length (f .wear)) (modelOf (rec .model) .sectors) k,
         b .valid,
         b .page,
         le-ltb 65541 (length (f .bytes)) l,
@@ -76,12 +78,13 @@ module _ (rec : Record) (x : Chip) (b : Bench rec x) (f : Sent) where
       )
 
   -- on a settling chip it is answered 22, whatever its command
-  settling-refusal : 0 < x .state .settle → 0 < length (f .bytes) → length (f .bytes) ≤ 65541 → f .tail ≤ 7 → Roomy f → refusalOf rec (x .state) h ≡ Settling
+  settling-refusal : 0 < x .state .settle → 0 < length (f .bytes) → length (f .bytes) ≤ 65541 → f .tail ≤ 7 → Roomy f → Tabled rec f → refusalOf rec (x .state) h ≡ Settling
   unfolding refusalOf headFor
-  settling-refusal settling some l t r =
+  settling-refusal settling some l t r k =
       rw (
         b .right,
         eq-eqb (length (x .cells)) (modelOf (rec .model) .length) (b .whole),
+        eq-eqb (length (f .wear)) (modelOf (rec .model) .sectors) k,
         b .valid,
         b .page,
         le-ltb 65541 (length (f .bytes)) l,
@@ -97,20 +100,20 @@ pub refused-frame : (rec : Record) (x : Chip) (f : Sent) (a : Answer) → refusa
 unfolding frameOf
 refused-frame rec x f a e d = rw (e, d)
 
-pub while-busy : (rec : Record) (x : Chip) (b : Bench rec x) (bytes out : List ℕ) → 0 < x .state .busy
-    → 0 < length bytes → length bytes ≤ 65541 → Roomy (frame bytes out) → traitsOf (modelOf (rec .model) .register) (decodeOf (rec .model) (getD bytes 0 0)) .«while_busy» ≡ false
-    → answer ours rec [] (sends (frame bytes out)) x ≡ Busy
+pub while-busy : (rec : Record) (x : Chip) (b : Bench rec x) (bytes wear out : List ℕ) → 0 < x .state .busy
+    → 0 < length bytes → length bytes ≤ 65541 → Roomy (frame bytes wear out) → Tabled rec (frame bytes wear out) → traitsOf (modelOf (rec .model) .register) (decodeOf (rec .model) (getD bytes 0 0)) .«while_busy» ≡ false
+    → answer ours rec [] (sends (frame bytes wear out)) x ≡ Busy
 unfolding answer
-while-busy rec x b bytes out busy some l r w =
+while-busy rec x b bytes wear out busy some l r k w =
     ap (λ (e : Effect). e .reply .answer)
-    (refused-frame rec x (frame bytes out) Busy (busy-refusal rec x b (frame bytes out) busy some l (lit≤ tt) r w) refl)
+    (refused-frame rec x (frame bytes wear out) Busy (busy-refusal rec x b (frame bytes wear out) busy some l (lit≤ tt) r k w) refl)
 
-pub while-settling : (rec : Record) (x : Chip) (b : Bench rec x) (bytes out : List ℕ) → 0 < x .state .settle
-    → 0 < length bytes → length bytes ≤ 65541 → Roomy (frame bytes out) → answer ours rec [] (sends (frame bytes out)) x ≡ Settling
+pub while-settling : (rec : Record) (x : Chip) (b : Bench rec x) (bytes wear out : List ℕ) → 0 < x .state .settle
+    → 0 < length bytes → length bytes ≤ 65541 → Roomy (frame bytes wear out) → Tabled rec (frame bytes wear out) → answer ours rec [] (sends (frame bytes wear out)) x ≡ Settling
 unfolding answer
-while-settling rec x b bytes out settling some l r =
+while-settling rec x b bytes wear out settling some l r k =
     ap (λ (e : Effect). e .reply .answer)
-    (refused-frame rec x (frame bytes out) Settling (settling-refusal rec x b (frame bytes out) settling some l (lit≤ tt) r) refl)
+    (refused-frame rec x (frame bytes wear out) Settling (settling-refusal rec x b (frame bytes wear out) settling some l (lit≤ tt) r k) refl)
 
 -- at BP 0 no block is protected
 pub unprotected : (n : ℕ) (tb : Bool) (b : Block) → isProtected n tb 0 b ≡ false
@@ -126,103 +129,103 @@ decodes-half : (n : ℕ) → n ≡ 3 → decodeOf n 0x52 ≡ EraseHalf
 unfolding decodeOf
 decodes-half n e = rw e
 
--- the last nine tests of the table, by name
-pub tests : {a q b c d e f g h : Bool} → a ≡ false → q ≡ false → b ≡ false → c ≡ false → d ≡ false → e ≡ false → f ≡ false → g ≡ false → h ≡ false
-    → (a ≡ false) × ((q ≡ false) × ((b ≡ false) × ((c ≡ false) × ((d ≡ false) × ((e ≡ false) × ((f ≡ false) × ((g ≡ false) × ((h ≡ false) × Unit {0}))))))))
-tests a q b c d e f g h = (a, (q, (b, (c, (d, (e, (f, (g, (h, tt)))))))))
+-- the last ten tests of the table, by name
+pub tests : {a q b c d e f g h w : Bool} → a ≡ false → q ≡ false → b ≡ false → c ≡ false → d ≡ false → e ≡ false → f ≡ false → g ≡ false → h ≡ false → w ≡ false
+    → (a ≡ false) × ((q ≡ false) × ((b ≡ false) × ((c ≡ false) × ((d ≡ false) × ((e ≡ false) × ((f ≡ false) × ((g ≡ false) × ((h ≡ false) × ((w ≡ false) × Unit {0})))))))))
+tests a q b c d e f g h w = (a, (q, (b, (c, (d, (e, (f, (g, (h, (w, tt))))))))))
 
 -- ---- the frames of the list
-module _ (rec : Record) (x : Chip) (b : Bench rec x) (z : x .state .busy ≡ 0) (q : x .state .settle ≡ 0) (out : List ℕ) where
-  pub wake-taken : 1 ≤ length out → frameOf rec x (frame (0xAB ∷ []) out) ≡ stateOnly Done (dozing (x .state) false (cond (x .state .asleep) (rec .wake) 0)) (x .page) out
-  unfolding acceptedOf decodeOf traitsOf headFor lengthOk wake wakingTime drives
+module _ (rec : Record) (x : Chip) (b : Bench rec x) (z : x .state .busy ≡ 0) (q : x .state .settle ≡ 0) (wear out : List ℕ) (k : length wear ≡ modelOf (rec .model) .sectors) where
+  pub wake-taken : 1 ≤ length out → frameOf rec x (frame (0xAB ∷ []) wear out) ≡ stateOnly Done (dozing (x .state) false (cond (x .state .asleep) (rec .wake) 0)) (x .page) wear out
+  unfolding acceptedOf decodeOf traitsOf headFor lengthOk wake wakingTime drives covered wornOut
   wake-taken r =
-      taken rec x b (frame (0xAB ∷ []) out) (lit≤ tt) (lit≤ tt) r
-      (tests refl (rw (eq-eqb (x .state .settle) 0 q)) (rw (eq-eqb (x .state .busy) 0 z)) (and-false (x .state .asleep)) refl refl refl refl refl)
+      taken rec x b (frame (0xAB ∷ []) wear out) (lit≤ tt) (lit≤ tt) r k
+      (tests refl (rw (eq-eqb (x .state .settle) 0 q)) (rw (eq-eqb (x .state .busy) 0 z)) (and-false (x .state .asleep)) refl refl refl refl refl refl)
       ∙ rw (lay-none out 4)
 
-  pub sign-taken : 5 ≤ length out → frameOf rec x (frame (0xAB ∷ 0 ∷ 0 ∷ 0 ∷ 0 ∷ []) out)
-      ≡ shown (x .page) (wake rec (x .state) (0xAB ∷ 0 ∷ 0 ∷ 0 ∷ 0 ∷ []) out)
-  unfolding acceptedOf decodeOf traitsOf headFor lengthOk
+  pub sign-taken : 5 ≤ length out → frameOf rec x (frame (0xAB ∷ 0 ∷ 0 ∷ 0 ∷ 0 ∷ []) wear out)
+      ≡ shown (x .page) wear (wake rec (x .state) (0xAB ∷ 0 ∷ 0 ∷ 0 ∷ 0 ∷ []) out)
+  unfolding acceptedOf decodeOf traitsOf headFor lengthOk covered wornOut
   sign-taken r =
-      taken rec x b (frame (0xAB ∷ 0 ∷ 0 ∷ 0 ∷ 0 ∷ []) out) (lit≤ tt) (lit≤ tt) r
-      (tests refl (rw (eq-eqb (x .state .settle) 0 q)) (rw (eq-eqb (x .state .busy) 0 z)) (and-false (x .state .asleep)) refl refl refl refl refl)
+      taken rec x b (frame (0xAB ∷ 0 ∷ 0 ∷ 0 ∷ 0 ∷ []) wear out) (lit≤ tt) (lit≤ tt) r k
+      (tests refl (rw (eq-eqb (x .state .settle) 0 q)) (rw (eq-eqb (x .state .busy) 0 z)) (and-false (x .state .asleep)) refl refl refl refl refl refl)
 
   pub sleep-taken : x .state .asleep ≡ false → 1 ≤ length out
-      → frameOf rec x (frame (0xB9 ∷ []) out) ≡ stateOnly Done (dozing (x .state) true (rec .sleep)) (x .page) out
-  unfolding acceptedOf sleep decodeOf traitsOf headFor lengthOk
+      → frameOf rec x (frame (0xB9 ∷ []) wear out) ≡ stateOnly Done (dozing (x .state) true (rec .sleep)) (x .page) wear out
+  unfolding acceptedOf sleep decodeOf traitsOf headFor lengthOk covered wornOut
   sleep-taken a r =
-      taken rec x b (frame (0xB9 ∷ []) out) (lit≤ tt) (lit≤ tt) r
-      (tests refl (rw (eq-eqb (x .state .settle) 0 q)) (rw (eq-eqb (x .state .busy) 0 z)) (rw a) refl refl refl refl refl)
+      taken rec x b (frame (0xB9 ∷ []) wear out) (lit≤ tt) (lit≤ tt) r k
+      (tests refl (rw (eq-eqb (x .state .settle) 0 q)) (rw (eq-eqb (x .state .busy) 0 z)) (rw a) refl refl refl refl refl refl)
 
   pub enable-taken : x .state .asleep ≡ false → 1 ≤ length out
-      → frameOf rec x (frame (0x06 ∷ []) out) ≡ stateOnly Done (latched (x .state) true) (x .page) out
-  unfolding acceptedOf writeEnable decodeOf traitsOf headFor lengthOk
+      → frameOf rec x (frame (0x06 ∷ []) wear out) ≡ stateOnly Done (latched (x .state) true) (x .page) wear out
+  unfolding acceptedOf writeEnable decodeOf traitsOf headFor lengthOk covered wornOut
   enable-taken a r =
-      taken rec x b (frame (0x06 ∷ []) out) (lit≤ tt) (lit≤ tt) r
-      (tests refl (rw (eq-eqb (x .state .settle) 0 q)) (rw (eq-eqb (x .state .busy) 0 z)) (rw a) refl refl refl refl refl)
+      taken rec x b (frame (0x06 ∷ []) wear out) (lit≤ tt) (lit≤ tt) r k
+      (tests refl (rw (eq-eqb (x .state .settle) 0 q)) (rw (eq-eqb (x .state .busy) 0 z)) (rw a) refl refl refl refl refl refl)
 
   pub write-taken : (v : ℕ) → x .state .asleep ≡ false → x .state .wel ≡ true → 2 ≤ length out
-      → frameOf rec x (frame (0x01 ∷ v ∷ []) out) ≡ started out (writeStatus rec (x .state) (x .page) (0x01 ∷ v ∷ []))
-  unfolding acceptedOf decodeOf traitsOf headFor
+      → frameOf rec x (frame (0x01 ∷ v ∷ []) wear out) ≡ started wear out (writeStatus rec (x .state) (x .page) (0x01 ∷ v ∷ []))
+  unfolding acceptedOf decodeOf traitsOf headFor covered wornOut
   write-taken v a w r =
       let has = modelOf (rec .model) .register in
-      taken rec x b (frame (0x01 ∷ v ∷ []) out) (lit≤ tt) (lit≤ tt) r
-      (tests refl (rw (eq-eqb (x .state .settle) 0 q)) (rw (eq-eqb (x .state .busy) 0 z)) (rw a) refl (ap not (between (traitsOf has WriteStatus) 2 (lit≤ tt) (one-byte-write has))) (rw w) (and-false (x .state .srwd)) refl)
+      taken rec x b (frame (0x01 ∷ v ∷ []) wear out) (lit≤ tt) (lit≤ tt) r k
+      (tests refl (rw (eq-eqb (x .state .settle) 0 q)) (rw (eq-eqb (x .state .busy) 0 z)) (rw a) refl (ap not (between (traitsOf has WriteStatus) 2 (lit≤ tt) (one-byte-write has))) (rw w) (and-false (x .state .srwd)) refl refl)
 
   module _ (high middle low : ℕ) where
     abbrev pub to : Address
     to = addressOf (rec .model) high middle low
 
-    pub erase-taken : x .state .asleep ≡ false → x .state .wel ≡ true → x .state .bp ≡ 0 → 4 ≤ length out
-        → frameOf rec x (frame (0x20 ∷ high ∷ middle ∷ low ∷ []) out) ≡ turned (x .page) out (eraseStarts rec (x .state) ErasesSector (to .0) (0x20 ∷ high ∷ middle ∷ low ∷ []))
-    unfolding acceptedOf decodeOf traitsOf headFor lengthOk tbOf
-    erase-taken a w p r =
-        taken rec x b (frame (0x20 ∷ high ∷ middle ∷ low ∷ []) out) (lit≤ tt) (lit≤ tt) r
-        (tests refl (rw (eq-eqb (x .state .settle) 0 q)) (rw (eq-eqb (x .state .busy) 0 z)) (rw a) refl refl (rw w) refl (rw (p, unprotected (rec .model) (tbOf (x .state)) (blockOf to))))
+    pub erase-taken : x .state .asleep ≡ false → x .state .wel ≡ true → x .state .bp ≡ 0 → 4 ≤ length out → wornOut ErasesSector (to .0) wear ≡ false
+        → frameOf rec x (frame (0x20 ∷ high ∷ middle ∷ low ∷ []) wear out) ≡ turned (x .page) (counted ErasesSector (to .0) wear) out (eraseStarts rec (x .state) ErasesSector (to .0) (0x20 ∷ high ∷ middle ∷ low ∷ []))
+    unfolding acceptedOf decodeOf traitsOf headFor lengthOk tbOf covered wornOut
+    erase-taken a w p r n =
+        taken rec x b (frame (0x20 ∷ high ∷ middle ∷ low ∷ []) wear out) (lit≤ tt) (lit≤ tt) r k
+        (tests refl (rw (eq-eqb (x .state .settle) 0 q)) (rw (eq-eqb (x .state .busy) 0 z)) (rw a) refl refl (rw w) refl (rw (p, unprotected (rec .model) (tbOf (x .state)) (blockOf to))) n)
 
     pub program-taken : (sent : List ℕ) → x .state .asleep ≡ false → x .state .wel ≡ true → x .state .bp ≡ 0
-        → 1 ≤ length sent → 4 + length sent ≤ 65541 → Roomy (frame (0x02 ∷ high ∷ middle ∷ low ∷ sent) out)
-        → frameOf rec x (frame (0x02 ∷ high ∷ middle ∷ low ∷ sent) out)
-        ≡ started out (programPage rec (x .state) (x .page) to (0x02 ∷ high ∷ middle ∷ low ∷ sent))
-    unfolding acceptedOf decodeOf traitsOf headFor lengthOk tbOf
+        → 1 ≤ length sent → 4 + length sent ≤ 65541 → Roomy (frame (0x02 ∷ high ∷ middle ∷ low ∷ sent) wear out)
+        → frameOf rec x (frame (0x02 ∷ high ∷ middle ∷ low ∷ sent) wear out)
+        ≡ started wear out (programPage rec (x .state) (x .page) to (0x02 ∷ high ∷ middle ∷ low ∷ sent))
+    unfolding acceptedOf decodeOf traitsOf headFor lengthOk tbOf covered wornOut
     program-taken sent a w p n l r =
-        taken rec x b (frame (0x02 ∷ high ∷ middle ∷ low ∷ sent) out) (omega arith) (lit≤ tt) r
+        taken rec x b (frame (0x02 ∷ high ∷ middle ∷ low ∷ sent) wear out) (omega arith) (lit≤ tt) r k
         (tests (eqb·suc-zero (suc (suc (suc (length sent))))) (rw (eq-eqb (x .state .settle) 0 q)) (rw (eq-eqb (x .state .busy) 0 z)) (rw a) refl (ap not (between (traitsOf (modelOf (rec .model) .register) Program) (suc (suc (suc (suc (length sent))))) (omega arith) (omega arith))) (rw w) refl
-        (rw (p, unprotected (rec .model) (tbOf (x .state)) (blockOf to))))
+        (rw (p, unprotected (rec .model) (tbOf (x .state)) (blockOf to))) refl)
 
-    pub read-taken : (more : List ℕ) → x .state .asleep ≡ false → 4 + length more ≤ 65541 → Roomy (frame (0x03 ∷ high ∷ middle ∷ low ∷ more) out)
-        → frameOf rec x (frame (0x03 ∷ high ∷ middle ∷ low ∷ more) out)
-        ≡ shown (x .page) (readFrom 4 (x .state) (x .cells) to (0x03 ∷ high ∷ middle ∷ low ∷ more) out)
-    unfolding acceptedOf decodeOf traitsOf headFor lengthOk
+    pub read-taken : (more : List ℕ) → x .state .asleep ≡ false → 4 + length more ≤ 65541 → Roomy (frame (0x03 ∷ high ∷ middle ∷ low ∷ more) wear out)
+        → frameOf rec x (frame (0x03 ∷ high ∷ middle ∷ low ∷ more) wear out)
+        ≡ shown (x .page) wear (readFrom 4 (x .state) (x .cells) to (0x03 ∷ high ∷ middle ∷ low ∷ more) out)
+    unfolding acceptedOf decodeOf traitsOf headFor lengthOk covered wornOut
     read-taken more a l r =
-        taken rec x b (frame (0x03 ∷ high ∷ middle ∷ low ∷ more) out) (omega arith) (lit≤ tt) r
-        (tests (eqb·suc-zero (suc (suc (suc (length more))))) (rw (eq-eqb (x .state .settle) 0 q)) (rw (eq-eqb (x .state .busy) 0 z)) (rw a) refl (ap not (least-on (traitsOf (modelOf (rec .model) .register) Read) (suc (suc (suc (suc (length more))))) 0 (omega arith))) refl refl refl)
+        taken rec x b (frame (0x03 ∷ high ∷ middle ∷ low ∷ more) wear out) (omega arith) (lit≤ tt) r k
+        (tests (eqb·suc-zero (suc (suc (suc (length more))))) (rw (eq-eqb (x .state .settle) 0 q)) (rw (eq-eqb (x .state .busy) 0 z)) (rw a) refl (ap not (least-on (traitsOf (modelOf (rec .model) .register) Read) (suc (suc (suc (suc (length more))))) 0 (omega arith))) refl refl refl refl)
 
     -- the other operations, for a chip that waits too short a time after them
-    pub half-taken : modelOf (rec .model) .«half_erase» ≡ true → x .state .asleep ≡ false → x .state .wel ≡ true → x .state .bp ≡ 0 → 4 ≤ length out
-        → frameOf rec x (frame (0x52 ∷ high ∷ middle ∷ low ∷ []) out) ≡ turned (x .page) out (eraseStarts rec (x .state) ErasesHalf (to .0) (0x52 ∷ high ∷ middle ∷ low ∷ []))
-    unfolding acceptedOf traitsOf headFor lengthOk tbOf
-    half-taken m a w p r =
-        let sent : Sent = frame (0x52 ∷ high ∷ middle ∷ low ∷ []) out in
-        let k : decodeOf (rec .model) 0x52 ≡ EraseHalf = decodes-half (rec .model) (half-erase-model (rec .model) m) in
-        taken rec x b sent (lit≤ tt) (lit≤ tt) r
-        (subst (λ (c : Command). Clear (drop 5 (ladder rec (x .state) (headOf rec x sent) (traitsOf (modelOf (rec .model) .register) c)))) (sym k)
-        (tests refl (rw (eq-eqb (x .state .settle) 0 q)) (rw (eq-eqb (x .state .busy) 0 z)) (rw a) refl refl (rw w) refl (rw (p, unprotected (rec .model) (tbOf (x .state)) (blockOf to)))))
-        ∙ ap (λ (c : Command). acceptedOf rec x c to (sent .bytes) out) k
+    pub half-taken : modelOf (rec .model) .«half_erase» ≡ true → x .state .asleep ≡ false → x .state .wel ≡ true → x .state .bp ≡ 0 → 4 ≤ length out → wornOut ErasesHalf (to .0) wear ≡ false
+        → frameOf rec x (frame (0x52 ∷ high ∷ middle ∷ low ∷ []) wear out) ≡ turned (x .page) (counted ErasesHalf (to .0) wear) out (eraseStarts rec (x .state) ErasesHalf (to .0) (0x52 ∷ high ∷ middle ∷ low ∷ []))
+    unfolding acceptedOf traitsOf headFor lengthOk tbOf covered wornOut
+    half-taken m a w p r n =
+        let sent : Sent = frame (0x52 ∷ high ∷ middle ∷ low ∷ []) wear out in
+        let d : decodeOf (rec .model) 0x52 ≡ EraseHalf = decodes-half (rec .model) (half-erase-model (rec .model) m) in
+        taken rec x b sent (lit≤ tt) (lit≤ tt) r k
+        (subst (λ (c : Command). Clear (drop 6 (ladder rec (x .state) (headOf rec x sent) (traitsOf (modelOf (rec .model) .register) c)))) (sym d)
+        (tests refl (rw (eq-eqb (x .state .settle) 0 q)) (rw (eq-eqb (x .state .busy) 0 z)) (rw a) refl refl (rw w) refl (rw (p, unprotected (rec .model) (tbOf (x .state)) (blockOf to))) (ap (λ (c : Command). wornOut (operationOf c) (to .0) wear) d ∙ n)))
+        ∙ ap (λ (c : Command). acceptedOf rec x c to (sent .bytes) wear out) d
 
-    pub block-taken : x .state .asleep ≡ false → x .state .wel ≡ true → x .state .bp ≡ 0 → 4 ≤ length out
-        → frameOf rec x (frame (0xD8 ∷ high ∷ middle ∷ low ∷ []) out) ≡ turned (x .page) out (eraseStarts rec (x .state) ErasesBlock (to .0) (0xD8 ∷ high ∷ middle ∷ low ∷ []))
-    unfolding acceptedOf decodeOf traitsOf headFor lengthOk tbOf
-    block-taken a w p r =
-        taken rec x b (frame (0xD8 ∷ high ∷ middle ∷ low ∷ []) out) (lit≤ tt) (lit≤ tt) r
-        (tests refl (rw (eq-eqb (x .state .settle) 0 q)) (rw (eq-eqb (x .state .busy) 0 z)) (rw a) refl refl (rw w) refl (rw (p, unprotected (rec .model) (tbOf (x .state)) (blockOf to))))
+    pub block-taken : x .state .asleep ≡ false → x .state .wel ≡ true → x .state .bp ≡ 0 → 4 ≤ length out → wornOut ErasesBlock (to .0) wear ≡ false
+        → frameOf rec x (frame (0xD8 ∷ high ∷ middle ∷ low ∷ []) wear out) ≡ turned (x .page) (counted ErasesBlock (to .0) wear) out (eraseStarts rec (x .state) ErasesBlock (to .0) (0xD8 ∷ high ∷ middle ∷ low ∷ []))
+    unfolding acceptedOf decodeOf traitsOf headFor lengthOk tbOf covered wornOut
+    block-taken a w p r n =
+        taken rec x b (frame (0xD8 ∷ high ∷ middle ∷ low ∷ []) wear out) (lit≤ tt) (lit≤ tt) r k
+        (tests refl (rw (eq-eqb (x .state .settle) 0 q)) (rw (eq-eqb (x .state .busy) 0 z)) (rw a) refl refl (rw w) refl (rw (p, unprotected (rec .model) (tbOf (x .state)) (blockOf to))) n)
 
-  pub chip-taken : x .state .asleep ≡ false → x .state .wel ≡ true → x .state .bp ≡ 0 → 1 ≤ length out
-      → frameOf rec x (frame (0xC7 ∷ []) out) ≡ turned (x .page) out (eraseStarts rec (x .state) ErasesChip noAddress (0xC7 ∷ []))
-  unfolding acceptedOf decodeOf traitsOf headFor lengthOk
-  chip-taken a w p r =
-      taken rec x b (frame (0xC7 ∷ []) out) (lit≤ tt) (lit≤ tt) r
-      (tests refl (rw (eq-eqb (x .state .settle) 0 q)) (rw (eq-eqb (x .state .busy) 0 z)) (rw a) refl refl (rw w) refl (rw p))
+  pub chip-taken : x .state .asleep ≡ false → x .state .wel ≡ true → x .state .bp ≡ 0 → 1 ≤ length out → wornOut ErasesChip noAddress wear ≡ false
+      → frameOf rec x (frame (0xC7 ∷ []) wear out) ≡ turned (x .page) (counted ErasesChip noAddress wear) out (eraseStarts rec (x .state) ErasesChip noAddress (0xC7 ∷ []))
+  unfolding acceptedOf decodeOf traitsOf headFor lengthOk covered wornOut
+  chip-taken a w p r n =
+      taken rec x b (frame (0xC7 ∷ []) wear out) (lit≤ tt) (lit≤ tt) r k
+      (tests refl (rw (eq-eqb (x .state .settle) 0 q)) (rw (eq-eqb (x .state .busy) 0 z)) (rw a) refl refl (rw w) refl (rw p) n)
 
 -- ---- one call
 -- our model does not look at the calls seen
@@ -240,10 +243,11 @@ after-any rec seen (waits us) x = refl
 after-any rec seen cycles x = refl
 after-any rec seen (cuts pattern) x = refl
 
--- a call on a bench, answered 0, that leaves a bench
-pub record Step (rec : Record) (c : Call) (x y : Chip) : Type 0 where
+-- a call on a bench, answered 0, that leaves a bench; and the wear table that it leaves, if it is a frame
+pub record Step (rec : Record) (c : Call) (x y : Chip) (ts : List (List ℕ)) : Type 0 where
   pub done : answer ours rec [] c x ≡ Done
   pub leads : after ours rec [] c x ≡ y
+  pub leaves : tables ours rec [] (c ∷ []) x ≡ ts
   pub bench : Bench rec y
 
 fit : {rec : Record} {x : Chip} → Bench rec x → Fit rec x
@@ -261,26 +265,26 @@ module _ (rec : Record) (x : Chip) (b : Bench rec x) where
       subst (Bench rec) e
       (record { right = b .right; whole = call-length rec [] c x ∙ b .whole; valid = valid rec _ (k .sound); page = k .page-data })
 
-  step : (c : Call) (y : Chip) → answer ours rec [] c x ≡ Done → after ours rec [] c x ≡ y → Step rec c x y
-  step c y d e = record { done = d; leads = e; bench = bench-next c y e }
+  step : (c : Call) (y : Chip) (ts : List (List ℕ)) → answer ours rec [] c x ≡ Done → after ours rec [] c x ≡ y → tables ours rec [] (c ∷ []) x ≡ ts → Step rec c x y ts
+  step c y ts d e w = record { done = d; leads = e; leaves = w; bench = bench-next c y e }
 
-  pub sends-to : (f : Sent) (e : Effect) → frameOf rec x f ≡ e → e .reply .answer ≡ Done → Step rec (sends f) x (left x e)
+  pub sends-to : (f : Sent) (e : Effect) → frameOf rec x f ≡ e → e .reply .answer ≡ Done → Step rec (sends f) x (left x e) (e .wear ∷ [])
   unfolding answer after
-  sends-to f e p d = step (sends f) (left x e) (ap (λ (g : Effect). g .reply .answer) p ∙ d) (ap (left x) p)
+  sends-to f e p d = step (sends f) (left x e) (e .wear ∷ []) (ap (λ (g : Effect). g .reply .answer) p ∙ d) (ap (left x) p) (ap (λ (g : Effect). g .wear ∷ []) p)
 
   -- to a chip that the wait is known to lead to
-  pub waits-to : (us : ℕ) (y : Chip) → waited (rec .model) x us ≡ y → Step rec (waits us) x y
+  pub waits-to : (us : ℕ) (y : Chip) → waited (rec .model) x us ≡ y → Step rec (waits us) x y []
   unfolding answer after
   waits-to us y e =
       let k = wait-taken rec x us b in
-      step (waits us) y (ap (λ (f : Aftermath). f .answer) k) (ap (λ (f : Aftermath). f .chip) k ∙ e)
+      step (waits us) y [] (ap (λ (f : Aftermath). f .answer) k) (ap (λ (f : Aftermath). f .chip) k ∙ e) refl
 
   -- a wait that does not run the time out, and one that does
-  pub waits-on : (us : ℕ) → (eqb (x .state .busy) 0 || ltb us (x .state .busy)) ≡ true → Step rec (waits us) x (chipOf (later (x .state) us) (x .page) (x .cells))
+  pub waits-on : (us : ℕ) → (eqb (x .state .busy) 0 || ltb us (x .state .busy)) ≡ true → Step rec (waits us) x (chipOf (later (x .state) us) (x .page) (x .cells)) []
   unfolding waited
   waits-on us t = waits-to us _ (rw t)
 
-  pub waits-out : (us : ℕ) → (eqb (x .state .busy) 0 || ltb us (x .state .busy)) ≡ false → Step rec (waits us) x (finished (rec .model) x)
+  pub waits-out : (us : ℕ) → (eqb (x .state .busy) 0 || ltb us (x .state .busy)) ≡ false → Step rec (waits us) x (finished (rec .model) x) []
   unfolding waited
   waits-out us t = waits-to us _ (rw t)
 
@@ -290,21 +294,22 @@ pub run-bench : (rec : Record) (seen cs : List Call) (x : Chip) → Bench rec x 
 run-bench rec seen [] x b = b
 run-bench rec seen (c ∷ cs) x b = run-bench rec (c ∷ seen) cs (after ours rec seen c x) (bench-next rec x b c _ (sym (after-any rec seen c x)))
 
--- a list of calls, each answered 0, and where it leads
-pub data Goes (rec : Record) : List Call → Chip → Chip → Type 0 where
-  ends : {x : Chip} → Goes rec [] x x
-  goes : {c : Call} {cs : List Call} {x y w : Chip} → Step rec c x y → Goes rec cs y w → Goes rec (c ∷ cs) x w
+-- a list of calls, each answered 0, where it leads, and the wear tables that its frames leave
+pub data Goes (rec : Record) : List Call → Chip → Chip → List (List ℕ) → Type 0 where
+  ends : {x : Chip} → Goes rec [] x x []
+  goes : {c : Call} {cs : List Call} {x y w : Chip} {ts us : List (List ℕ)} → Step rec c x y ts → Goes rec cs y w us → Goes rec (c ∷ cs) x w (ts ++ us)
 
-pub goes-on : {rec : Record} {cs ds : List Call} {x y w : Chip} → Goes rec cs x y → Goes rec ds y w → Goes rec (cs ++ ds) x w
+pub goes-on : {rec : Record} {cs ds : List Call} {x y w : Chip} {ts us : List (List ℕ)} → Goes rec cs x y ts → Goes rec ds y w us → Goes rec (cs ++ ds) x w (ts ++ us)
 goes-on ends h = h
-goes-on (goes a g) h = goes a (goes-on g h)
+goes-on {rec} {ds = ds} {w = v} {us = vs} (goes {c} {cs} {x} {ts = ts} {us = us} a g) h =
+    subst (λ (all : List (List ℕ)). Goes rec (c ∷ (cs ++ ds)) x v all) (sym (append-assoc ts us vs)) (goes a (goes-on g h))
 
-pub goes-run : {rec : Record} {cs : List Call} {x w : Chip} (seen : List Call) → Goes rec cs x w → run ours rec seen cs x ≡ w
+pub goes-run : {rec : Record} {cs : List Call} {x w : Chip} {ts : List (List ℕ)} (seen : List Call) → Goes rec cs x w ts → run ours rec seen cs x ≡ w
 goes-run seen ends = refl
 goes-run {rec} seen (goes {c} {cs} {x} a g) = ap (run ours rec (c ∷ seen) cs) (after-any rec seen c x ∙ a .leads) ∙ goes-run (c ∷ seen) g
 
 -- the answers of the calls, and of one more
-pub goes-then : {rec : Record} {cs : List Call} {x w : Chip} (seen : List Call) (k : Call) → Goes rec cs x w
+pub goes-then : {rec : Record} {cs : List Call} {x w : Chip} {ts : List (List ℕ)} (seen : List Call) (k : Call) → Goes rec cs x w ts
     → answers ours rec seen (cs ++ (k ∷ [])) x ≡ replicate (length cs) Done ++ (answer ours rec [] k w ∷ [])
 goes-then {rec} seen k (ends {x}) = ap (λ (a : Answer). a ∷ []) (answer-any rec seen k x)
 goes-then {rec} seen k (goes {c} {cs} {x} a g) =
@@ -312,10 +317,26 @@ goes-then {rec} seen k (goes {c} {cs} {x} a g) =
     ∙ ap (λ (y : Chip). Done ∷ answers ours rec (c ∷ seen) (cs ++ (k ∷ [])) y) (after-any rec seen c x ∙ a .leads)
     ∙ ap (λ (ds : List Answer). Done ∷ ds) (goes-then (c ∷ seen) k g)
 
-pub goes-answers : {rec : Record} {cs : List Call} {x w : Chip} (seen : List Call) → Goes rec cs x w
+pub goes-answers : {rec : Record} {cs : List Call} {x w : Chip} {ts : List (List ℕ)} (seen : List Call) → Goes rec cs x w ts
     → answers ours rec seen cs x ≡ replicate (length cs) Done
 goes-answers seen ends = refl
 goes-answers {rec} seen (goes {c} {cs} {x} a g) =
     ap (λ (d : Answer). d ∷ answers ours rec (c ∷ seen) cs (after ours rec seen c x)) (answer-any rec seen c x ∙ a .done)
     ∙ ap (λ (y : Chip). Done ∷ answers ours rec (c ∷ seen) cs y) (after-any rec seen c x ∙ a .leads)
     ∙ ap (λ (ds : List Answer). Done ∷ ds) (goes-answers (c ∷ seen) g)
+
+-- the wear tables of the calls: of one, and of those after it
+tables-cons : (rec : Record) (seen cs : List Call) (c : Call) (x : Chip)
+    → tables ours rec seen (c ∷ cs) x ≡ tables ours rec [] (c ∷ []) x ++ tables ours rec (c ∷ seen) cs (after ours rec seen c x)
+tables-cons rec seen cs (sends f) x = refl
+tables-cons rec seen cs (waits us) x = refl
+tables-cons rec seen cs cycles x = refl
+tables-cons rec seen cs (cuts pattern) x = refl
+
+pub goes-tables : {rec : Record} {cs : List Call} {x w : Chip} {ts : List (List ℕ)} (seen : List Call) → Goes rec cs x w ts → tables ours rec seen cs x ≡ ts
+goes-tables seen ends = refl
+goes-tables {rec} seen (goes {c} {cs} {x} {y} {w} {ts} {us} a g) =
+    tables-cons rec seen cs c x
+    ∙ ap (λ (one : List (List ℕ)). one ++ tables ours rec (c ∷ seen) cs (after ours rec seen c x)) (a .leaves)
+    ∙ ap (λ (z : Chip). ts ++ tables ours rec (c ∷ seen) cs z) (after-any rec seen c x ∙ a .leads)
+    ∙ ap (λ (rest : List (List ℕ)). ts ++ rest) (goes-tables (c ∷ seen) g)

@@ -64,18 +64,30 @@ module _ (p : Pod) (rec : Record) where
   answers seen [] x = []
   answers seen (c ∷ cs) x = answer seen c x ∷ answers (c ∷ seen) cs (after seen c x)
 
+  -- the wear tables that the frames of a list leave
+  abbrev pub tables : List Call → List Call → Chip → List (List ℕ)
+  tables seen [] x = []
+  tables seen (sends f ∷ cs) x = p .frame seen rec x f .wear ∷ tables (sends f ∷ seen) cs (after seen (sends f) x)
+  tables seen (waits us ∷ cs) x = tables (waits us ∷ seen) cs (after seen (waits us) x)
+  tables seen (cycles ∷ cs) x = tables (cycles ∷ seen) cs (after seen cycles x)
+  tables seen (cuts pattern ∷ cs) x = tables (cuts pattern ∷ seen) cs (after seen (cuts pattern) x)
+
   -- what a frame does that is sent after a list of calls
   abbrev pub effectAfter : List Call → Chip → Sent → Effect
   effectAfter cs x f = p .frame (saw [] cs) rec (run [] cs x) f
 
 -- ---- the calls of a bench
 -- a frame with WP# high and no tail bits
-abbrev pub frame : List ℕ → List ℕ → Sent
-frame bytes out = sentOf bytes 0 true out
+abbrev pub frame : List ℕ → List ℕ → List ℕ → Sent
+frame bytes wear out = sentOf bytes 0 true wear out
 
 -- an output at least as long as its frame
 abbrev pub Roomy : Sent → Type 0
 Roomy f = length (f .bytes) ≤ length (f .out)
+
+-- a wear table of the right length
+abbrev pub Tabled : Record → Sent → Type 0
+Tabled rec f = length (f .wear) ≡ modelOf (rec .model) .sectors
 
 -- valid record, right array length, valid state, page data that fit it
 pub record Bench (rec : Record) (x : Chip) : Type 0 where

@@ -1,7 +1,7 @@
 -- What the refusals have shown is what the commands ask for. Assumes nothing.
 use mathlib.Core.Path.{_≡_, refl, sym, ap, subst, _∙_}
-use mathlib.Core.Bool.{Bool, true, false, cond}
-use mathlib.Core.List.{List}
+use mathlib.Core.Bool.{Bool, true, false, cond, not}
+use mathlib.Core.List.{List, []}
 use Prim.Native.Nat.{ℕ, _≤_, _<_}
 use native.Mathlib.Nat.{mod-lt}
 use native.Mathlib.Omega.{arith}
@@ -10,23 +10,30 @@ use Rattle.units.specs.declared.Address.{Address}
 use Rattle.models.specs.Models.{modelOf, addressOf}
 use Rattle.models.proofs.Rules.{row-rules, highest-bp}
 use Rattle.answers.specs.Answers.{isDone, saysProtected}
-use Rattle.commands.specs.Commands.{traitsOf, lengthOk, fewest, mostWritten}
+use Rattle.commands.specs.Commands.{traitsOf, lengthOk, fewest, mostWritten, operationOf}
 use Rattle.commands.proofs.Rows.{long-enough, write-length}
 use Rattle.states.specs.declared.Record.{Record}
 use Rattle.commands.specs.declared.Command.{Command}
-use Rattle.commands.specs.declared.Command.the-variants.{Unknown}
+use Rattle.commands.specs.declared.Command.the-variants.{Unknown, WriteEnable, WriteDisable, ReadStatus, ReadConfig, WriteStatus, Read, FastRead, EraseSector, EraseHalf, EraseBlock, EraseChip, Program, ReadId, Wake, ReadMaker, Sleep}
 use Rattle.answers.specs.declared.Answer.{Answer}
+use Rattle.answers.specs.declared.Answer.the-variants.{Done, WornOut}
+use Rattle.commands.specs.declared.Operation.{Operation}
+use Rattle.states.specs.declared.State.{State}
+use Rattle.counts.specs.Counts.{wornOut, counted, InTable}
+use Rattle.counts.proofs.Laws.{in-table}
 use Rattle.states.specs.States.{pageOk, Chip}
 use Rattle.states.proofs.States.{sound, page-length}
 use Rattle.ladder.specs.Ladder.{refusalOf}
-use Rattle.ladder.specs.Stages.{givenOf, saidOf}
-use Rattle.ladder.proofs.Stages.{stops-given, goes-on}
+use Rattle.ladder.specs.Stages.{givenOf, saidOf, lastRow}
+use Rattle.ladder.proofs.Stages.{stops-given, stops-said, goes-on, last-is}
 use Rattle.ladder.specs.declared.Head.{Head}
 use Rattle.ladder.proofs.Passed.{Passed, passed, given-spares, given-page}
 use Rattle.effects.specs.declared.Reply.{Reply}
-use Rattle.effects.specs.Effects.{Effect, Gives, Room, quiet, refusalLeaves}
+use Rattle.effects.specs.Effects.{Effect, Gives, Room, quiet, stateOnly, refusalLeaves}
 use Rattle.effects.proofs.Replies.{leaves-all}
-use Rattle.chip.specs.Frames.{Sent, Ready, Heard, headFor, headOf, acceptedOf, refusedOf, frameOf}
+use Rattle.chip.specs.Frames.{Sent, Does, Ready, Heard, headFor, headOf, acceptedOf, takenOf, refusedOf, frameOf}
+use borrow.Author.Tests.{not-true, not-false}
+use Rattle.chip.proofs.Sorts.{table-after}
 
 -- an arm of the dispatch: what its command asks for and gives is what the command in hand does
 pub room-for : {rec : Record} {x : Chip} {c k : Command} {at : Address} {bytes out : List ℕ} → Ready rec x c at bytes out → c ≡ k
@@ -40,17 +47,43 @@ at-most-3 false n h = omega arith
 
 module _ (rec : Record) (x : Chip) (at : Address) (bytes out : List ℕ) where
   pub at-command : {c k : Command} {r : Reply} {xs os : List ℕ} → c ≡ k
-      → Gives (acceptedOf rec x k at bytes out) r xs os
-      → Gives (acceptedOf rec x c at bytes out) r xs os
-  at-command {c} {k} {r} {xs} {os} e g = subst (λ (d : Command). Gives (acceptedOf rec x d at bytes out) r xs os) (sym e) g
+      → Does (acceptedOf rec x k at bytes [] out) r xs os
+      → Does (acceptedOf rec x c at bytes [] out) r xs os
+  at-command {c} {k} {r} {xs} {os} e g = subst (λ (d : Command). Does (acceptedOf rec x d at bytes [] out) r xs os) (sym e) g
+
+-- what a command does does not depend on the wear table, but for the table itself
+module _ (rec : Record) (x : Chip) (at : Address) (bytes wear out : List ℕ) {r : Reply} {xs os : List ℕ} where
+  pub with-table : (c : Command) → Does (acceptedOf rec x c at bytes [] out) r xs os → Gives (acceptedOf rec x c at bytes wear out) r xs (acceptedOf rec x c at bytes wear out .wear) os
+  unfolding acceptedOf
+  with-table WriteEnable g = record { reply = g .reply; page-is = g .page-is; wear-is = refl; out = g .out }
+  with-table WriteDisable g = record { reply = g .reply; page-is = g .page-is; wear-is = refl; out = g .out }
+  with-table ReadStatus g = record { reply = g .reply; page-is = g .page-is; wear-is = refl; out = g .out }
+  with-table ReadConfig g = record { reply = g .reply; page-is = g .page-is; wear-is = refl; out = g .out }
+  with-table WriteStatus g = record { reply = g .reply; page-is = g .page-is; wear-is = refl; out = g .out }
+  with-table Read g = record { reply = g .reply; page-is = g .page-is; wear-is = refl; out = g .out }
+  with-table FastRead g = record { reply = g .reply; page-is = g .page-is; wear-is = refl; out = g .out }
+  with-table EraseSector g = record { reply = g .reply; page-is = g .page-is; wear-is = refl; out = g .out }
+  with-table EraseHalf g = record { reply = g .reply; page-is = g .page-is; wear-is = refl; out = g .out }
+  with-table EraseBlock g = record { reply = g .reply; page-is = g .page-is; wear-is = refl; out = g .out }
+  with-table EraseChip g = record { reply = g .reply; page-is = g .page-is; wear-is = refl; out = g .out }
+  with-table Program g = record { reply = g .reply; page-is = g .page-is; wear-is = refl; out = g .out }
+  with-table ReadId g = record { reply = g .reply; page-is = g .page-is; wear-is = refl; out = g .out }
+  with-table Wake g = record { reply = g .reply; page-is = g .page-is; wear-is = refl; out = g .out }
+  with-table ReadMaker g = record { reply = g .reply; page-is = g .page-is; wear-is = refl; out = g .out }
+  with-table Sleep g = record { reply = g .reply; page-is = g .page-is; wear-is = refl; out = g .out }
+  with-table Unknown g = record { reply = g .reply; page-is = g .page-is; wear-is = refl; out = g .out }
 
 module _ (rec : Record) (x : Chip) (f : Sent) where
   abbrev H : Head
   H = headOf rec x f
 
-  pub arrived : Passed rec (x .state) H → Ready rec x (H .command) (H .address) (f .bytes) (f .out)
+  -- with whatever is said of the counts
+  abbrev headWith : Bool → Head
+  headWith w = headFor (rec .model) (length (x .cells)) (length (f .wear)) (pageOk (rec .model) (x .state) (x .page)) (f .bytes) (f .tail) (f .wp) (length (f .out)) w
+
+  pub arrived : (w : Bool) → Passed rec (x .state) (headWith w) → Ready rec x (H .command) (H .address) (f .bytes) (f .out)
   unfolding headFor addressOf
-  arrived p =
+  arrived w p =
       let b : List ℕ = f .bytes in
       record {
         level = omega (arith, sound rec (x .state) (p .valid) .level, highest-bp (rec .model));
@@ -61,49 +94,110 @@ module _ (rec : Record) (x : Chip) (f : Sent) where
         fits = record { long = long-enough _ _ _ (p .fits); short = p .short; room = p .roomy };
       }
 
-  -- what the call is given was let pass: what the frame says is what is left of the table
-  said : {h : Head} {a : Answer} → isDone (givenOf rec (x .state) H) ≡ true → h ≡ H → a ≡ saidOf rec (x .state) h → a ≡ refusalOf rec (x .state) H
-  said p e g = g ∙ ap (saidOf rec (x .state)) e ∙ sym (goes-on rec (x .state) H p)
+  -- the head that the code reads: it has not looked at the counts yet
+  abbrev unworn : Head
+  unworn = headWith false
 
-  pub ready : {h : Head} {a : Answer} → isDone (givenOf rec (x .state) H) ≡ true → h ≡ H → a ≡ saidOf rec (x .state) h
+  given-unworn : givenOf rec (x .state) unworn ≡ givenOf rec (x .state) H
+  unfolding givenOf headFor
+  given-unworn = refl
+
+  said-unworn : saidOf rec (x .state) unworn ≡ saidOf rec (x .state) H
+  unfolding saidOf headFor
+  said-unworn = refl
+
+  spared-unworn : lastRow rec (x .state) unworn ≡ Done
+  unfolding headFor
+  spared-unworn = last-is rec (x .state) unworn
+
+  -- what the frame says, as the code finds it
+  said : {h : Head} {a : Answer} → h ≡ unworn → a ≡ saidOf rec (x .state) h → a ≡ saidOf rec (x .state) H
+  said e g = g ∙ ap (saidOf rec (x .state)) e ∙ said-unworn
+
+  -- every row but the last has let it pass
+  all-but-last : {h : Head} {a : Answer} → isDone (givenOf rec (x .state) H) ≡ true → h ≡ unworn → a ≡ saidOf rec (x .state) h → isDone a ≡ true → Passed rec (x .state) unworn
+  all-but-last {h} {a} p e g d =
+      let q : isDone (saidOf rec (x .state) unworn) ≡ true = ap isDone (said-unworn ∙ sym (said e g)) ∙ d in
+      passed rec (x .state) unworn (ap isDone (goes-on rec (x .state) unworn (ap isDone given-unworn ∙ p) q ∙ spared-unworn))
+
+  pub ready : {h : Head} {a : Answer} → isDone (givenOf rec (x .state) H) ≡ true → h ≡ unworn → a ≡ saidOf rec (x .state) h
       → isDone a ≡ true → Ready rec x (h .command) (h .address) (f .bytes) (f .out)
-  ready {h} {a} p e g d =
-      subst (λ (k : Head). Ready rec x (k .command) (k .address) (f .bytes) (f .out)) (sym e)
-      (arrived (passed rec (x .state) H (sym (ap isDone (said p e g)) ∙ d)))
+  unfolding headFor
+  ready {h} {a} p e g d = subst (λ (k : Head). Ready rec x (k .command) (k .address) (f .bytes) (f .out)) (sym e) (arrived false (all-but-last p e g d))
+
+  -- the sectors that it covers lie in the table
+  pub countable : {h : Head} {a : Answer} {op : Operation} → isDone (givenOf rec (x .state) H) ≡ true → h ≡ unworn → a ≡ saidOf rec (x .state) h
+      → isDone a ≡ true → op ≡ operationOf (h .command) → InTable op (h .address .0) (f .wear)
+  unfolding headFor
+  countable {h} {a} {op} p e g d o =
+      let k = all-but-last p e g d in
+      let r = arrived false k in
+      subst (λ (q : Operation). InTable q (h .address .0) (f .wear)) (sym o)
+      (subst (λ (q : Head). InTable (operationOf (q .command)) (q .address .0) (f .wear)) (sym e)
+      (in-table (rec .model) (operationOf (unworn .command)) (unworn .address .0) (f .wear) (k .table) (omega (arith, r .inside, r .whole))))
+
+  -- the last row is left: the frame is what its command does, or refused by its counts
+  taken-is : isDone (givenOf rec (x .state) H) ≡ true → isDone (saidOf rec (x .state) H) ≡ true
+      → takenOf rec x (unworn .command) (unworn .address) (f .bytes) (f .wear) (f .out) ≡ frameOf rec x f
+  unfolding frameOf headFor
+  taken-is p q = go (H .worn) (goes-on rec (x .state) H p q ∙ last-is rec (x .state) H)
+    where
+      go : (b : Bool) → refusalOf rec (x .state) H ≡ cond b WornOut Done
+          → cond b (stateOnly WornOut (x .state) (x .page) (f .wear) (f .out)) (acceptedOf rec x (H .command) (H .address) (f .bytes) (f .wear) (f .out))
+          ≡ cond (isDone (refusalOf rec (x .state) H)) (acceptedOf rec x (H .command) (H .address) (f .bytes) (f .wear) (f .out)) (refusedOf rec (refusalOf rec (x .state) H) x f)
+      go true e = rw e (ap (λ (s : State). stateOnly WornOut s (x .page) (f .wear) (f .out)) (sym (leaves-all (rec .model) WornOut (x .state) refl)))
+      go false e = rw e
+
+  -- counted and done
+  pub accept : {h : Head} {a : Answer} {op : Operation} {done : Bool} {ws : List ℕ} {r : Reply} {xs os : List ℕ} → isDone (givenOf rec (x .state) H) ≡ true → h ≡ unworn
+      → a ≡ saidOf rec (x .state) h → isDone a ≡ true → op ≡ operationOf (h .command)
+      → done ≡ not (wornOut op (h .address .0) (f .wear)) → ws ≡ cond done (counted op (h .address .0) (f .wear)) (f .wear) → done ≡ true
+      → Does (acceptedOf rec x (h .command) (h .address) (f .bytes) [] (f .out)) r xs os
+      → Gives (frameOf rec x f) r xs ws os
+  accept {h} {a} {op} {done} {ws} {r} {xs} {os} p e g d o n w y q =
+      let spare : wornOut (operationOf (h .command)) (h .address .0) (f .wear) ≡ false = ap (λ (k : Operation). wornOut k (h .address .0) (f .wear)) (sym o) ∙ not-true _ (sym n ∙ y) in
+      let table : acceptedOf rec x (h .command) (h .address) (f .bytes) (f .wear) (f .out) .wear ≡ ws = table-after rec x (h .address) (f .bytes) (f .wear) (f .out) (h .command) ∙ ap (λ (k : Operation). counted k (h .address .0) (f .wear)) (sym o) ∙ sym (w ∙ rw y) in
+      let taken : takenOf rec x (h .command) (h .address) (f .bytes) (f .wear) (f .out) ≡ acceptedOf rec x (h .command) (h .address) (f .bytes) (f .wear) (f .out) = rw spare in
+      subst (λ (k : Effect). Gives k r xs ws os)
+      (sym taken ∙ ap (λ (k : Head). takenOf rec x (k .command) (k .address) (f .bytes) (f .wear) (f .out)) e ∙ taken-is p (sym (ap isDone (said e g)) ∙ d))
+      (subst (λ (k : List ℕ). Gives (acceptedOf rec x (h .command) (h .address) (f .bytes) (f .wear) (f .out)) r xs k os) table (with-table rec x (h .address) (f .bytes) (f .wear) (f .out) (h .command) q))
+
+  -- refused by its counts
+  pub worn-out : {h : Head} {a : Answer} {op : Operation} {done : Bool} {ws : List ℕ} {r : Reply} → isDone (givenOf rec (x .state) H) ≡ true → h ≡ unworn
+      → a ≡ saidOf rec (x .state) h → isDone a ≡ true → op ≡ operationOf (h .command)
+      → done ≡ not (wornOut op (h .address .0) (f .wear)) → ws ≡ cond done (counted op (h .address .0) (f .wear)) (f .wear) → done ≡ false
+      → r ≡ quiet WornOut (x .state) → Gives (frameOf rec x f) r (x .page) ws (f .out)
+  worn-out {h} {a} {op} {done} {ws} {r} p e g d o n w y q =
+      let full : wornOut (operationOf (h .command)) (h .address .0) (f .wear) ≡ true = ap (λ (k : Operation). wornOut k (h .address .0) (f .wear)) (sym o) ∙ not-false _ (sym n ∙ y) in
+      let turned-away : takenOf rec x (h .command) (h .address) (f .bytes) (f .wear) (f .out) ≡ stateOnly WornOut (x .state) (x .page) (f .wear) (f .out) = rw full in
+      subst (λ (k : Effect). Gives k r (x .page) ws (f .out))
+      (sym turned-away ∙ ap (λ (k : Head). takenOf rec x (k .command) (k .address) (f .bytes) (f .wear) (f .out)) e ∙ taken-is p (sym (ap isDone (said e g)) ∙ d))
+      (record { reply = q; page-is = refl; wear-is = w ∙ rw y; out = refl })
 
   -- what a frame comes to, by whether it is refused
   abbrev either-way : Bool → Effect
-  either-way b = cond b (acceptedOf rec x (H .command) (H .address) (f .bytes) (f .out)) (refusedOf rec (refusalOf rec (x .state) H) x f)
-
-  pub accept : {h : Head} {a : Answer} {r : Reply} {xs os : List ℕ} → isDone (givenOf rec (x .state) H) ≡ true → h ≡ H
-      → a ≡ saidOf rec (x .state) h → isDone a ≡ true
-      → Gives (acceptedOf rec x (h .command) (h .address) (f .bytes) (f .out)) r xs os
-      → Gives (frameOf rec x f) r xs os
-  unfolding frameOf
-  accept {h} {a} {r} {xs} {os} p e g d q =
-      subst (λ (b : Bool). Gives (either-way b) r xs os)
-      (sym (sym (ap isDone (said p e g)) ∙ d))
-      (subst (λ (k : Head). Gives (acceptedOf rec x (k .command) (k .address) (f .bytes) (f .out)) r xs os) e q)
+  either-way b = cond b (acceptedOf rec x (H .command) (H .address) (f .bytes) (f .wear) (f .out)) (refusedOf rec (refusalOf rec (x .state) H) x f)
 
   -- a refusal, wherever it came from
   refused : {a : Answer} {r : Reply} → a ≡ refusalOf rec (x .state) H → isDone a ≡ false → r ≡ quiet a (refusalLeaves (rec .model) a (x .state))
-      → Gives (frameOf rec x f) r (x .page) (f .out)
+      → Gives (frameOf rec x f) r (x .page) (f .wear) (f .out)
   unfolding frameOf
   refused {a} {r} g d q =
-      subst (λ (b : Bool). Gives (either-way b) r (x .page) (f .out))
+      subst (λ (b : Bool). Gives (either-way b) r (x .page) (f .wear) (f .out))
       (sym (sym (ap isDone g) ∙ d))
-      (record { reply = q ∙ ap (λ (k : Answer). quiet k (refusalLeaves (rec .model) k (x .state))) g; page-is = refl; out = refl })
+      (record { reply = q ∙ ap (λ (k : Answer). quiet k (refusalLeaves (rec .model) k (x .state))) g; page-is = refl; wear-is = refl; out = refl })
 
-  pub refuse : {h : Head} {a : Answer} {r : Reply} → isDone (givenOf rec (x .state) H) ≡ true → h ≡ H
+  pub refuse : {h : Head} {a : Answer} {r : Reply} → isDone (givenOf rec (x .state) H) ≡ true → h ≡ unworn
       → a ≡ saidOf rec (x .state) h → isDone a ≡ false → r ≡ quiet a (refusalLeaves (rec .model) a (x .state))
-      → Gives (frameOf rec x f) r (x .page) (f .out)
-  refuse p e g d q = refused (said p e g) d q
+      → Gives (frameOf rec x f) r (x .page) (f .wear) (f .out)
+  refuse p e g d q = let s = said e g in refused (s ∙ sym (stops-said rec (x .state) H p (sym (ap isDone s) ∙ d))) d q
 
   -- the first rows do not look at what the frame says
   abbrev unread : Head
   unread =
       record {
         cells = length (x .cells);
+        sectors = length (f .wear);
         page = pageOk (rec .model) (x .state) (x .page);
         count = length (f .bytes);
         tail = f .tail;
@@ -111,6 +205,7 @@ module _ (rec : Record) (x : Chip) (f : Sent) where
         room = length (f .out);
         command = Unknown;
         address = record { 0 = 0 };
+        worn = false;
       }
 
   -- the code's answer, where it has found whether the page data fit
@@ -118,6 +213,7 @@ module _ (rec : Record) (x : Chip) (f : Sent) where
       → a
       ≡ givenOf rec (x .state) (record {
         cells = length (x .cells);
+        sectors = length (f .wear);
         page = b;
         count = length (f .bytes);
         tail = f .tail;
@@ -125,9 +221,10 @@ module _ (rec : Record) (x : Chip) (f : Sent) where
         room = length (f .out);
         command = Unknown;
         address = record { 0 = 0 };
+        worn = false;
       })
       → b ≡ pageOk (rec .model) (x .state) (x .page) → a ≡ givenOf rec (x .state) unread
-  first-rows g e = g ∙ ap (λ (b : Bool). givenOf rec (x .state) (record { cells = length (x .cells); page = b; count = length (f .bytes); tail = f .tail; wp = f .wp; room = length (f .out); command = Unknown; address = record { 0 = 0 } })) e
+  first-rows g e = g ∙ ap (λ (b : Bool). givenOf rec (x .state) (record { cells = length (x .cells); sectors = length (f .wear); page = b; count = length (f .bytes); tail = f .tail; wp = f .wp; room = length (f .out); command = Unknown; address = record { 0 = 0 }; worn = false })) e
 
   as-given : givenOf rec (x .state) unread ≡ givenOf rec (x .state) H
   unfolding givenOf headFor
@@ -138,10 +235,10 @@ module _ (rec : Record) (x : Chip) (f : Sent) where
   let-pass e d = let g = sym (ap isDone (e ∙ as-given)) ∙ d in record { given = g; fits = given-page rec (x .state) H g }
 
   -- the head that is read after them: the page data fit
-  pub read-head : {h : Head} → Heard rec x f → h ≡ headFor (rec .model) (length (x .cells)) true (f .bytes) (f .tail) (f .wp) (length (f .out)) → h ≡ H
-  read-head p e = e ∙ ap (λ (b : Bool). headFor (rec .model) (length (x .cells)) b (f .bytes) (f .tail) (f .wp) (length (f .out))) (sym (p .fits))
+  pub read-head : {h : Head} → Heard rec x f → h ≡ headFor (rec .model) (length (x .cells)) (length (f .wear)) true (f .bytes) (f .tail) (f .wp) (length (f .out)) false → h ≡ unworn
+  read-head p e = e ∙ ap (λ (b : Bool). headFor (rec .model) (length (x .cells)) (length (f .wear)) b (f .bytes) (f .tail) (f .wp) (length (f .out)) false) (sym (p .fits))
 
-  pub refuse-given : {a : Answer} {r : Reply} → a ≡ givenOf rec (x .state) unread → isDone a ≡ false → r ≡ quiet a (x .state) → Gives (frameOf rec x f) r (x .page) (f .out)
+  pub refuse-given : {a : Answer} {r : Reply} → a ≡ givenOf rec (x .state) unread → isDone a ≡ false → r ≡ quiet a (x .state) → Gives (frameOf rec x f) r (x .page) (f .wear) (f .out)
   refuse-given e d q =
       let g = e ∙ as-given in
       let n = ap saysProtected g ∙ given-spares rec (x .state) H in

@@ -20,7 +20,7 @@ use Rattle.rings.specs.Ring.{ring}
 use Rattle.answers.specs.Answers.{isDone, saysProtected}
 use Rattle.commands.specs.Commands.{decodeOf, traitsOf, mostWritten, operationOf, startedBy}
 use Rattle.commands.specs.declared.Operation.{Operation}
-use Rattle.commands.specs.declared.Operation.the-variants.{WritesStatus, Programs, ErasesSector, ErasesHalf, ErasesBlock, ErasesChip}
+use Rattle.commands.specs.declared.Operation.the-variants.{WritesStatus, Programs, ErasesSector, ErasesHalf, ErasesBlock, ErasesChip, Idle}
 use Rattle.states.specs.States.{recordOk, statusOf, longestSettle, operationTime, placeOk, usedBytes, noAddress, blankPage, Chip}
 use Rattle.states.specs.declared.Record.{Record}
 use Rattle.states.specs.declared.State.{State}
@@ -30,9 +30,11 @@ use Rattle.commands.specs.declared.Command.{Command}
 use Rattle.commands.specs.declared.Command.the-variants.{WriteEnable, WriteDisable, ReadStatus, ReadConfig, WriteStatus, Read, FastRead, EraseSector, EraseHalf, EraseBlock, EraseChip, Program, ReadId, Wake, ReadMaker, Sleep, Unknown}
 use Rattle.commands.proofs.Rows.{half-only-3}
 use Rattle.states.proofs.States.{sleep-le, wake-le, sign-le, times, half-some}
+use Rattle.counts.specs.Counts.{counted, covered, sectors}
 use Rattle.effects.specs.Effects.{Effect, stateOnly, turned, drives, folding, latched, dozing, starting, refusalLeaves, writeEnable, writeDisable, writeStatus, eraseStarts, sleep, idBytes, makerBytes, readStatus, readConfig, readFrom, programPage, readId, wakingTime, wake, readMaker}
 use Rattle.chip.specs.Frames.{acceptedOf}
 use Rattle.chip.specs.Driven.{drivenBytes, foldOf}
+use Rattle.counts.proofs.Laws.{uncounted, all-counted}
 
 -- ---- how the state moves, and what a command that moves it so has been asked
 -- what the refusals 22, 11, 12, 14 and 15 have shown, and that the address is the array's
@@ -81,12 +83,12 @@ leaves rec s a i = go (modelOf (rec .model) .«latch_falls») (saysProtected a) 
     go false p i = stays
 
 -- ---- the kinds: the state only; bytes driven from a position on; an operation started
-pub data Kind (rec : Record) (x : Chip) (c : Command) (at : Address) (bytes out : List ℕ) : ℕ → Bool → Effect → Type 0 where
-  turns : (t : State) → (Asked rec (x .state) c at bytes → Move rec (x .state) t) → Kind rec x c at bytes out 0 false (stateOnly Done t (x .page) out)
+pub data Kind (rec : Record) (x : Chip) (c : Command) (at : Address) (bytes wear out : List ℕ) : ℕ → Bool → Effect → Type 0 where
+  turns : (t : State) → (Asked rec (x .state) c at bytes → Move rec (x .state) t) → Kind rec x c at bytes wear out 0 false (stateOnly Done t (x .page) wear out)
   drove : (t : State) (from : ℕ) (ys : List ℕ) → (Asked rec (x .state) c at bytes → Move rec (x .state) t)
-      → Kind rec x c at bytes out (length bytes - from) false (record { reply = drives t from (length bytes); page = x .page; out = lay out from ys })
-  begins : (op : Operation) (t : State) (page : List ℕ) (fold : Bool) → (Asked rec (x .state) c at bytes → Begun rec x op t page)
-      → Kind rec x c at bytes out 0 fold (record { reply = folding t fold; page = page; out = out })
+      → Kind rec x c at bytes wear out (length bytes - from) false (record { reply = drives t from (length bytes); page = x .page; wear = wear; out = lay out from ys })
+  begins : (op : Operation) (t : State) (page after : List ℕ) (fold : Bool) → (Asked rec (x .state) c at bytes → Begun rec x op t page)
+      → Kind rec x c at bytes wear out 0 fold (record { reply = folding t fold; page = page; wear = after; out = out })
 
 -- the test for 11 fails at a command that is not taken while busy: the chip is idle
 idle : (busy : ℕ) → (not (eqb busy 0) && not false) ≡ false → busy ≡ 0
@@ -174,7 +176,7 @@ first-used r bytes page e h =
     most-3 false = lit≤ tt
 
 -- one clause a command
-module _ (rec : Record) (x : Chip) (at : Address) (bytes out : List ℕ) where
+module _ (rec : Record) (x : Chip) (at : Address) (bytes wear out : List ℕ) where
   abbrev s : State
   s = x .state
 
@@ -183,20 +185,20 @@ module _ (rec : Record) (x : Chip) (at : Address) (bytes out : List ℕ) where
       → traitsOf (modelOf (rec .model) .register) c .«while_busy» ≡ false → traitsOf (modelOf (rec .model) .register) c .«while_asleep» ≡ false
       → placeOk (rec .model) op (at .0) ≡ ltb (at .0) (modelOf (rec .model) .length) → usedBytes op (at .0) ≡ 0
       → (Asked rec s c at bytes → recordOk rec ≡ true → 0 < operationTime rec op)
-      → Kind rec x c at bytes out 0 false (turned (x .page) out (eraseStarts rec s op (at .0) bytes))
+      → Kind rec x c at bytes wear out 0 false (turned (x .page) (counted op (at .0) wear) out (eraseStarts rec s op (at .0) bytes))
   unfolding eraseStarts
   erases op c e l b a p u t =
-      begins op (starting s (getD bytes 0 0) (at .0) (operationTime rec op)) (x .page) false
+      begins op (starting s (getD bytes 0 0) (at .0) (operationTime rec op)) (x .page) (counted op (at .0) wear) false
       (λ q. begin rec x at bytes c l q op (at .0) (x .page) e (p ∙ lt-ltb (at .0) (modelOf (rec .model) .length) (q .inside)) (t q) b a (λ z. rw u (blank-stays z)))
 
-  pub kind : (c : Command) → Kind rec x c at bytes out (drivenBytes c (length bytes)) (foldOf c at (length bytes)) (acceptedOf rec x c at bytes out)
+  pub kind : (c : Command) → Kind rec x c at bytes wear out (drivenBytes c (length bytes)) (foldOf c at (length bytes)) (acceptedOf rec x c at bytes wear out)
   unfolding acceptedOf writeEnable writeDisable writeStatus eraseStarts sleep traitsOf drivenBytes foldOf readStatus readConfig readFrom programPage readId wake readMaker
   kind WriteEnable = turns (latched s true) (λ q. latches true (idle (s .busy) (q .listens)))
   kind WriteDisable = turns (latched s false) (λ q. latches false (idle (s .busy) (q .listens)))
   kind ReadStatus = drove s 1 (replicate (length bytes - 1) (statusOf s)) (λ q. stays)
   kind ReadConfig = drove s 1 (replicate (length bytes - 1) (s .config)) (λ q. stays)
   kind WriteStatus =
-      begins WritesStatus (starting s (getD bytes 0 0) (length bytes - 1) (operationTime rec WritesStatus)) (lay (x .page) 0 (drop 1 bytes)) false
+      begins WritesStatus (starting s (getD bytes 0 0) (length bytes - 1) (operationTime rec WritesStatus)) (lay (x .page) 0 (drop 1 bytes)) wear false
       (λ q. begin rec x at bytes WriteStatus refl q WritesStatus (length bytes - 1) (lay (x .page) 0 (drop 1 bytes)) refl (number-of-bytes (modelOf (rec .model) .register) (length bytes) (q .written refl .0) (q .written refl .1)) (λ r. times rec r .status) refl refl (λ z. first-used (modelOf (rec .model) .register) bytes (x .page) z (q .written refl .1)))
   kind Read = drove s 4 (ring (x .cells) (at .0) (length bytes - 4)) (λ q. stays)
   kind FastRead = drove s 5 (ring (x .cells) (at .0) (length bytes - 5)) (λ q. stays)
@@ -204,11 +206,11 @@ module _ (rec : Record) (x : Chip) (at : Address) (bytes out : List ℕ) where
   kind EraseHalf = erases ErasesHalf EraseHalf refl refl refl refl refl refl (λ q r. half-some rec r (half-only-3 (rec .model) (getD bytes 0 0) (q .means)))
   kind EraseBlock = erases ErasesBlock EraseBlock refl refl refl refl refl refl (λ q r. times rec r .block)
   kind EraseChip =
-      begins ErasesChip (starting s (getD bytes 0 0) noAddress (operationTime rec ErasesChip)) (x .page) false
+      begins ErasesChip (starting s (getD bytes 0 0) noAddress (operationTime rec ErasesChip)) (x .page) (counted ErasesChip noAddress wear) false
       (λ q. begin rec x at bytes EraseChip refl q ErasesChip noAddress (x .page) refl refl (λ r. times rec r .chip) refl refl (λ z. blank-stays z))
   kind Program =
       rw (← (length-drop 4 bytes))
-      (begins Programs (starting s (getD bytes 0 0) (at .0) (operationTime rec Programs)) (pageAfter (pageOffset at) (drop 4 bytes) (x .page)) (folds (pageOffset at) (length (drop 4 bytes)))
+      (begins Programs (starting s (getD bytes 0 0) (at .0) (operationTime rec Programs)) (pageAfter (pageOffset at) (drop 4 bytes) (x .page)) wear (folds (pageOffset at) (length (drop 4 bytes)))
       (λ q. begin rec x at bytes Program refl q Programs (at .0) (pageAfter (pageOffset at) (drop 4 bytes) (x .page)) refl (lt-ltb (at .0) (modelOf (rec .model) .length) (q .inside)) (λ r. times rec r .page) refl refl (λ z. all-used (pageOffset at) (drop 4 bytes) (x .page) z)))
   kind ReadId = drove s 1 (ring (idBytes (modelOf (rec .model))) 0 (length bytes - 1)) (λ q. stays)
   kind Wake =
@@ -231,32 +233,57 @@ drives-within t from n = go (ltb from n) refl
         let l : n ≤ from = ltb-false from n e in
         omega arith
 
-module _ {rec : Record} {x : Chip} {c : Command} {at : Address} {bytes out : List ℕ} where
-  pub is-done : {n : ℕ} {b : Bool} {e : Effect} → Kind rec x c at bytes out n b e → isDone (e .reply .answer) ≡ true
+module _ {rec : Record} {x : Chip} {c : Command} {at : Address} {bytes wear out : List ℕ} where
+  pub is-done : {n : ℕ} {b : Bool} {e : Effect} → Kind rec x c at bytes wear out n b e → isDone (e .reply .answer) ≡ true
   unfolding drives
   is-done (turns t m) = refl
   is-done (drove t from ys m) = refl
-  is-done (begins op t page fold m) = refl
+  is-done (begins op t page after fold m) = refl
 
-  pub counts : {n : ℕ} {b : Bool} {e : Effect} → Kind rec x c at bytes out n b e → e .reply .count ≡ n
+  pub counts : {n : ℕ} {b : Bool} {e : Effect} → Kind rec x c at bytes wear out n b e → e .reply .count ≡ n
   unfolding drives
   counts (turns t m) = refl
   counts (drove t from ys m) = refl
-  counts (begins op t page fold m) = refl
+  counts (begins op t page after fold m) = refl
 
-  pub within : {n : ℕ} {b : Bool} {e : Effect} → Kind rec x c at bytes out n b e → e .reply .from + e .reply .count ≤ length bytes
+  pub within : {n : ℕ} {b : Bool} {e : Effect} → Kind rec x c at bytes wear out n b e → e .reply .from + e .reply .count ≤ length bytes
   within (turns t m) = omega arith
   within (drove t from ys m) = drives-within t from (length bytes)
-  within (begins op t page fold m) = omega arith
+  within (begins op t page after fold m) = omega arith
 
-  pub moves : {n : ℕ} {b : Bool} {e : Effect} → Kind rec x c at bytes out n b e → Asked rec (x .state) c at bytes → Turn rec x (e .reply .state) (e .page)
+  pub moves : {n : ℕ} {b : Bool} {e : Effect} → Kind rec x c at bytes wear out n b e → Asked rec (x .state) c at bytes → Turn rec x (e .reply .state) (e .page)
   unfolding drives
   moves (turns t m) q = moved (m q)
   moves (drove t from ys m) q = moved (m q)
-  moves (begins op t page fold m) q = begun op (m q)
+  moves (begins op t page after fold m) q = begun op (m q)
 
-  pub notes : {n : ℕ} {b : Bool} {e : Effect} → Kind rec x c at bytes out n b e → e .reply .fold ≡ b
+  pub notes : {n : ℕ} {b : Bool} {e : Effect} → Kind rec x c at bytes wear out n b e → e .reply .fold ≡ b
   unfolding drives
   notes (turns t m) = refl
   notes (drove t from ys m) = refl
-  notes (begins op t page fold m) = refl
+  notes (begins op t page after fold m) = refl
+
+-- ---- the wear table of an accepted frame: the counts of the sectors that its operation covers are one more; only an erase covers any
+module _ (rec : Record) (x : Chip) (at : Address) (bytes wear out : List ℕ) where
+  none : (op : Operation) → covered op (at .0) (length wear) ≡ sectors 0 0 → wear ≡ counted op (at .0) wear
+  none op e = sym (uncounted op (at .0) wear e)
+
+  pub table-after : (c : Command) → acceptedOf rec x c at bytes wear out .wear ≡ counted (operationOf c) (at .0) wear
+  unfolding acceptedOf covered
+  table-after WriteEnable = none Idle refl
+  table-after WriteDisable = none Idle refl
+  table-after ReadStatus = none Idle refl
+  table-after ReadConfig = none Idle refl
+  table-after WriteStatus = none WritesStatus refl
+  table-after Read = none Idle refl
+  table-after FastRead = none Idle refl
+  table-after EraseSector = refl
+  table-after EraseHalf = refl
+  table-after EraseBlock = refl
+  table-after EraseChip = all-counted noAddress (at .0) wear
+  table-after Program = none Programs refl
+  table-after ReadId = none Idle refl
+  table-after Wake = none Idle refl
+  table-after ReadMaker = none Idle refl
+  table-after Sleep = none Idle refl
+  table-after Unknown = none Idle refl

@@ -7,7 +7,7 @@ use lib.ListN.{length, getD}
 use Rattle.units.specs.declared.Address.{Address}
 use Rattle.models.specs.Models.{modelOf, addressOf}
 use Rattle.answers.specs.Answers.{isDone}
-use Rattle.commands.specs.Commands.{decodeOf, traitsOf, fewest, mostWritten}
+use Rattle.commands.specs.Commands.{decodeOf, traitsOf, fewest, mostWritten, operationOf, startedBy}
 use Rattle.states.specs.States.{pageOk, noAddress, Chip}
 use Rattle.commands.specs.declared.Operation.the-variants.{ErasesSector, ErasesHalf, ErasesBlock, ErasesChip}
 use Rattle.states.specs.declared.Record.{Record}
@@ -15,27 +15,31 @@ use Rattle.states.specs.declared.State.{State}
 use Rattle.commands.specs.declared.Command.{Command}
 use Rattle.commands.specs.declared.Command.the-variants.{WriteEnable, WriteDisable, ReadStatus, ReadConfig, WriteStatus, Read, FastRead, EraseSector, EraseHalf, EraseBlock, EraseChip, Program, ReadId, Wake, ReadMaker, Sleep, Unknown}
 use Rattle.answers.specs.declared.Answer.{Answer}
-use Rattle.answers.specs.declared.Answer.the-variants.{Done}
+use Rattle.answers.specs.declared.Answer.the-variants.{Done, WornOut}
 use Rattle.ladder.specs.Ladder.{refusalOf}
 use Rattle.ladder.specs.Stages.{givenOf}
 use Rattle.ladder.specs.declared.Head.{Head}
+use Rattle.effects.specs.declared.Reply.{Reply}
+use Rattle.counts.specs.Counts.{wornOut, counted}
 use Rattle.effects.specs.Effects.{Effect, shown, started, turned, stateOnly, writeEnable, writeDisable, writeStatus, eraseStarts, sleep, refusalLeaves, readStatus, readConfig, readFrom, programPage, readId, wake, readMaker, Room}
 
--- what a frame sends: its whole bytes, the tail bits after them and the WP# level; and the output lent to it
+-- what a frame sends: its whole bytes, the tail bits after them and the WP# level; and the wear table and the output lent to it
 pub record Sent : Type 0 where
   pub bytes : List ℕ
   pub tail : ℕ
   pub wp : Bool
+  pub wear : List ℕ
   pub out : List ℕ
 
-abbrev pub sentOf : List ℕ → ℕ → Bool → List ℕ → Sent
-sentOf bytes tail wp out = record { bytes = bytes; tail = tail; wp = wp; out = out }
+abbrev pub sentOf : List ℕ → ℕ → Bool → List ℕ → List ℕ → Sent
+sentOf bytes tail wp wear out = record { bytes = bytes; tail = tail; wp = wp; wear = wear; out = out }
 
--- what the refusals look at: the command is the first byte, the address the next three; and whether the page data fit
-unfoldable pub headFor : ℕ → ℕ → Bool → List ℕ → ℕ → Bool → ℕ → Head
-headFor model cells page bytes tail wp room =
+-- what the refusals look at: the command is the first byte, the address the next three; whether the page data fit, and whether a count is at its top
+unfoldable pub headFor : ℕ → ℕ → ℕ → Bool → List ℕ → ℕ → Bool → ℕ → Bool → Head
+headFor model cells sectors page bytes tail wp room worn =
     record {
       cells = cells;
+      sectors = sectors;
       page = page;
       count = length bytes;
       tail = tail;
@@ -43,43 +47,61 @@ headFor model cells page bytes tail wp room =
       room = room;
       command = decodeOf model (getD bytes 0 0);
       address = addressOf model (getD bytes 1 0) (getD bytes 2 0) (getD bytes 3 0);
+      worn = worn;
     }
 
+-- whether the frame of those bytes covers a sector whose count would pass its top
+abbrev pub wornBy : ℕ → List ℕ → List ℕ → Bool
+wornBy model bytes wear = wornOut (startedBy model (getD bytes 0 0)) (addressOf model (getD bytes 1 0) (getD bytes 2 0) (getD bytes 3 0) .0) wear
+
 abbrev pub headOf : Record → Chip → Sent → Head
-headOf rec x f = headFor (rec .model) (length (x .cells)) (pageOk (rec .model) (x .state) (x .page)) (f .bytes) (f .tail) (f .wp) (length (f .out))
+headOf rec x f =
+    headFor (rec .model) (length (x .cells)) (length (f .wear)) (pageOk (rec .model) (x .state) (x .page)) (f .bytes) (f .tail) (f .wp) (length (f .out))
+    (wornBy (rec .model) (f .bytes) (f .wear))
 
--- an accepted frame, by its command: no command looks at the tail bits, nor but for the refusals at the WP# level, and none changes a cell
-unfoldable pub acceptedOf : Record → Chip → Command → Address → List ℕ → List ℕ → Effect
-acceptedOf rec x WriteEnable at bytes out = turned (x .page) out (writeEnable (x .state))
-acceptedOf rec x WriteDisable at bytes out = turned (x .page) out (writeDisable (x .state))
-acceptedOf rec x ReadStatus at bytes out = shown (x .page) (readStatus (x .state) bytes out)
-acceptedOf rec x ReadConfig at bytes out = shown (x .page) (readConfig (x .state) bytes out)
-acceptedOf rec x WriteStatus at bytes out = started out (writeStatus rec (x .state) (x .page) bytes)
-acceptedOf rec x Read at bytes out = shown (x .page) (readFrom 4 (x .state) (x .cells) at bytes out)
-acceptedOf rec x FastRead at bytes out = shown (x .page) (readFrom 5 (x .state) (x .cells) at bytes out)
-acceptedOf rec x EraseSector at bytes out = turned (x .page) out (eraseStarts rec (x .state) ErasesSector (at .0) bytes)
-acceptedOf rec x EraseHalf at bytes out = turned (x .page) out (eraseStarts rec (x .state) ErasesHalf (at .0) bytes)
-acceptedOf rec x EraseBlock at bytes out = turned (x .page) out (eraseStarts rec (x .state) ErasesBlock (at .0) bytes)
-acceptedOf rec x EraseChip at bytes out = turned (x .page) out (eraseStarts rec (x .state) ErasesChip noAddress bytes)
-acceptedOf rec x Program at bytes out = started out (programPage rec (x .state) (x .page) at bytes)
-acceptedOf rec x ReadId at bytes out = shown (x .page) (readId rec (x .state) bytes out)
-acceptedOf rec x Wake at bytes out = shown (x .page) (wake rec (x .state) bytes out)
-acceptedOf rec x ReadMaker at bytes out = shown (x .page) (readMaker rec (x .state) bytes out)
-acceptedOf rec x Sleep at bytes out = turned (x .page) out (sleep rec (x .state))
-acceptedOf rec x Unknown at bytes out = stateOnly Done (x .state) (x .page) out
+-- an accepted frame, by its command; each sector that an erase covers counts one more (house). No command looks at the tail bits, nor but for the refusals at the WP# level, and none changes a cell
+unfoldable pub acceptedOf : Record → Chip → Command → Address → List ℕ → List ℕ → List ℕ → Effect
+acceptedOf rec x WriteEnable at bytes wear out = turned (x .page) wear out (writeEnable (x .state))
+acceptedOf rec x WriteDisable at bytes wear out = turned (x .page) wear out (writeDisable (x .state))
+acceptedOf rec x ReadStatus at bytes wear out = shown (x .page) wear (readStatus (x .state) bytes out)
+acceptedOf rec x ReadConfig at bytes wear out = shown (x .page) wear (readConfig (x .state) bytes out)
+acceptedOf rec x WriteStatus at bytes wear out = started wear out (writeStatus rec (x .state) (x .page) bytes)
+acceptedOf rec x Read at bytes wear out = shown (x .page) wear (readFrom 4 (x .state) (x .cells) at bytes out)
+acceptedOf rec x FastRead at bytes wear out = shown (x .page) wear (readFrom 5 (x .state) (x .cells) at bytes out)
+acceptedOf rec x EraseSector at bytes wear out = turned (x .page) (counted ErasesSector (at .0) wear) out (eraseStarts rec (x .state) ErasesSector (at .0) bytes)
+acceptedOf rec x EraseHalf at bytes wear out = turned (x .page) (counted ErasesHalf (at .0) wear) out (eraseStarts rec (x .state) ErasesHalf (at .0) bytes)
+acceptedOf rec x EraseBlock at bytes wear out = turned (x .page) (counted ErasesBlock (at .0) wear) out (eraseStarts rec (x .state) ErasesBlock (at .0) bytes)
+acceptedOf rec x EraseChip at bytes wear out = turned (x .page) (counted ErasesChip noAddress wear) out (eraseStarts rec (x .state) ErasesChip noAddress bytes)
+acceptedOf rec x Program at bytes wear out = started wear out (programPage rec (x .state) (x .page) at bytes)
+acceptedOf rec x ReadId at bytes wear out = shown (x .page) wear (readId rec (x .state) bytes out)
+acceptedOf rec x Wake at bytes wear out = shown (x .page) wear (wake rec (x .state) bytes out)
+acceptedOf rec x ReadMaker at bytes wear out = shown (x .page) wear (readMaker rec (x .state) bytes out)
+acceptedOf rec x Sleep at bytes wear out = turned (x .page) wear out (sleep rec (x .state))
+acceptedOf rec x Unknown at bytes wear out = stateOnly Done (x .state) (x .page) wear out
 
--- a refusal drives nothing and leaves the page data; what it leaves of the state is one definition by model and answer
+-- a refusal drives nothing and leaves the page data and the wear table; what it leaves of the state is one definition by model and answer
 abbrev pub refusedOf : Record → Answer → Chip → Sent → Effect
-refusedOf rec a x f = stateOnly a (refusalLeaves (rec .model) a (x .state)) (x .page) (f .out)
+refusedOf rec a x f = stateOnly a (refusalLeaves (rec .model) a (x .state)) (x .page) (f .wear) (f .out)
 
 -- any frame
 unfoldable pub frameOf : Record → Chip → Sent → Effect
 frameOf rec x f =
     let h : Head = headOf rec x f in
     let a : Answer = refusalOf rec (x .state) h in
-    cond (isDone a) (acceptedOf rec x (h .command) (h .address) (f .bytes) (f .out)) (refusedOf rec a x f)
+    cond (isDone a) (acceptedOf rec x (h .command) (h .address) (f .bytes) (f .wear) (f .out)) (refusedOf rec a x f)
 
--- what the refusals have shown of an accepted frame, for the code below them
+-- a frame that every row but the last lets pass: it is accepted, unless it erases a sector whose count is at its top
+abbrev pub takenOf : Record → Chip → Command → Address → List ℕ → List ℕ → List ℕ → Effect
+takenOf rec x c at bytes wear out =
+    cond (wornOut (operationOf c) (at .0) wear) (stateOnly WornOut (x .state) (x .page) wear out) (acceptedOf rec x c at bytes wear out)
+
+-- the reply, the page data and the output of an effect: what the code of the commands gives; the wear table is not lent to it
+pub record Does (e : Effect) (r : Reply) (page os : List ℕ) : Type 0 where
+  pub reply : r ≡ e .reply
+  pub page-is : page ≡ e .page
+  pub out : os ≡ e .out
+
+-- what those rows have shown of it, for the code below them
 pub record Ready (rec : Record) (x : Chip) (c : Command) (at : Address) (bytes out : List ℕ) : Type 0 where
   pub level : x .state .bp ≤ 15
   pub whole : length (x .cells) ≡ modelOf (rec .model) .length
@@ -88,7 +110,7 @@ pub record Ready (rec : Record) (x : Chip) (c : Command) (at : Address) (bytes o
   pub written : c ≡ WriteStatus → length bytes ≤ mostWritten (modelOf (rec .model) .register)
   pub fits : Room (fewest (traitsOf (modelOf (rec .model) .register) c)) bytes out
 
--- the first five rows of the table have let the frame pass
+-- the first six rows of the table have let the frame pass
 pub record Heard (rec : Record) (x : Chip) (f : Sent) : Type 0 where
   pub given : isDone (givenOf rec (x .state) (headOf rec x f)) ≡ true
   pub fits : pageOk (rec .model) (x .state) (x .page) ≡ true

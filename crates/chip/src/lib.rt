@@ -1,8 +1,10 @@
 // The chip: any frame, on values and slices.
 ghost use mathlib.Core.Path.{_≡_};
+ghost use mathlib.Core.Bool.{false};
+ghost use mathlib.Core.List.{[]};
 ghost use Rattle.states.specs.States.{chipOf};
 ghost use Rattle.effects.specs.Effects.{Gives};
-ghost use Rattle.chip.specs.Frames.{sentOf, headFor, acceptedOf, frameOf, Ready, Heard};
+ghost use Rattle.chip.specs.Frames.{sentOf, headFor, acceptedOf, frameOf, Does, Ready, Heard};
 use answers::Answer;
 use commands::Command;
 use commands::Operation;
@@ -12,16 +14,18 @@ use states::Record;
 use states::State;
 use units::Address;
 
+// What the refusals look at but for the wear table's counts.
 fn head(
     model: u32,
     cells: usize,
+    sectors: usize,
     page: bool,
     bytes: &[u8],
     tail: u32,
     wp: bool,
     room: usize,
 ) -> Head
-    ensures { λ r. ⌜ r ≡ headFor model cells page (now (bytes .entry)) tail wp room ⌝ }
+    ensures { λ r. ⌜ r ≡ headFor model cells sectors page (now (bytes .entry)) tail wp room false ⌝ }
 {
     let address = models::address_of(
         model,
@@ -32,6 +36,7 @@ fn head(
     let command = commands::decode(model, parts::byte_at(bytes, 0));
     Head {
         cells,
+        sectors,
         page,
         count: bytes.len(),
         tail,
@@ -39,10 +44,11 @@ fn head(
         room,
         command,
         address,
+        worn: false,
     }
 }
 
-// An accepted frame, by its command.
+// An accepted frame, by its command. What it counts was counted before.
 fn accepted(
     rec: Record,
     st: State,
@@ -54,7 +60,7 @@ fn accepted(
     out: &mut [u8],
 ) -> Reply
     requires { ⌜ Ready rec (chipOf st (now page) (now array)) c at (now bytes) (now out) ⌝ }
-    ensures { λ r. ⌜ Gives (acceptedOf rec (chipOf st (now (page .entry)) (now (array .entry))) c at (now (bytes .entry)) (now (out .entry))) r (now (page .exit)) (now (out .exit)) ⌝ }
+    ensures { λ r. ⌜ Does (acceptedOf rec (chipOf st (now (page .entry)) (now (array .entry))) c at (now (bytes .entry)) [] (now (out .entry))) r (now (page .exit)) (now (out .exit)) ⌝ }
 {
     match c {
         Command::WriteEnable => effects::write_enable(st),
@@ -77,46 +83,61 @@ fn accepted(
     }
 }
 
-// A frame that the refusals 1 to 5 let pass; so the page data fit.
+// A frame that the refusals 1 to 5 and 24 let pass; so the page data fit.
 fn spoken(
     rec: Record,
     st: State,
     page: &mut [u8],
     array: &[u8],
+    wear: &mut [u32],
     bytes: &[u8],
     tail: u32,
     wp: bool,
     out: &mut [u8],
 ) -> Reply
-    requires { ⌜ Heard rec (chipOf st (now page) (now array)) (sentOf (now bytes) tail wp (now out)) ⌝ }
-    ensures { λ r. ⌜ Gives (frameOf rec (chipOf st (now (page .entry)) (now (array .entry))) (sentOf (now (bytes .entry)) tail wp (now (out .entry)))) r (now (page .exit)) (now (out .exit)) ⌝ }
+    requires { ⌜ Heard rec (chipOf st (now page) (now array)) (sentOf (now bytes) tail wp (now wear) (now out)) ⌝ }
+    ensures { λ r. ⌜ Gives (frameOf rec (chipOf st (now (page .entry)) (now (array .entry))) (sentOf (now (bytes .entry)) tail wp (now (wear .entry)) (now (out .entry)))) r (now (page .exit)) (now (wear .exit)) (now (out .exit)) ⌝ }
 {
-    let h = head(rec.model, array.len(), true, bytes, tail, wp, out.len());
+    let h = head(
+        rec.model,
+        array.len(),
+        wear.len(),
+        true,
+        bytes,
+        tail,
+        wp,
+        out.len(),
+    );
     let answer = ladder::said(rec, st, h);
     if answers::is_done(answer) {
         let c = h.command;
         let at = h.address;
+        if !counts::count(wear, commands::operation_of(c), at.0) {
+            return effects::quiet(Answer::WornOut, st);
+        }
         accepted(rec, st, c, page, array, at, bytes, out)
     } else {
         effects::refuse(rec.model, answer, st)
     }
 }
 
-// Any frame, of any record, state, page data, array, tail and output. What the call is given is looked at before a byte is read. The array is not written.
+// Any frame, of any record, state, page data, array, wear table, tail and output. What the call is given is looked at before a byte is read. The array is not written.
 pub fn frame(
     rec: Record,
     st: State,
     page: &mut [u8],
     array: &[u8],
+    wear: &mut [u32],
     bytes: &[u8],
     tail: u32,
     wp: bool,
     out: &mut [u8],
 ) -> Reply
-    ensures { λ r. ⌜ Gives (frameOf rec (chipOf st (now (page .entry)) (now (array .entry))) (sentOf (now (bytes .entry)) tail wp (now (out .entry)))) r (now (page .exit)) (now (out .exit)) ⌝ }
+    ensures { λ r. ⌜ Gives (frameOf rec (chipOf st (now (page .entry)) (now (array .entry))) (sentOf (now (bytes .entry)) tail wp (now (wear .entry)) (now (out .entry)))) r (now (page .exit)) (now (wear .exit)) (now (out .exit)) ⌝ }
 {
     let unread = Head {
         cells: array.len(),
+        sectors: wear.len(),
         page: states::page_ok(rec.model, st, page),
         count: bytes.len(),
         tail,
@@ -124,10 +145,11 @@ pub fn frame(
         room: out.len(),
         command: Command::Unknown,
         address: Address(0),
+        worn: false,
     };
     let first = ladder::given(rec, st, unread);
     if answers::is_done(first) {
-        spoken(rec, st, page, array, bytes, tail, wp, out)
+        spoken(rec, st, page, array, wear, bytes, tail, wp, out)
     } else {
         effects::quiet(first, st)
     }

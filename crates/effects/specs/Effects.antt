@@ -22,10 +22,11 @@ use Rattle.answers.specs.declared.Answer.{Answer}
 use Rattle.answers.specs.declared.Answer.the-variants.{Done}
 use Rattle.effects.specs.declared.Reply.{Reply}
 
--- a whole frame: the reply, the page data after and the output after. A frame changes no cell
+-- a whole frame: the reply, and the page data, the wear table and the output after. A frame changes no cell
 pub record Effect : Type 0 where
   pub reply : Reply
   pub page : List ℕ
+  pub wear : List ℕ
   pub out : List ℕ
 
 -- what a command does that drives bytes out, and what one does that starts an operation with page data
@@ -37,17 +38,18 @@ pub record Started : Type 0 where
   pub reply : Reply
   pub page : List ℕ
 
--- the other buffer is as it was
-abbrev pub shown : List ℕ → Shown → Effect
-shown page e = record { reply = e .reply; page = page; out = e .out }
+-- the other buffers are as they were
+abbrev pub shown : List ℕ → List ℕ → Shown → Effect
+shown page wear e = record { reply = e .reply; page = page; wear = wear; out = e .out }
 
-abbrev pub started : List ℕ → Started → Effect
-started out e = record { reply = e .reply; page = e .page; out = out }
+abbrev pub started : List ℕ → List ℕ → Started → Effect
+started wear out e = record { reply = e .reply; page = e .page; wear = wear; out = out }
 
 -- what a function's result and its lent buffers at exit have to be
-pub record Gives (e : Effect) (r : Reply) (page os : List ℕ) : Type 0 where
+pub record Gives (e : Effect) (r : Reply) (page wear os : List ℕ) : Type 0 where
   pub reply : r ≡ e .reply
   pub page-is : page ≡ e .page
+  pub wear-is : wear ≡ e .wear
   pub out : os ≡ e .out
 
 pub record Shows (e : Shown) (r : Reply) (os : List ℕ) : Type 0 where
@@ -89,12 +91,12 @@ starting s command place time =
 unfoldable pub refusalLeaves : ℕ → Answer → State → State
 refusalLeaves n a s = cond (modelOf n .«latch_falls» && saysProtected a) (latched s false) s
 
--- both buffers are as they were
-abbrev pub stateOnly : Answer → State → List ℕ → List ℕ → Effect
-stateOnly a s page out = record { reply = quiet a s; page = page; out = out }
+-- all buffers are as they were
+abbrev pub stateOnly : Answer → State → List ℕ → List ℕ → List ℕ → Effect
+stateOnly a s page wear out = record { reply = quiet a s; page = page; wear = wear; out = out }
 
-abbrev pub turned : List ℕ → List ℕ → Reply → Effect
-turned page out r = record { reply = r; page = page; out = out }
+abbrev pub turned : List ℕ → List ℕ → List ℕ → Reply → Effect
+turned page wear out r = record { reply = r; page = page; wear = wear; out = out }
 
 -- ---- one definition a command
 -- 06 sets WEL, 04 clears it (000 L214-222)

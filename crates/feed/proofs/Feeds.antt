@@ -15,17 +15,18 @@ use Rattle.text.proofs.PutLaws.{put-none, put-as, put-then}
 use Rattle.lines.specs.Lines.{linesFrom, lastLine}
 use Rattle.lines.specs.Cutting.{Holds, heldRoom}
 use Rattle.stepper.specs.declared.Logged.{Logged}
-use Rattle.stepper.specs.Rows.{lineTurn, rowText, Logs, chipAfter, logFrom, chipFrom}
+use Rattle.play.specs.Play.{Turn}
+use Rattle.stepper.specs.Rows.{Device, lineTurn, rowText, chipAfter, logFrom, deviceFrom}
 use Rattle.stepper.proofs.Rows.{row-short}
 use Rattle.log.specs.Row.{longestRow}
 use Rattle.feed.specs.declared.Run.{Run}
-use Rattle.feed.specs.Feed.{Start, TurnStart, Stand, standing, chipNow, lineDone, feedTurn, feedFor, feedOf, lastOf, Stands, Finishes, OneStands, OneFinishes}
+use Rattle.feed.specs.Feed.{Start, TurnStart, Stand, standing, chipNow, deviceNow, lineDone, feedTurn, feedFor, feedOf, lastOf, Stands, Finishes, OneStands, OneFinishes}
 use Rattle.feed.specs.Fed.{Did, Fed, Finished, FeedFeeds, LastFinishes}
-use Rattle.feed.proofs.Turns.{Same, same-clip, stands, line-done, Turned, turned}
+use Rattle.feed.proofs.Turns.{Same, same-clip, stands, line-kept, Turned, turned}
 
 -- ---- one after the other
 did-none : (rec : Record) (block : List ℕ) (s : Stand) (line : List ℕ) → s .run .filled ≤ length (s .log) → Holds line (s .held) (s .run .used) → Did rec block s s line
-did-none rec block s line l h = record { text = []; rest = line; put = put-none (s .log) (s .run .filled) l; holds = h; same = λ later. refl }
+did-none rec block s line l h = record { text = []; rest = line; put = put-none (s .log) (s .run .filled) l; holds = h; same = λ later. refl; device = λ later. refl }
 
 did-then : {rec : Record} {block : List ℕ} {s t u : Stand} {line : List ℕ} (d : Did rec block s t line) → Did rec block t u (d .rest) → Did rec block s u line
 did-then {rec} {block} {s} {t} {u} d e =
@@ -36,7 +37,8 @@ did-then {rec} {block} {s} {t} {u} d e =
       holds = e .holds;
       same = λ later.
           d .same later ∙ ap (λ (z : List ℕ). d .text ++ z) (e .same later)
-          ∙ sym (append-assoc (d .text) (e .text) (logFrom rec (chipNow u) (u .run .number) (linesFrom (e .rest) (drop (u .run .at) block ++ later))));
+          ∙ sym (append-assoc (d .text) (e .text) (logFrom rec (chipNow u) (u .wear) (u .run .number) (linesFrom (e .rest) (drop (u .run .at) block ++ later))));
+      device = λ later. d .device later ∙ e .device later;
     }
 
 -- ---- turns one after the other: from `start` the feed has come to s
@@ -85,6 +87,7 @@ going-fed {rec} {block} {start} {s} g e =
       hold = g .hold;
       used = g .used;
       within = g .within;
+      long = g .same;
       did = g .did;
     }
 
@@ -107,8 +110,8 @@ unfolding feedOf
 feed-feeds rec block s p = fed-for rec block s (length block) s (going-none rec block s p) (omega arith)
 
 -- of what a call gave
-pub stands-fed : {rec : Record} {block : List ℕ} {s : Stand} {r : Run} {held page cells log : List ℕ} → Stands (feedOf rec block s) r held page cells log
-    → Start (s .run) (s .held) block (s .log) → Fed rec block s (standing r held page cells log)
+pub stands-fed : {rec : Record} {block : List ℕ} {s : Stand} {r : Run} {held page cells wear log : List ℕ} → Stands (feedOf rec block s) r held page cells wear log
+    → Start (s .run) (s .held) block (s .log) → Fed rec block s (standing r held page cells wear log)
 stands-fed {rec} {block} {s} e p = subst (Fed rec block s) (sym (stands e)) (feed-feeds rec block s p)
 
 -- ---- the loop: `left` turns more give what the whole feed gives
@@ -147,12 +150,12 @@ feeding-turn {rec} {block} {start} {s} g p = go (g .left) (g .enough) (g .same)
           same = e ∙ one-more rec block n s (p .inside) (p .room);
         }
 
-pub feeding-on : {rec : Record} {block : List ℕ} {start s : Stand} {r : Run} {held page cells log : List ℕ} → Feeding rec block start s → TurnStart (s .run) (s .held) block (s .log)
-    → Stands (feedTurn rec block s) r held page cells log → Feeding rec block start (standing r held page cells log)
+pub feeding-on : {rec : Record} {block : List ℕ} {start s : Stand} {r : Run} {held page cells wear log : List ℕ} → Feeding rec block start s → TurnStart (s .run) (s .held) block (s .log)
+    → Stands (feedTurn rec block s) r held page cells wear log → Feeding rec block start (standing r held page cells wear log)
 feeding-on {rec} {block} {start} g p e = subst (Feeding rec block start) (sym (stands e)) (feeding-turn g p)
 
 -- it goes on in the block
-pub turn-on : (rec : Record) (block : List ℕ) (s : Stand) {r : Run} {held page cells log : List ℕ} → TurnStart (s .run) (s .held) block (s .log) → Stands (feedTurn rec block s) r held page cells log → s .run .at < r .at
+pub turn-on : (rec : Record) (block : List ℕ) (s : Stand) {r : Run} {held page cells wear log : List ℕ} → TurnStart (s .run) (s .held) block (s .log) → Stands (feedTurn rec block s) r held page cells wear log → s .run .at < r .at
 turn-on rec block s {r} p e =
     let d = turned rec block s p in
     let a : r .at ≡ feedTurn rec block s .run .at = ap (λ (z : Run). z .at) (e .run′) in
@@ -169,22 +172,23 @@ stopped rec block (suc n) s (inr l) = go (ltb (s .run .at) (length block)) refl
     go false p = rw p
 
 pub feeding-fed : {rec : Record} {block : List ℕ} {start s : Stand} → Feeding rec block start s → (length block ≤ s .run .at) ⊎ (length (s .log) - s .run .filled < longestRow)
-    → Stands (feedOf rec block start) (s .run) (s .held) (s .page) (s .cells) (s .log)
+    → Stands (feedOf rec block start) (s .run) (s .held) (s .page) (s .cells) (s .wear) (s .log)
 feeding-fed {rec} {block} {start} {s} g e =
     let q : s ≡ feedOf rec block start = sym (g .same ∙ stopped rec block (g .left) s e) in
-    record { run′ = ap (λ (t : Stand). t .run) q; held′ = ap (λ (t : Stand). t .held) q; page′ = ap (λ (t : Stand). t .page) q; cells′ = ap (λ (t : Stand). t .cells) q; log′ = ap (λ (t : Stand). t .log) q }
+    record { run′ = ap (λ (t : Stand). t .run) q; held′ = ap (λ (t : Stand). t .held) q; page′ = ap (λ (t : Stand). t .page) q; cells′ = ap (λ (t : Stand). t .cells) q; wear′ = ap (λ (t : Stand). t .wear) q; log′ = ap (λ (t : Stand). t .log) q }
 
 -- ---- the input's end
-pub finishes-none : (rec : Record) (s : Stand) → s .run .used ≡ 0 → Finishes (lastOf rec s) (s .run .filled) (s .page) (s .cells) (s .log)
+pub finishes-none : (rec : Record) (s : Stand) → s .run .used ≡ 0 → Finishes (lastOf rec s) (s .run .filled) (s .page) (s .cells) (s .wear) (s .log)
 unfolding lastOf
-finishes-none rec s u = rw (eq-eqb (s .run .used) 0 u) (record { filled′ = refl; page′ = refl; cells′ = refl; log′ = refl })
+finishes-none rec s u = rw (eq-eqb (s .run .used) 0 u) (record { filled′ = refl; page′ = refl; cells′ = refl; wear′ = refl; log′ = refl })
 
-pub finishes-line : (rec : Record) (s : Stand) {handed : List ℕ} {done : Logged} {page′ cells′ log′ : List ℕ} → (s .run .used ≡ 0 → ⊥) → handed ≡ take (s .run .used) (s .held)
-    → Logs rec (chipNow s) (s .run .number) handed (s .log) (s .run .filled) done page′ cells′ log′ → Finishes (lastOf rec s) (done .next) page′ cells′ log′
+pub finishes-line : (rec : Record) (s : Stand) {handed held page′ cells′ wear′ log′ : List ℕ} {r : Run} → (s .run .used ≡ 0 → ⊥) → handed ≡ take (s .run .used) (s .held)
+    → Stands (lineDone rec (standing (s .run) held (s .page) (s .cells) (s .wear) (s .log)) held handed (s .run .at)) r held page′ cells′ wear′ log′
+    → Finishes (lastOf rec s) (r .filled) page′ cells′ wear′ log′
 unfolding lastOf
-finishes-line rec s u m l =
-    let e = line-done rec s {kept = s .held} {to = s .run .at} m refl l refl in
-    rw (ne-eqb (s .run .used) 0 u) (record { filled′ = ap (λ (z : Run). z .filled) (e .run′); page′ = e .page′; cells′ = e .cells′; log′ = e .log′ })
+finishes-line rec s u m d =
+    let e = line-kept rec s (s .run .at) {held′ = s .held} m refl d in
+    rw (ne-eqb (s .run .used) 0 u) (record { filled′ = ap (λ (z : Run). z .filled) (e .run′); page′ = e .page′; cells′ = e .cells′; wear′ = e .wear′; log′ = e .log′ })
 
 module _ (rec : Record) (s : Stand) (l : length (s .held) ≡ heldRoom) (room : s .run .filled + longestRow ≤ length (s .log)) where
   abbrev x : Chip
@@ -200,42 +204,43 @@ module _ (rec : Record) (s : Stand) (l : length (s .held) ≡ heldRoom) (room : 
   last = take used (s .held)
 
   none-held : used ≡ 0 → Finished rec s s
-  none-held u = record { within = omega arith; did = λ line h. no-row line (empty line h); chip = λ line h. no-turn line (empty line h) }
+  none-held u = record { within = omega arith; did = λ line h. no-row line (empty line h); device = λ line h. no-turn line (empty line h) }
     where
       empty : (line : List ℕ) → Holds line (s .held) used → length line ≡ 0
       empty line h = omega (arith, h .count, length-take (length (s .held)) line)
 
-      no-row : (line : List ℕ) → length line ≡ 0 → Put (logFrom rec x number (lastLine line)) (s .log) (s .run .filled) (s .log) (s .run .filled)
+      no-row : (line : List ℕ) → length line ≡ 0 → Put (logFrom rec x (s .wear) number (lastLine line)) (s .log) (s .run .filled) (s .log) (s .run .filled)
       no-row [] e = put-none (s .log) (s .run .filled) (omega arith)
       no-row (b ∷ bs) e = absurd (omega arith)
 
-      no-turn : (line : List ℕ) → length line ≡ 0 → x ≡ chipFrom rec x (lastLine line)
+      no-turn : (line : List ℕ) → length line ≡ 0 → deviceNow s ≡ deviceFrom rec x (s .wear) (lastLine line)
       no-turn [] e = refl
       no-turn (b ∷ bs) e = absurd (omega arith)
 
   last-held : (used ≡ 0 → ⊥) → Finished rec s (lineDone rec s (s .held) last (s .run .at))
   unfolding lineDone
-  last-held u = record { within = omega (arith, short); did = λ line h. row line h; chip = λ line h. chip line h }
+  last-held u = record { within = omega (arith, short); did = λ line h. row line h; device = λ line h. device line h }
     where
-      short : length (rowText rec x number last) ≤ longestRow
-      short = row-short rec x number last
+      short : length (rowText rec x (s .wear) number last) ≤ longestRow
+      short = row-short rec x (s .wear) number last
 
       no-line : Holds [] (s .held) used → ⊥
       no-line h = u (h .count ∙ omega (arith, length-take {A = ℕ} (length (s .held)) []))
 
-      same : (line : List ℕ) → Holds line (s .held) used → Same rec x number last line
-      same line h = same-clip rec x number heldRoom line (lit< tt) (h .is ∙ ap (λ (n : ℕ). take n line) l)
+      same : (line : List ℕ) → Holds line (s .held) used → Same rec x (s .wear) number last line
+      same line h = same-clip rec x (s .wear) number heldRoom line (lit< tt) (h .is ∙ ap (λ (n : ℕ). take n line) l)
 
       row : (line : List ℕ) → Holds line (s .held) used
-          → let t : Stand = lineDone rec s (s .held) last (s .run .at) in Put (logFrom rec x number (lastLine line)) (s .log) (s .run .filled) (t .log) (t .run .filled)
+          → let t : Stand = lineDone rec s (s .held) last (s .run .at) in Put (logFrom rec x (s .wear) number (lastLine line)) (s .log) (s .run .filled) (t .log) (t .run .filled)
       row [] h = absurd (no-line h)
       row (b ∷ bs) h =
           put-as (record { room = omega (arith, short); is = refl; next = refl })
-          (same (b ∷ bs) h .row ∙ sym (append-nil (rowText rec x number (b ∷ bs))))
+          (same (b ∷ bs) h .row ∙ sym (append-nil (rowText rec x (s .wear) number (b ∷ bs))))
 
-      chip : (line : List ℕ) → Holds line (s .held) used → chipAfter (lineTurn rec x last) ≡ chipFrom rec x (lastLine line)
-      chip [] h = absurd (no-line h)
-      chip (b ∷ bs) h = ap chipAfter (same (b ∷ bs) h .turn)
+      device : (line : List ℕ) → Holds line (s .held) used
+          → record { chip = chipAfter (lineTurn rec x (s .wear) last); wear = lineTurn rec x (s .wear) last .wear } ≡ deviceFrom rec x (s .wear) (lastLine line)
+      device [] h = absurd (no-line h)
+      device (b ∷ bs) h = ap (λ (t : Turn). record { chip = chipAfter t; wear = t .wear }) (same (b ∷ bs) h .turn)
 
 pub last-finishes : LastFinishes
 unfolding lastOf
@@ -247,8 +252,8 @@ last-finishes rec s l room = go (eqb (s .run .used) 0) refl
 
 -- ---- no second answer
 pub one-stands : OneStands
-one-stands t r r₂ held held₂ page page₂ cells cells₂ log log₂ p q =
-    (p .run′ ∙ sym (q .run′), p .held′ ∙ sym (q .held′), p .page′ ∙ sym (q .page′), p .cells′ ∙ sym (q .cells′), p .log′ ∙ sym (q .log′))
+one-stands t r r₂ held held₂ page page₂ cells cells₂ wear wear₂ log log₂ p q =
+    (p .run′ ∙ sym (q .run′), p .held′ ∙ sym (q .held′), p .page′ ∙ sym (q .page′), p .cells′ ∙ sym (q .cells′), p .wear′ ∙ sym (q .wear′), p .log′ ∙ sym (q .log′))
 
 pub one-finishes : OneFinishes
-one-finishes t filled filled₂ page page₂ cells cells₂ log log₂ p q = (p .filled′ ∙ sym (q .filled′), p .page′ ∙ sym (q .page′), p .cells′ ∙ sym (q .cells′), p .log′ ∙ sym (q .log′))
+one-finishes t filled filled₂ page page₂ cells cells₂ wear wear₂ log log₂ p q = (p .filled′ ∙ sym (q .filled′), p .page′ ∙ sym (q .page′), p .cells′ ∙ sym (q .cells′), p .wear′ ∙ sym (q .wear′), p .log′ ∙ sym (q .log′))

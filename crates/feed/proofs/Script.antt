@@ -14,11 +14,11 @@ use Rattle.text.specs.Put.{Put}
 use Rattle.text.proofs.PutLaws.{put-same}
 use Rattle.lines.specs.Lines.{linesFrom, joinedUp}
 use Rattle.lines.specs.Cutting.{Holds, heldRoom}
-use Rattle.stepper.specs.Rows.{logFrom}
+use Rattle.stepper.specs.Rows.{logFrom, deviceFrom}
 use Rattle.log.specs.Row.{longestRow}
 use Rattle.feed.specs.Feed.{Stand, chipNow, feedOf}
 use Rattle.feed.specs.Fed.{Did, Fed}
-use Rattle.feed.specs.Script.{emptied, begun, filledPart, Wrote, blockFor, wholeBlock, WholeScript}
+use Rattle.feed.specs.Script.{emptied, begun, filledPart, Wrote, blockFor, wholeBlock, WholeScript, WholeDevice}
 use Rattle.feed.proofs.Feeds.{feed-feeds, last-finishes}
 
 -- a text that was put into an empty log is what is written out of it
@@ -41,8 +41,9 @@ record Through (rec : Record) (block : List ℕ) (s : Stand) (line : List ℕ) (
   room : longestRow ≤ length (w .stand .log)
   holds : Holds rest (w .stand .held) (w .stand .run .used)
   same : (later : List ℕ)
-      → logFrom rec (chipNow s) (s .run .number) (linesFrom line (drop (s .run .at) block ++ later))
-      ≡ w .text ++ logFrom rec (chipNow (w .stand)) (w .stand .run .number) (linesFrom rest later)
+      → logFrom rec (chipNow s) (s .wear) (s .run .number) (linesFrom line (drop (s .run .at) block ++ later))
+      ≡ w .text ++ logFrom rec (chipNow (w .stand)) (w .stand .wear) (w .stand .run .number) (linesFrom rest later)
+  device : (later : List ℕ) → deviceFrom rec (chipNow s) (s .wear) (linesFrom line (drop (s .run .at) block ++ later)) ≡ deviceFrom rec (chipNow (w .stand)) (w .stand .wear) (linesFrom rest later)
 
 used-up : (rec : Record) (block : List ℕ) (s : Stand) (line : List ℕ) → Within block s line → length block ≤ s .run .at → Through rec block s line (record { text = []; stand = emptied s })
 used-up rec block s line p l =
@@ -53,7 +54,8 @@ used-up rec block s line p l =
       hold = p .hold;
       room = p .room;
       holds = p .holds;
-      same = λ later. ap (λ (z : List ℕ). logFrom rec (chipNow s) (s .run .number) (linesFrom line (z ++ later))) none;
+      same = λ later. ap (λ (z : List ℕ). logFrom rec (chipNow s) (s .wear) (s .run .number) (linesFrom line (z ++ later))) none;
+      device = λ later. ap (λ (z : List ℕ). deviceFrom rec (chipNow s) (s .wear) (linesFrom line (z ++ later))) none;
     }
 
 module _ (rec : Record) (block : List ℕ) (s : Stand) (line : List ℕ) (p : Within block s line) where
@@ -79,9 +81,10 @@ module _ (rec : Record) (block : List ℕ) (s : Stand) (line : List ℕ) (p : Wi
         room = t .room;
         holds = t .holds;
         same = λ later.
-            let end : List ℕ = logFrom rec (chipNow (w .stand)) (w .stand .run .number) (linesFrom (t .rest) later) in
+            let end : List ℕ = logFrom rec (chipNow (w .stand)) (w .stand .wear) (w .stand .run .number) (linesFrom (t .rest) later) in
             did .same later ∙ ap (λ (z : List ℕ). did .text ++ z) (t .same later) ∙ sym (append-assoc (did .text) (w .text) end)
             ∙ ap (λ (z : List ℕ). z ++ w .text ++ end) (sym (put-filled (did .put)));
+        device = λ later. did .device later ∙ t .device later;
       }
 
 through-for : (rec : Record) (block : List ℕ) (n : ℕ) (s : Stand) (line : List ℕ) → Within block s line → length block ≤ s .run .at + n → Through rec block s line (blockFor rec block n (emptied s))
@@ -98,9 +101,19 @@ through-for rec block (suc n) s line p l =
     go false e f = rw e (used-up rec block s line p (ltb-false (s .run .at) (length block) e))
 
 -- ---- block after block
+through-block : (rec : Record) (s : Stand) (line block : List ℕ) → length (s .held) ≡ heldRoom → longestRow ≤ length (s .log) → Holds line (s .held) (s .run .used)
+    → Through rec block (begun s) line (wholeBlock rec block s)
+through-block rec s line block l r h = through-for rec block (length block) (begun s) line (record { inside = omega arith; hold = l; room = r; holds = h }) (omega arith)
+
 pub whole-script : WholeScript
 whole-script rec s line [] l r h = put-filled (last-finishes rec (begun s) l r .did line h)
 whole-script rec s line (block ∷ blocks) l r h =
-    let t = through-for rec block (length block) (begun s) line (record { inside = omega arith; hold = l; room = r; holds = h }) (omega arith) in
+    let t = through-block rec s line block l r h in
     let w : Wrote = wholeBlock rec block s in
     ap (λ (z : List ℕ). w .text ++ z) (whole-script rec (w .stand) (t .rest) blocks (t .hold) (t .room) (t .holds)) ∙ sym (t .same (joinedUp blocks))
+
+pub whole-device : WholeDevice
+whole-device rec s line [] l r h = last-finishes rec (begun s) l r .device line h
+whole-device rec s line (block ∷ blocks) l r h =
+    let t = through-block rec s line block l r h in
+    whole-device rec (wholeBlock rec block s .stand) (t .rest) blocks (t .hold) (t .room) (t .holds) ∙ sym (t .device (joinedUp blocks))

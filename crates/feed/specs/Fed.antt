@@ -7,20 +7,23 @@ use Rattle.states.specs.declared.Record.{Record}
 use Rattle.text.specs.Put.{Put}
 use Rattle.lines.specs.Lines.{linesFrom, lastLine}
 use Rattle.lines.specs.Cutting.{Holds, heldRoom}
-use Rattle.stepper.specs.Rows.{logFrom, chipFrom}
+use Rattle.stepper.specs.Rows.{logFrom, deviceFrom}
 use Rattle.log.specs.Row.{longestRow}
-use Rattle.feed.specs.Feed.{Start, Stand, chipNow, feedOf, lastOf}
+use Rattle.feed.specs.Feed.{Start, Stand, chipNow, deviceNow, feedOf, lastOf}
 
--- From s to t some text was put into the log, and the log of the lines to come is that text and the log of the lines still to come:
--- `line` is what there is of the line that is held, `later` the input after the block.
+-- From s to t some text was put into the log, and the log of the lines to come is that text and the log of the lines still to come; what those
+-- leave of chip and table is the same. `line` is what there is of the line that is held, `later` the input after the block.
 pub record Did (rec : Record) (block : List ℕ) (s t : Stand) (line : List ℕ) : Type 0 where
   pub text : List ℕ
   pub rest : List ℕ
   pub put : Put text (s .log) (s .run .filled) (t .log) (t .run .filled)
   pub holds : Holds rest (t .held) (t .run .used)
   pub same : (later : List ℕ)
-      → logFrom rec (chipNow s) (s .run .number) (linesFrom line (drop (s .run .at) block ++ later))
-      ≡ text ++ logFrom rec (chipNow t) (t .run .number) (linesFrom rest (drop (t .run .at) block ++ later))
+      → logFrom rec (chipNow s) (s .wear) (s .run .number) (linesFrom line (drop (s .run .at) block ++ later))
+      ≡ text ++ logFrom rec (chipNow t) (t .wear) (t .run .number) (linesFrom rest (drop (t .run .at) block ++ later))
+  pub device : (later : List ℕ)
+      → deviceFrom rec (chipNow s) (s .wear) (linesFrom line (drop (s .run .at) block ++ later))
+      ≡ deviceFrom rec (chipNow t) (t .wear) (linesFrom rest (drop (t .run .at) block ++ later))
 
 -- a feed goes on to the block's end, or until the log lacks room for a row
 pub record Fed (rec : Record) (block : List ℕ) (s t : Stand) : Type 0 where
@@ -29,13 +32,14 @@ pub record Fed (rec : Record) (block : List ℕ) (s t : Stand) : Type 0 where
   pub hold : length (t .held) ≡ length (s .held)
   pub used : t .run .used ≤ heldRoom
   pub within : t .run .filled ≤ length (s .log)
+  pub long : length (t .log) ≡ length (s .log)
   pub did : (line : List ℕ) → Holds line (s .held) (s .run .used) → Did rec block s t line
 
 -- at the input's end a line that is held is the last one
 pub record Finished (rec : Record) (s t : Stand) : Type 0 where
   pub within : t .run .filled ≤ length (s .log)
-  pub did : (line : List ℕ) → Holds line (s .held) (s .run .used) → Put (logFrom rec (chipNow s) (s .run .number) (lastLine line)) (s .log) (s .run .filled) (t .log) (t .run .filled)
-  pub chip : (line : List ℕ) → Holds line (s .held) (s .run .used) → chipNow t ≡ chipFrom rec (chipNow s) (lastLine line)
+  pub did : (line : List ℕ) → Holds line (s .held) (s .run .used) → Put (logFrom rec (chipNow s) (s .wear) (s .run .number) (lastLine line)) (s .log) (s .run .filled) (t .log) (t .run .filled)
+  pub device : (line : List ℕ) → Holds line (s .held) (s .run .used) → deviceNow t ≡ deviceFrom rec (chipNow s) (s .wear) (lastLine line)
 
 abbrev pub FeedFeeds : Type 0
 FeedFeeds = (rec : Record) (block : List ℕ) (s : Stand) → Start (s .run) (s .held) block (s .log) → Fed rec block s (feedOf rec block s)

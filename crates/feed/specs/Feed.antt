@@ -13,7 +13,7 @@ use Rattle.lines.specs.declared.Cut.the-variants.{Here, Joined, Open}
 use Rattle.lines.specs.Cutting.{cutOf, heldOf, heldRoom}
 use Rattle.play.specs.Play.{Turn}
 use Rattle.stepper.specs.declared.Logged.{Logged}
-use Rattle.stepper.specs.Rows.{lineTurn, rowText, next}
+use Rattle.stepper.specs.Rows.{Device, lineTurn, rowText, next}
 use Rattle.log.specs.Row.{longestRow}
 use Rattle.feed.specs.declared.Run.{Run}
 
@@ -35,30 +35,40 @@ pub record TurnStart (run : Run) (held block log : List ℕ) : Type 0 where
 abbrev pub goesOn : Logged → ℕ → ℕ → Run
 goesOn done number at = record { chip = done .state; number = next number; used = 0; at = at; filled = done .next }
 
--- where a feed stands: the run, the buffer for the line that is held, the page data, the array and the log
+-- the block ends with n bytes of a line held
+abbrev pub stillOpen : Run → ℕ → ℕ → Run
+stillOpen run n at = record { chip = run .chip; number = run .number; used = n; at = at; filled = run .filled }
+
+-- where a feed stands: the run, the buffer for the line that is held, the page data, the array, the wear table and the log
 pub record Stand : Type 0 where
   pub run : Run
   pub held : List ℕ
   pub page : List ℕ
   pub cells : List ℕ
+  pub wear : List ℕ
   pub log : List ℕ
 
-abbrev pub standing : Run → List ℕ → List ℕ → List ℕ → List ℕ → Stand
-standing run held page cells log = record { run = run; held = held; page = page; cells = cells; log = log }
+abbrev pub standing : Run → List ℕ → List ℕ → List ℕ → List ℕ → List ℕ → Stand
+standing run held page cells wear log = record { run = run; held = held; page = page; cells = cells; wear = wear; log = log }
 
 abbrev pub chipNow : Stand → Chip
 chipNow s = chipOf (s .run .chip) (s .page) (s .cells)
 
+-- the chip and the wear table as they stand
+abbrev pub deviceNow : Stand → Device
+deviceNow s = record { chip = chipNow s; wear = s .wear }
+
 -- a line is played, and its row put into the log; the next line starts at `to`
 unfoldable pub lineDone : Record → Stand → List ℕ → List ℕ → ℕ → Stand
 lineDone rec s held line to =
-    let t : Turn = lineTurn rec (chipNow s) line in
-    let row : List ℕ = rowText rec (chipNow s) (s .run .number) line in
+    let t : Turn = lineTurn rec (chipNow s) (s .wear) line in
+    let row : List ℕ = rowText rec (chipNow s) (s .wear) (s .run .number) line in
     record {
       run = goesOn (record { next = s .run .filled + length row; state = t .played .state }) (s .run .number) to;
       held = held;
       page = t .page;
       cells = t .cells;
+      wear = t .wear;
       log = lay (s .log) (s .run .filled) row;
     }
 
@@ -68,10 +78,11 @@ cutTurn rec block s held (Here e) = lineDone rec s held (take (e - s .run .at) (
 cutTurn rec block s held (Joined n e) = lineDone rec s held (take n held) (e + 1)
 cutTurn rec block s held (Open n) =
     record {
-      run = record { chip = s .run .chip; number = s .run .number; used = n; at = length block; filled = s .run .filled };
+      run = stillOpen (s .run) n (length block);
       held = held;
       page = s .page;
       cells = s .cells;
+      wear = s .wear;
       log = s .log;
     }
 
@@ -92,24 +103,26 @@ unfoldable pub lastOf : Record → Stand → Stand
 lastOf rec s = cond (eqb (s .run .used) 0) s (lineDone rec s (s .held) (take (s .run .used) (s .held)) (s .run .at))
 
 -- what a call gives and leaves in the lent buffers
-pub record Stands (t : Stand) (r : Run) (held page cells log : List ℕ) : Type 0 where
+pub record Stands (t : Stand) (r : Run) (held page cells wear log : List ℕ) : Type 0 where
   pub run′ : r ≡ t .run
   pub held′ : held ≡ t .held
   pub page′ : page ≡ t .page
   pub cells′ : cells ≡ t .cells
+  pub wear′ : wear ≡ t .wear
   pub log′ : log ≡ t .log
 
-pub record Finishes (t : Stand) (filled : ℕ) (page cells log : List ℕ) : Type 0 where
+pub record Finishes (t : Stand) (filled : ℕ) (page cells wear log : List ℕ) : Type 0 where
   pub filled′ : filled ≡ t .run .filled
   pub page′ : page ≡ t .page
   pub cells′ : cells ≡ t .cells
+  pub wear′ : wear ≡ t .wear
   pub log′ : log ≡ t .log
 
 -- no second answer
 abbrev pub OneStands : Type 0
-OneStands = (t : Stand) (r r₂ : Run) (held held₂ page page₂ cells cells₂ log log₂ : List ℕ) → Stands t r held page cells log → Stands t r₂ held₂ page₂ cells₂ log₂
-    → (r ≡ r₂) × (held ≡ held₂) × (page ≡ page₂) × (cells ≡ cells₂) × (log ≡ log₂)
+OneStands = (t : Stand) (r r₂ : Run) (held held₂ page page₂ cells cells₂ wear wear₂ log log₂ : List ℕ) → Stands t r held page cells wear log → Stands t r₂ held₂ page₂ cells₂ wear₂ log₂
+    → (r ≡ r₂) × (held ≡ held₂) × (page ≡ page₂) × (cells ≡ cells₂) × (wear ≡ wear₂) × (log ≡ log₂)
 
 abbrev pub OneFinishes : Type 0
-OneFinishes = (t : Stand) (filled filled₂ : ℕ) (page page₂ cells cells₂ log log₂ : List ℕ) → Finishes t filled page cells log → Finishes t filled₂ page₂ cells₂ log₂
-    → (filled ≡ filled₂) × (page ≡ page₂) × (cells ≡ cells₂) × (log ≡ log₂)
+OneFinishes = (t : Stand) (filled filled₂ : ℕ) (page page₂ cells cells₂ wear wear₂ log log₂ : List ℕ) → Finishes t filled page cells wear log → Finishes t filled₂ page₂ cells₂ wear₂ log₂
+    → (filled ≡ filled₂) × (page ≡ page₂) × (cells ≡ cells₂) × (wear ≡ wear₂) × (log ≡ log₂)

@@ -8,24 +8,24 @@ use lib.ListN.{length, take}
 use Rattle.states.specs.declared.Record.{Record}
 use Rattle.lines.specs.Lines.{linesFrom, joinedUp}
 use Rattle.lines.specs.Cutting.{Holds, heldRoom}
-use Rattle.stepper.specs.Rows.{logFrom}
+use Rattle.stepper.specs.Rows.{logFrom, deviceFrom}
 use Rattle.log.specs.Row.{longestRow}
 use Rattle.feed.specs.declared.Run.{Run}
-use Rattle.feed.specs.Feed.{Stand, standing, chipNow, feedOf, lastOf}
+use Rattle.feed.specs.Feed.{Stand, standing, chipNow, deviceNow, feedOf, lastOf}
 
 -- the log was written out, and is empty again
 abbrev pub emptiedRun : Run → Run
 emptiedRun run = record { chip = run .chip; number = run .number; used = run .used; at = run .at; filled = 0 }
 
 abbrev pub emptied : Stand → Stand
-emptied s = standing (emptiedRun (s .run)) (s .held) (s .page) (s .cells) (s .log)
+emptied s = standing (emptiedRun (s .run)) (s .held) (s .page) (s .cells) (s .wear) (s .log)
 
 -- the start of a block, with an empty log
 abbrev pub begunRun : Run → Run
 begunRun run = record { chip = run .chip; number = run .number; used = run .used; at = 0; filled = 0 }
 
 abbrev pub begun : Stand → Stand
-begun s = standing (begunRun (s .run)) (s .held) (s .page) (s .cells) (s .log)
+begun s = standing (begunRun (s .run)) (s .held) (s .page) (s .cells) (s .wear) (s .log)
 
 -- what is written out of the log
 abbrev pub filledPart : Stand → List ℕ
@@ -53,7 +53,20 @@ abbrev pub writtenOf : Record → Stand → List (List ℕ) → List ℕ
 writtenOf rec s [] = filledPart (lastOf rec (begun s))
 writtenOf rec s (block ∷ blocks) = wholeBlock rec block s .text ++ writtenOf rec (wholeBlock rec block s .stand) blocks
 
--- it is the log of the lines of all blocks together, whatever `line` is held at the start
+-- where it stands after block after block, and after the input's end
+abbrev pub passedBlocks : Record → Stand → List (List ℕ) → Stand
+passedBlocks rec s [] = s
+passedBlocks rec s (block ∷ blocks) = passedBlocks rec (wholeBlock rec block s .stand) blocks
+
+abbrev pub standAfter : Record → Stand → List (List ℕ) → Stand
+standAfter rec s blocks = lastOf rec (begun (passedBlocks rec s blocks))
+
+-- what is written is the log of the lines of all blocks together, whatever `line` is held at the start
 abbrev pub WholeScript : Type 0
 WholeScript = (rec : Record) (s : Stand) (line : List ℕ) (blocks : List (List ℕ)) → length (s .held) ≡ heldRoom → longestRow ≤ length (s .log) → Holds line (s .held) (s .run .used)
-    → writtenOf rec s blocks ≡ logFrom rec (chipNow s) (s .run .number) (linesFrom line (joinedUp blocks))
+    → writtenOf rec s blocks ≡ logFrom rec (chipNow s) (s .wear) (s .run .number) (linesFrom line (joinedUp blocks))
+
+-- and chip and wear table are as those lines leave them
+abbrev pub WholeDevice : Type 0
+WholeDevice = (rec : Record) (s : Stand) (line : List ℕ) (blocks : List (List ℕ)) → length (s .held) ≡ heldRoom → longestRow ≤ length (s .log) → Holds line (s .held) (s .run .used)
+    → deviceNow (standAfter rec s blocks) ≡ deviceFrom rec (chipNow s) (s .wear) (linesFrom line (joinedUp blocks))

@@ -4,7 +4,8 @@ ghost use Prim.Native.Nat.{_+_, _≤_, _<_};
 ghost use lib.ListN.{length};
 ghost use Rattle.log.specs.Row.{longestRow};
 ghost use Rattle.lines.specs.Cutting.{heldRoom};
-ghost use Rattle.feed.specs.Feed.{Start, TurnStart, goesOn, standing, feedTurn, feedOf, lastOf, Stands, Finishes};
+ghost use mathlib.Core.List.{[]};
+ghost use Rattle.feed.specs.Feed.{Start, TurnStart, goesOn, stillOpen, standing, lineDone, feedTurn, feedOf, lastOf, Stands, Finishes};
 use lines::Cut;
 use states::Record;
 use states::State;
@@ -34,6 +35,41 @@ fn line_done(done: Logged, number: u64, at: usize) -> Run
     }
 }
 
+// A line is played, and its row put into the log; the next line starts at `to`.
+fn play_line(
+    run: Run,
+    rec: Record,
+    line: &[u8],
+    to: usize,
+    page: &mut [u8],
+    array: &mut [u8],
+    wear: &mut [u32],
+    log: &mut [u8],
+) -> Run
+    requires { ⌜ run .filled + longestRow ≤ length (now log) ⌝ }
+    ensures { λ r. ⌜ Stands (lineDone rec (standing run [] (now (page .entry)) (now (array .entry)) (now (wear .entry)) (now (log .entry))) [] (now (line .entry)) to) r [] (now (page .exit)) (now (array .exit)) (now (wear .exit)) (now (log .exit)) ⌝ }
+{
+    let chip = run.chip;
+    let number = run.number;
+    let filled = run.filled;
+    let done = stepper::log_line(number, line, rec, chip, page, array, wear, log, filled);
+    line_done(done, number, to)
+}
+
+// The block ends, and so many bytes of its last line are held.
+fn line_open(run: Run, used: usize, at: usize) -> Run
+    ensures { λ r. ⌜ r ≡ stillOpen run used at ⌝ }
+{
+    let chip = run.chip;
+    Run {
+        chip,
+        number: run.number,
+        used,
+        at,
+        filled: run.filled,
+    }
+}
+
 // One line, or the rest of the block where no line ends in it.
 fn turn(
     run: Run,
@@ -42,35 +78,25 @@ fn turn(
     block: &[u8],
     page: &mut [u8],
     array: &mut [u8],
+    wear: &mut [u32],
     log: &mut [u8],
 ) -> Run
     requires { ⌜ TurnStart run (now held) (now block) (now log) ⌝ }
-    ensures { λ r. ⌜ Stands (feedTurn rec (now (block .entry)) (standing run (now (held .entry)) (now (page .entry)) (now (array .entry)) (now (log .entry)))) r (now (held .exit)) (now (page .exit)) (now (array .exit)) (now (log .exit)) ⌝ }
+    ensures { λ r. ⌜ Stands (feedTurn rec (now (block .entry)) (standing run (now (held .entry)) (now (page .entry)) (now (array .entry)) (now (wear .entry)) (now (log .entry)))) r (now (held .exit)) (now (page .exit)) (now (array .exit)) (now (wear .exit)) (now (log .exit)) ⌝ }
 {
-    let chip = run.chip;
-    let number = run.number;
     let used = run.used;
     let at = run.at;
-    let filled = run.filled;
     let cut = lines::cut_line(held, used, block, at);
     match cut {
         Cut::Here { end } => {
             let line = &block[at..end];
-            let done = stepper::log_line(number, line, rec, chip, page, array, log, filled);
-            line_done(done, number, end + 1)
+            play_line(run, rec, line, end + 1, page, array, wear, log)
         }
         Cut::Joined { used: n, end } => {
             let line = &held[0..n];
-            let done = stepper::log_line(number, line, rec, chip, page, array, log, filled);
-            line_done(done, number, end + 1)
+            play_line(run, rec, line, end + 1, page, array, wear, log)
         }
-        Cut::Open { used: n } => Run {
-            chip,
-            number,
-            used: n,
-            at: block.len(),
-            filled,
-        },
+        Cut::Open { used: n } => line_open(run, n, block.len()),
     }
 }
 
@@ -82,10 +108,11 @@ pub fn feed(
     block: &[u8],
     page: &mut [u8],
     array: &mut [u8],
+    wear: &mut [u32],
     log: &mut [u8],
 ) -> Run
     requires { ⌜ Start first (now held) (now block) (now log) ⌝ }
-    ensures { λ r. ⌜ Stands (feedOf rec (now (block .entry)) (standing first (now (held .entry)) (now (page .entry)) (now (array .entry)) (now (log .entry)))) r (now (held .exit)) (now (page .exit)) (now (array .exit)) (now (log .exit)) ⌝ }
+    ensures { λ r. ⌜ Stands (feedOf rec (now (block .entry)) (standing first (now (held .entry)) (now (page .entry)) (now (array .entry)) (now (wear .entry)) (now (log .entry)))) r (now (held .exit)) (now (page .exit)) (now (array .exit)) (now (wear .exit)) (now (log .exit)) ⌝ }
 {
     let mut run = first;
     let mut at = first.at;
@@ -94,7 +121,7 @@ pub fn feed(
         if log.len() - filled < log::LONGEST_ROW {
             return run;
         }
-        run = turn(run, rec, held, block, page, array, log);
+        run = turn(run, rec, held, block, page, array, wear, log);
         at = run.at;
     }
     run
@@ -107,18 +134,18 @@ pub fn finish(
     held: &[u8],
     page: &mut [u8],
     array: &mut [u8],
+    wear: &mut [u32],
     log: &mut [u8],
 ) -> usize
     requires { ⌜ (length (now held) ≡ heldRoom) × (run .used ≤ heldRoom) × (run .filled + longestRow ≤ length (now log)) ⌝ }
-    ensures { λ r. ⌜ Finishes (lastOf rec (standing run (now (held .entry)) (now (page .entry)) (now (array .entry)) (now (log .entry)))) r (now (page .exit)) (now (array .exit)) (now (log .exit)) ⌝ }
+    ensures { λ r. ⌜ Finishes (lastOf rec (standing run (now (held .entry)) (now (page .entry)) (now (array .entry)) (now (wear .entry)) (now (log .entry)))) r (now (page .exit)) (now (array .exit)) (now (wear .exit)) (now (log .exit)) ⌝ }
 {
     let used = run.used;
     let filled = run.filled;
-    let chip = run.chip;
     if used == 0 {
         return filled;
     }
     let line = &held[0..used];
-    let done = stepper::log_line(run.number, line, rec, chip, page, array, log, filled);
-    done.next
+    let done = play_line(run, rec, line, run.at, page, array, wear, log);
+    done.filled
 }

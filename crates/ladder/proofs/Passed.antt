@@ -16,7 +16,7 @@ use Rattle.states.specs.States.{recordOk, stateOk}
 use Rattle.states.specs.declared.Record.{Record}
 use Rattle.states.specs.declared.State.{State}
 use Rattle.answers.specs.declared.Answer.{Answer}
-use Rattle.answers.specs.declared.Answer.the-variants.{Done, Protected}
+use Rattle.answers.specs.declared.Answer.the-variants.{Done, Protected, WornOut}
 use Rattle.ladder.specs.declared.Head.{Head}
 use Rattle.ladder.specs.Ladder.{Rung, firstOf, ladder, asks, guarded, refusalOf}
 use Rattle.ladder.specs.Stages.{givenOf}
@@ -45,6 +45,7 @@ unrefused (r ∷ rs) c = rw (c .0) (unrefused rs (c .1))
 pub record Passed (rec : Record) (s : State) (h : Head) : Type 0 where
   pub right : recordOk rec ≡ true
   pub whole : h .cells ≡ modelOf (rec .model) .length
+  pub table : h .sectors ≡ modelOf (rec .model) .sectors
   pub valid : stateOk rec s ≡ true
   pub page : h .page ≡ true
   pub short : h .count ≤ 65541
@@ -59,25 +60,28 @@ pub record Passed (rec : Record) (s : State) (h : Head) : Type 0 where
   pub enabled : (asks rec h .latch && not (s .wel)) ≡ false
   pub unlocked : (asks rec h .lock && (s .srwd && not (h .wp))) ≡ false
   pub free : guarded rec s (asks rec h) h ≡ false
+  pub spare : h .worn ≡ false
 
 pub passed : (rec : Record) (s : State) (h : Head) → isDone (refusalOf rec s h) ≡ true
     → Passed rec s h
 unfolding refusalOf
 passed rec s h e =
     let c = clear (ladder rec s h (asks rec h)) refl e in
-    let d = c .1 .1 .1 .1 .1 in
+    let v = c .1 .1 .1 in
+    let d = v .1 .1 .1 in
     let g = d .1 .1 in
     let f = g .1 .1 .1 .1 in
-    let long = neither _ _ (c .1 .1 .1 .0) in
-    let ok = both (stateOk rec s) (h .page) (not-false _ (c .1 .1 .0)) in
+    let long = neither _ _ (v .1 .0) in
+    let ok = both (stateOk rec s) (h .page) (not-false _ (v .0)) in
     record {
       right = not-false _ (c .0);
+      table = eqb-true _ _ (not-false _ (c .1 .1 .0));
       whole = eqb-true _ _ (not-false _ (c .1 .0));
       valid = ok .0;
       page = ok .1;
       short = ltb-false _ _ (long .0);
       tail = ltb-false _ _ (long .1);
-      roomy = ltb-false _ _ (c .1 .1 .1 .1 .0);
+      roomy = ltb-false _ _ (v .1 .1 .0);
       some = pos-of-ne-zero (eqb-false (h .count) 0 (d .0));
       settled = eqb-true (s .settle) 0 (not-false _ (d .1 .0));
       listens = g .0;
@@ -87,14 +91,15 @@ passed rec s h e =
       enabled = f .0;
       unlocked = f .1 .0;
       free = f .1 .1 .0;
+      spare = f .1 .1 .1 .0;
     }
 
--- the first five rows have shown that the page data fit
+-- the first six rows have shown that the page data fit
 pub given-page : (rec : Record) (s : State) (h : Head) → isDone (givenOf rec s h) ≡ true → h .page ≡ true
 unfolding givenOf
 given-page rec s h e =
-    let c = clear (take 5 (ladder rec s h (asks rec h))) refl e in
-    both (stateOk rec s) (h .page) (not-false _ (c .1 .1 .0)) .1
+    let c = clear (take 6 (ladder rec s h (asks rec h))) refl e in
+    both (stateOk rec s) (h .page) (not-false _ (c .1 .1 .1 .0)) .1
 
 -- ---- what a frame that is answered 17 has shown
 -- no row of a table answers 17
@@ -119,7 +124,7 @@ spared (r ∷ rs) h =
 -- the first rows do not answer it
 pub given-spares : (rec : Record) (s : State) (h : Head) → saysProtected (givenOf rec s h) ≡ false
 unfolding givenOf
-given-spares rec s h = spared (take 5 (ladder rec s h (asks rec h))) refl
+given-spares rec s h = spared (take 6 (ladder rec s h (asks rec h))) refl
 
 clear-to : (rs ys : List Rung) → spares rs ≡ true → saysProtected (firstOf (rs ++ ys)) ≡ true → Clear rs × (saysProtected (firstOf ys) ≡ true)
 clear-to [] ys h e = (tt, e)
@@ -148,18 +153,20 @@ pub stopped : (rec : Record) (s : State) (h : Head) → saysProtected (refusalOf
 unfolding refusalOf
 stopped rec s h e =
     let rows = ladder rec s h (asks rec h) in
-    let t = clear-to (take 13 rows) (drop 13 rows) refl e in
+    let t = clear-to (take 14 rows) (drop 14 rows) refl e in
     let c = t .0 in
-    let ok = both (stateOk rec s) (h .page) (not-false _ (c .1 .1 .0)) in
-    let g : guarded rec s (asks rec h) h ≡ true = reached (guarded rec s (asks rec h) h) (t .1) in
+    let v = c .1 .1 .1 in
+    let ok = both (stateOk rec s) (h .page) (not-false _ (v .0)) in
+    let g : guarded rec s (asks rec h) h ≡ true = reached (guarded rec s (asks rec h) h) (h .worn) (t .1) in
     record {
       right = not-false _ (c .0);
       valid = ok .0;
       page = ok .1;
-      idle = eqb-true (s .busy) 0 (not-false _ (only-if (not (eqb (s .busy) 0)) _ (c .1 .1 .1 .1 .1 .1 .1 .0) (waits-for rec s h g)));
-      settled = eqb-true (s .settle) 0 (not-false _ (c .1 .1 .1 .1 .1 .1 .0));
+      idle = eqb-true (s .busy) 0 (not-false _ (only-if (not (eqb (s .busy) 0)) _ (v .1 .1 .1 .1 .1 .0) (waits-for rec s h g)));
+      settled = eqb-true (s .settle) 0 (not-false _ (v .1 .1 .1 .1 .0));
     }
   where
-    reached : (b : Bool) → saysProtected (cond b Protected Done) ≡ true → b ≡ true
-    reached true f = refl
-    reached false f = absurd (false≢true f)
+    reached : (b w : Bool) → saysProtected (cond b Protected (cond w WornOut Done)) ≡ true → b ≡ true
+    reached true w f = refl
+    reached false true f = absurd (false≢true f)
+    reached false false f = absurd (false≢true f)

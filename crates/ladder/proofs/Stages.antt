@@ -1,5 +1,5 @@
 -- The stages, one after the other, are the one table. Assumes nothing.
-use mathlib.Core.Path.{_≡_, refl, _∙_}
+use mathlib.Core.Path.{_≡_, refl, ap, _∙_}
 use mathlib.Core.Bool.{Bool, true, false, not, _&&_, cond}
 use mathlib.Core.List.{List, [], _∷_, _++_}
 use lib.ListN.{take, drop}
@@ -10,10 +10,11 @@ use Rattle.states.specs.declared.Record.{Record}
 use Rattle.states.specs.declared.State.{State}
 use Rattle.commands.specs.declared.Traits.{Traits}
 use Rattle.commands.proofs.Rows.{no-latch}
-use Rattle.answers.specs.declared.Answer.the-variants.{Done}
+use Rattle.answers.specs.declared.Answer.{Answer}
+use Rattle.answers.specs.declared.Answer.the-variants.{Done, WornOut}
 use Rattle.ladder.specs.declared.Head.{Head}
 use Rattle.ladder.specs.Ladder.{Rung, firstOf, ladder, asks, refusalOf}
-use Rattle.ladder.specs.Stages.{givenOf, saidOf, heardOf, allowedOf}
+use Rattle.ladder.specs.Stages.{givenOf, saidOf, heardOf, allowedOf, lastRow}
 
 -- no row of a table answers 0
 abbrev pub honest : List Rung → Bool
@@ -33,15 +34,18 @@ joined (r ∷ rs) ys h = go (r .bad) (joined rs ys (k .1))
     go false e = e
 
 pub one-table : (rec : Record) (s : State) (h : Head)
-    → refusalOf rec s h ≡ cond (isDone (givenOf rec s h)) (saidOf rec s h) (givenOf rec s h)
-unfolding refusalOf givenOf saidOf
-one-table rec s h = let rows = ladder rec s h (asks rec h) in joined (take 5 rows) (drop 5 rows) refl
+    → refusalOf rec s h ≡ cond (isDone (givenOf rec s h)) (cond (isDone (saidOf rec s h)) (lastRow rec s h) (saidOf rec s h)) (givenOf rec s h)
+unfolding refusalOf givenOf saidOf lastRow
+one-table rec s h =
+    let rows = ladder rec s h (asks rec h) in
+    joined (take 6 rows) (drop 6 rows) refl
+    ∙ ap (λ (a : Answer). cond (isDone (firstOf (take 6 rows))) a (firstOf (take 6 rows))) (joined (take 9 (drop 6 rows)) (drop 15 rows) refl)
 
 pub two-stages : (rec : Record) (s : State) (h : Head)
     → (let k : Traits = asks rec h in
     saidOf rec s h ≡ cond (isDone (heardOf rec s h k)) (allowedOf rec s h k) (heardOf rec s h k))
 unfolding saidOf heardOf allowedOf
-two-stages rec s h = let rows = ladder rec s h (asks rec h) in joined (take 6 (drop 5 rows)) (drop 11 rows) refl
+two-stages rec s h = let rows = ladder rec s h (asks rec h) in joined (take 6 (drop 6 rows)) (take 3 (drop 12 rows)) refl
 
 -- ---- where the code stops
 module _ (rec : Record) (s : State) (h : Head) where
@@ -51,8 +55,16 @@ module _ (rec : Record) (s : State) (h : Head) where
   pub stops-given : isDone (givenOf rec s h) ≡ false → refusalOf rec s h ≡ givenOf rec s h
   stops-given e = one-table rec s h ∙ rw e
 
-  pub goes-on : isDone (givenOf rec s h) ≡ true → refusalOf rec s h ≡ saidOf rec s h
-  goes-on e = one-table rec s h ∙ rw e
+  pub stops-said : isDone (givenOf rec s h) ≡ true → isDone (saidOf rec s h) ≡ false → refusalOf rec s h ≡ saidOf rec s h
+  stops-said e f = one-table rec s h ∙ rw (e, f)
+
+  pub goes-on : isDone (givenOf rec s h) ≡ true → isDone (saidOf rec s h) ≡ true → refusalOf rec s h ≡ lastRow rec s h
+  goes-on e f = one-table rec s h ∙ rw (e, f)
+
+  -- the last row looks at nothing but the wear table
+  pub last-is : lastRow rec s h ≡ cond (h .worn) WornOut Done
+  unfolding lastRow
+  last-is = refl
 
   pub stops-heard : isDone (heardOf rec s h k) ≡ false → saidOf rec s h ≡ heardOf rec s h k
   stops-heard e = two-stages rec s h ∙ rw e

@@ -10,7 +10,7 @@ use Rattle.states.specs.declared.Record.{Record}
 use Rattle.states.specs.declared.State.{State}
 use Rattle.commands.specs.declared.Traits.{Traits}
 use Rattle.answers.specs.declared.Answer.{Answer}
-use Rattle.answers.specs.declared.Answer.the-variants.{Done, BadRecord, BadArray, BadState, BadFrame, ShortOut, Empty, Settling, Busy, Asleep, NoCommand, BadLength, NotEnabled, Locked, Protected}
+use Rattle.answers.specs.declared.Answer.the-variants.{Done, BadRecord, BadArray, BadState, BadFrame, ShortOut, Empty, Settling, Busy, Asleep, NoCommand, BadLength, NotEnabled, Locked, Protected, BadTable, WornOut}
 use Rattle.ladder.specs.declared.Head.{Head}
 
 -- a row of the table: a test, and the answer where it holds
@@ -40,6 +40,7 @@ abbrev pub ladder : Record → State → Head → Traits → List Rung
 ladder rec s h k =
     (not (recordOk rec) gives BadRecord)
     ∷ (not (eqb (h .cells) (modelOf (rec .model) .length)) gives BadArray)
+    ∷ (not (eqb (h .sectors) (modelOf (rec .model) .sectors)) gives BadTable)
     ∷ (not (stateOk rec s && h .page) gives BadState)
     ∷ ((ltb 65541 (h .count) || ltb 7 (h .tail)) gives BadFrame)
     ∷ (ltb (h .room) (h .count) gives ShortOut)
@@ -52,6 +53,7 @@ ladder rec s h k =
     ∷ ((k .latch && not (s .wel)) gives NotEnabled)
     ∷ ((k .lock && (s .srwd && not (h .wp))) gives Locked)
     ∷ (guarded rec s k h gives Protected)
+    ∷ (h .worn gives WornOut)
     ∷ []
 
 unfoldable pub refusalOf : Record → State → Head → Answer

@@ -1,5 +1,5 @@
--- The table in stages, for the code: rows 1 to 5, and what the frame says: rows 10, 22 and 11 to 14, and 15 to 17. proofs/Stages.antt shows that they are
--- the one table.
+-- The table in stages, for the code: rows 1 to 5 with 24 among them; what the frame says: rows 10, 22 and 11 to 14, and 15 to 17; and what its wear table says: 25.
+-- proofs/Stages.antt shows that they are the one table.
 -- Assumes nothing.
 use lib.ListN.{take, drop}
 use Rattle.states.specs.declared.Record.{Record}
@@ -9,15 +9,18 @@ use Rattle.answers.specs.declared.Answer.{Answer}
 use Rattle.ladder.specs.declared.Head.{Head}
 use Rattle.ladder.specs.Ladder.{firstOf, ladder, asks}
 
--- no row of the first five looks at the command
+-- no row of the first six looks at the command
 unfoldable pub givenOf : Record → State → Head → Answer
-givenOf rec s h = firstOf (take 5 (ladder rec s h (asks rec h)))
+givenOf rec s h = firstOf (take 6 (ladder rec s h (asks rec h)))
 
 unfoldable pub saidOf : Record → State → Head → Answer
-saidOf rec s h = firstOf (drop 5 (ladder rec s h (asks rec h)))
+saidOf rec s h = firstOf (take 9 (drop 6 (ladder rec s h (asks rec h))))
 
 unfoldable pub heardOf : Record → State → Head → Traits → Answer
-heardOf rec s h k = firstOf (take 6 (drop 5 (ladder rec s h k)))
+heardOf rec s h k = firstOf (take 6 (drop 6 (ladder rec s h k)))
 
 unfoldable pub allowedOf : Record → State → Head → Traits → Answer
-allowedOf rec s h k = firstOf (drop 11 (ladder rec s h k))
+allowedOf rec s h k = firstOf (take 3 (drop 12 (ladder rec s h k)))
+
+unfoldable pub lastRow : Record → State → Head → Answer
+lastRow rec s h = firstOf (drop 15 (ladder rec s h (asks rec h)))

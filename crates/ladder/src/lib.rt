@@ -8,10 +8,11 @@ use states::Record;
 use states::State;
 use units::Address;
 
-// What the refusals look at of one frame: the cells of the array that it is given, whether the page data fit the state, its whole bytes, tail bits and WP# level, the room of its output,
-// its command, and its address in the array.
+// What the refusals look at of one frame: the cells of the array and the counts of the wear table that it is given, whether the page data fit the state, its whole bytes,
+// tail bits and WP# level, the room of its output, its command, its address in the array, and whether it erases a sector whose count is at its top.
 pub struct Head {
     pub cells: usize,
+    pub sectors: usize,
     pub page: bool,
     pub count: usize,
     pub tail: u32,
@@ -19,9 +20,10 @@ pub struct Head {
     pub room: usize,
     pub command: Command,
     pub address: Address,
+    pub worn: bool,
 }
 
-// 1 to 5: what the call is given at all. The command and the address are not looked at.
+// 1 to 5 and 24: what the call is given at all. The command and the address are not looked at.
 pub fn given(rec: Record, st: State, head: Head) -> Answer
     ensures { λ r. ⌜ r ≡ givenOf rec st head ⌝ }
 {
@@ -31,6 +33,9 @@ pub fn given(rec: Record, st: State, head: Head) -> Answer
     let row = models::model_of(rec.model);
     if head.cells != row.length as usize {
         return Answer::BadArray;
+    }
+    if head.sectors != row.sectors as usize {
+        return Answer::BadTable;
     }
     if !(states::state_ok(rec, st) & head.page) {
         return Answer::BadState;
@@ -92,7 +97,7 @@ fn allowed(rec: Record, st: State, head: Head, t: Traits) -> Answer
     Answer::Done
 }
 
-// 10, 22 and 11 to 17: the first refusal that applies to a frame that 1 to 5 let pass, and Done where none does.
+// 10, 22 and 11 to 17: the first refusal that applies to a frame that 1 to 5 and 24 let pass, and Done where none does.
 pub fn said(rec: Record, st: State, head: Head) -> Answer
     ensures { λ r. ⌜ r ≡ saidOf rec st head ⌝ }
 {

@@ -138,6 +138,10 @@ isModel n = some (λ (p : Part). eqb n (p .number)) models
 unfoldable pub isLength : ℕ → Bool
 isLength bytes = some (λ (p : Part). eqb bytes (p .row .length)) models
 
+-- some model has that many sectors
+unfoldable pub isSectors : ℕ → Bool
+isSectors n = some (λ (p : Part). eqb n (p .row .sectors)) models
+
 -- A record with another number is refused before its row is looked at: there any row would do, and it is the first.
 unfoldable pub partOf : ℕ → Part
 partOf n = find n kh25l512 models

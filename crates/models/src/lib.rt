@@ -1,6 +1,6 @@
 // The models as rows, what is read off a row, and the protected ranges.
 ghost use mathlib.Core.Path.{_≡_};
-ghost use Rattle.models.specs.Models.{isModel, isLength, modelOf, addressOf, rangeOf, isProtected};
+ghost use Rattle.models.specs.Models.{isModel, isLength, isSectors, modelOf, addressOf, rangeOf, isProtected};
 use parts::wide;
 use units::Address;
 use units::Block;
@@ -83,6 +83,13 @@ pub fn is_length(bytes: usize) -> bool
     ensures { λ r. ⌜ r ≡ isLength bytes ⌝ }
 {
     (bytes == 65536) | ((bytes == 262144) | (bytes == 16777216))
+}
+
+// Whether a model has that many sectors.
+pub fn is_sectors(n: usize) -> bool
+    ensures { λ r. ⌜ r ≡ isSectors n ⌝ }
+{
+    (n == 16) | ((n == 64) | (n == 4096))
 }
 
 // The row of the model of that number; of a number that no model has, the first row.

@@ -1,14 +1,16 @@
-// The steps of a case: a fresh chip, its state, page data and cells set, frames, waits and power cycles. `cases` says what each line looks like.
+// The steps of a case: a fresh chip, its state, page data, cells and counts set, frames, waits and power cycles. `cases` says what each line looks like.
 ghost use Prim.Native.Nat.{_<_};
 use parts::wide;
 use play::Played;
 use states::Record;
 use states::State;
 
-// The chip that is worked: its model, the length of its array, the first of the cells that are looked at, and what the last step came to.
+// The chip that is worked: its model, the length of its array and of its wear table, the first of the cells that are looked at, and what the
+// last step came to.
 pub struct Setup {
     pub model: u8,
     pub size: usize,
+    pub sectors: usize,
     pub look: u32,
     pub last: Played,
 }
@@ -41,13 +43,29 @@ fn set_to(state: State) -> Played {
     }
 }
 
-pub fn fresh(model: u8, blocks: u8, page: &mut [u8; 256], array: &mut [u8]) -> Setup {
+// Every count is 0.
+fn unworn(wear: &mut [u32]) {
+    for i in 0..wear.len() {
+        wear[i] = 0;
+    }
+}
+
+pub fn fresh(
+    model: u8,
+    blocks: u8,
+    sectors: u32,
+    page: &mut [u8; 256],
+    array: &mut [u8],
+    wear: &mut [u32],
+) -> Setup {
     parts::fill(page, 0xFF);
     flash::erase_all(array);
+    unworn(wear);
     let last = set_to(states::power_on());
     Setup {
         model,
         size: 65536 * wide(blocks) as usize,
+        sectors: sectors as usize,
         look: 0,
         last,
     }
@@ -101,17 +119,26 @@ fn set_cells(says: &[u8; 16], array: &mut [u8]) {
     }
 }
 
+// A sector's count becomes a number of four bytes, where the table has that sector.
+fn set_count(says: &[u8; 16], wear: &mut [u32]) {
+    let sector = number(says[0], says[1], says[2]) as usize;
+    if sector < wear.len() {
+        wear[sector] = wide(says[3]) * 16777216 + number(says[4], says[5], says[6]);
+    }
+}
+
 // A frame of any length, tail and room.
 fn send(
     rec: Record,
     st: State,
     page: &mut [u8],
     array: &[u8],
+    wear: &mut [u32],
     frame: &[u8],
     tail: u8,
     out: &mut [u8],
 ) -> Played {
-    let r = chip::frame(rec, st, page, array, frame, wide(tail), true, out);
+    let r = chip::frame(rec, st, page, array, wear, frame, wide(tail), true, out);
     let answer = r.answer;
     let state = r.state;
     Played {
@@ -138,6 +165,7 @@ fn send_long(
     says: &[u8; 16],
     page: &mut [u8],
     array: &[u8],
+    wear: &mut [u32],
     out: &mut [u8],
 ) -> Played {
     let count = number(says[0], says[1], says[2]) as usize;
@@ -154,6 +182,7 @@ fn send_long(
         st,
         page,
         array,
+        wear,
         &frame[0..count],
         says[6],
         &mut out[0..room],
@@ -195,6 +224,7 @@ pub fn step(
     line: &[u8],
     page: &mut [u8; 256],
     array: &mut [u8],
+    wear: &mut [u32],
     out: &mut [u8; 65600],
 ) -> Setup {
     let rec = record_of(setup.model);
@@ -214,9 +244,13 @@ pub fn step(
             set_cells(&says, array);
             setup
         }
+        b'T' => {
+            set_count(&says, wear);
+            setup
+        }
         b'L' => with_look(setup, number(says[0], says[1], says[2])),
-        b'X' => with_last(setup, send_long(rec, st, &says, page, array, out)),
-        _ => with_last(setup, play::play(line, rec, st, page, array, out)),
+        b'X' => with_last(setup, send_long(rec, st, &says, page, array, wear, out)),
+        _ => with_last(setup, play::play(line, rec, st, page, array, wear, out)),
     }
 }
 

@@ -17,51 +17,55 @@ use Rattle.script.specs.Hex.{hexBytes}
 use Rattle.script.specs.Reading.{lineOf}
 use Rattle.play.specs.declared.Played.{Played}
 
--- what a line comes to, and the page data, the array and the output after
+-- what a line comes to, and the page data, the array, the wear table and the output after
 pub record Turn : Type 0 where
   pub played : Played
   pub page : List ℕ
   pub cells : List ℕ
+  pub wear : List ℕ
   pub shown : List ℕ
 
 abbrev pub passedOf : After → Played
 passedOf a = record { answer = numberOf (a .answer); from = 0; count = 0; state = a .state; fold = false }
 
 -- the bytes of the line's hex digits, as many as 300, are the frame; it changes no cell
-unfoldable pub frameTurn : Record → Chip → List ℕ → List ℕ → Bool → ℕ → Turn
-frameTurn rec x shown line wp tail =
-    let e : Effect = frameOf rec x (sentOf (take 300 (hexBytes (drop 6 line))) tail wp shown) in
+unfoldable pub frameTurn : Record → Chip → List ℕ → List ℕ → List ℕ → Bool → ℕ → Turn
+frameTurn rec x wear shown line wp tail =
+    let e : Effect = frameOf rec x (sentOf (take 300 (hexBytes (drop 6 line))) tail wp wear shown) in
     record {
       played = record { answer = numberOf (e .reply .answer); from = e .reply .from; count = e .reply .count; state = e .reply .state; fold = e .reply .fold };
       page = e .page;
       cells = x .cells;
+      wear = e .wear;
       shown = e .out;
     }
 
--- a wait: its answer, and the chip that it leaves
-abbrev pub waitTurn : Aftermath → List ℕ → Turn
-waitTurn o shown = record { played = passedOf (record { answer = o .answer; state = o .chip .state }); page = o .chip .page; cells = o .chip .cells; shown = shown }
+-- a wait: its answer, and the chip that it leaves; no count is raised
+abbrev pub waitTurn : Aftermath → List ℕ → List ℕ → Turn
+waitTurn o wear shown = record { played = passedOf (record { answer = o .answer; state = o .chip .state }); page = o .chip .page; cells = o .chip .cells; wear = wear; shown = shown }
 
 -- only the state may differ
-abbrev pub stateTurn : Played → Chip → List ℕ → Turn
-stateTurn p x shown = record { played = p; page = x .page; cells = x .cells; shown = shown }
+abbrev pub stateTurn : Played → Chip → List ℕ → List ℕ → Turn
+stateTurn p x wear shown = record { played = p; page = x .page; cells = x .cells; wear = wear; shown = shown }
 
-unfoldable pub turnOf : Record → Chip → List ℕ → List ℕ → Line → Turn
-turnOf rec x shown line (Frame wp tail n) = frameTurn rec x shown line wp tail
-turnOf rec x shown line (Wait us) = waitTurn (waitOf rec x us) shown
-turnOf rec x shown line Power = stateTurn (passedOf (powerOf rec (x .state) (x .page))) x shown
-turnOf rec x shown line Bad = stateTurn (record { answer = 20; from = 0; count = 0; state = x .state; fold = false }) x shown
+unfoldable pub turnOf : Record → Chip → List ℕ → List ℕ → List ℕ → Line → Turn
+turnOf rec x wear shown line (Frame wp tail n) = frameTurn rec x wear shown line wp tail
+turnOf rec x wear shown line (Wait us) = waitTurn (waitOf rec x us) wear shown
+turnOf rec x wear shown line Power = stateTurn (passedOf (powerOf rec (x .state) (x .page))) x wear shown
+turnOf rec x wear shown line Bad = stateTurn (record { answer = 20; from = 0; count = 0; state = x .state; fold = false }) x wear shown
 
 -- any line
-abbrev pub playOf : Record → Chip → List ℕ → List ℕ → Turn
-playOf rec x shown line = turnOf rec x shown line (lineOf line)
+abbrev pub playOf : Record → Chip → List ℕ → List ℕ → List ℕ → Turn
+playOf rec x wear shown line = turnOf rec x wear shown line (lineOf line)
 
-pub record Plays (t : Turn) (r : Played) (ps xs os : List ℕ) : Type 0 where
+pub record Plays (t : Turn) (r : Played) (ps xs ws os : List ℕ) : Type 0 where
   pub played : r ≡ t .played
   pub page : ps ≡ t .page
   pub cells : xs ≡ t .cells
+  pub wear : ws ≡ t .wear
   pub shown : os ≡ t .shown
 
 -- no second answer
 abbrev pub OnePlays : Type 0
-OnePlays = (t : Turn) (r r′ : Played) (ps ps′ xs xs′ os os′ : List ℕ) → Plays t r ps xs os → Plays t r′ ps′ xs′ os′ → (r ≡ r′) × (ps ≡ ps′) × (xs ≡ xs′) × (os ≡ os′)
+OnePlays = (t : Turn) (r r′ : Played) (ps ps′ xs xs′ ws ws′ os os′ : List ℕ) → Plays t r ps xs ws os → Plays t r′ ps′ xs′ ws′ os′
+    → (r ≡ r′) × (ps ≡ ps′) × (xs ≡ xs′) × (ws ≡ ws′) × (os ≡ os′)

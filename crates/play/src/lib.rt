@@ -31,7 +31,7 @@ fn passed(a: After) -> Played
     }
 }
 
-// The line of a frame: its bytes are sent to the chip. The array is not written.
+// The line of a frame: its bytes are sent to the chip. The array is not written; the wear table is, by an erase.
 fn play_frame(
     line: &[u8],
     wp: bool,
@@ -40,13 +40,24 @@ fn play_frame(
     st: State,
     page: &mut [u8],
     array: &[u8],
+    wear: &mut [u32],
     shown: &mut [u8],
 ) -> Played
-    ensures { λ r. ⌜ Plays (frameTurn rec (chipOf st (now (page .entry)) (now (array .entry))) (now (shown .entry)) (now (line .entry)) wp tail) r (now (page .exit)) (now (array .entry)) (now (shown .exit)) ⌝ }
+    ensures { λ r. ⌜ Plays (frameTurn rec (chipOf st (now (page .entry)) (now (array .entry))) (now (wear .entry)) (now (shown .entry)) (now (line .entry)) wp tail) r (now (page .exit)) (now (array .entry)) (now (wear .exit)) (now (shown .exit)) ⌝ }
 {
     let mut sent = [0u8; 300];
     let n = script::frame_bytes(line, &mut sent);
-    let r = chip::frame(rec, st, page, array, &sent[0..n], tail as u32, wp, shown);
+    let r = chip::frame(
+        rec,
+        st,
+        page,
+        array,
+        wear,
+        &sent[0..n],
+        tail as u32,
+        wp,
+        shown,
+    );
     let answer = r.answer;
     let state = r.state;
     Played {
@@ -65,14 +76,15 @@ pub fn play(
     st: State,
     page: &mut [u8],
     array: &mut [u8],
+    wear: &mut [u32],
     shown: &mut [u8],
 ) -> Played
-    ensures { λ r. ⌜ Plays (playOf rec (chipOf st (now (page .entry)) (now (array .entry))) (now (shown .entry)) (now (line .entry))) r (now (page .exit)) (now (array .exit)) (now (shown .exit)) ⌝ }
+    ensures { λ r. ⌜ Plays (playOf rec (chipOf st (now (page .entry)) (now (array .entry))) (now (wear .entry)) (now (shown .entry)) (now (line .entry))) r (now (page .exit)) (now (array .exit)) (now (wear .exit)) (now (shown .exit)) ⌝ }
 {
     let said = script::read_line(line);
     match said {
         Line::Frame { wp, tail, count: _ } => {
-            play_frame(line, wp, tail, rec, st, page, array, shown)
+            play_frame(line, wp, tail, rec, st, page, array, wear, shown)
         }
         Line::Wait(us) => passed(time::wait(rec, st, page, array, us)),
         Line::Power => passed(time::power_cycle(rec, st, page)),

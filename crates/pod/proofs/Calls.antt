@@ -23,7 +23,7 @@ use Rattle.chip.specs.Frames.{Sent, headFor, frameOf}
 use Rattle.time.specs.declared.After.{After}
 use Rattle.time.specs.Time.{waited, cutOff, chipRefusal, powerRefusal, cutRefusal, Aftermath, unless, waitOf, powerOf, powerCutOf, Ends}
 use Rattle.packing.specs.Packing.{packed, pageIn, isPacking, unpackOf}
-use Rattle.pod.specs.Calls.{chipIn, cellsRefusal, bytesRefusal, mayMove, keptOf, called, calledFrame, altered, alteredOf, calledWait, calledCut, answered, calledCycle, Leaves, Alters, Answers, Packs}
+use Rattle.pod.specs.Calls.{chipIn, cellsRefusal, bytesRefusal, tableRefusal, frameRefusal, mayMove, keptOf, called, calledFrame, altered, alteredOf, calledWait, calledCut, answered, calledCycle, Leaves, Alters, Answers, Packs}
 use Rattle.packing.proofs.Status.{flag-byte}
 use Rattle.packing.proofs.Valid.{invalid}
 use Rattle.pod.proofs.Valid.{Keeps, frame-keeps, chip-spared, power-spared, wait-keeps, cut-keeps, cycle-keeps}
@@ -72,8 +72,8 @@ module _ (xs : List ℕ) (n : length xs ≡ 272) where
         go false d = page-back page ∙ ap (λ (ys : List ℕ). take 16 xs ++ ys) (k .same-page d) ∙ take-append-drop 16 xs
 
 -- ---- frames
-module _ (rec : Record) (xs cells : List ℕ) (f : Sent) (n : length xs ≡ 272) {r : Record} {s : State} {reply : Reply} {page out′ : List ℕ} (re : r ≡ rec) (se : s ≡ unpackOf xs) (g : Gives (frameOf r (chipOf s (midOf 16 256 xs) cells) f) reply page out′) where
-  given : Gives (frameOf rec (chipIn xs cells) f) reply page out′
+module _ (rec : Record) (xs cells : List ℕ) (f : Sent) (n : length xs ≡ 272) {r : Record} {s : State} {reply : Reply} {page wear′ out′ : List ℕ} (re : r ≡ rec) (se : s ≡ unpackOf xs) (g : Gives (frameOf r (chipOf s (midOf 16 256 xs) cells) f) reply page wear′ out′) where
+  given : Gives (frameOf rec (chipIn xs cells) f) reply page wear′ out′
   given = rw (re, lent xs n cells se) at g
 
   frame-kept : Keeps rec (chipIn xs cells) (reply .answer) (reply .state) page
@@ -83,12 +83,13 @@ module _ (rec : Record) (xs cells : List ℕ) (f : Sent) (n : length xs ≡ 272)
   fits-frame = packs xs n rec cells (reply .answer) (reply .state) page frame-kept
 
   pub leaves : {m : ℕ} {xs′ : List ℕ} → m ≡ numberOf (reply .answer) → xs′ ≡ keptOf (reply .answer) (reply .state) (pageIn (putMid 16 256 xs page)) (putMid 16 256 xs page)
-      → Leaves (calledFrame rec xs cells f) m xs′ out′ (reply .from) (reply .count) (boolByte (reply .fold))
+      → Leaves (calledFrame rec xs cells f) m xs′ wear′ out′ (reply .from) (reply .count) (boolByte (reply .fold))
   unfolding calledFrame
   leaves e k =
       record {
         number-is = e ∙ ap (λ (x : Reply). numberOf (x .answer)) (given .reply);
         state-is = k ∙ kept-back xs n rec cells (reply .answer) (reply .state) page frame-kept ∙ rw (given .reply, given .page-is);
+        wear-is = given .wear-is;
         out-is = given .out;
         from-is = ap (λ (x : Reply). x .from) (given .reply);
         count-is = ap (λ (x : Reply). x .count) (given .reply);
@@ -172,14 +173,16 @@ module _ (rec : Record) (xs cells : List ℕ) (u : Unfit rec xs) where
   abbrev long : Bool
   long = eqb (length cells) (modelOf (rec .model) .length)
 
-  pub unfit-frame : (f : Sent) → calledFrame rec xs cells f ≡ called (bytesRefusal rec (length cells)) xs (f .out) 0 0 0
+  pub unfit-frame : (f : Sent) → calledFrame rec xs cells f ≡ called (frameRefusal rec (length cells) (length (f .wear))) xs (f .wear) (f .out) 0 0 0
   unfolding calledFrame frameOf refusalOf headFor keptOf
-  unfit-frame f = go (recordOk rec) long refl refl
+  unfit-frame f = go (recordOk rec) long (eqb (length (f .wear)) (modelOf (rec .model) .sectors)) refl refl refl
     where
-      go : (r l : Bool) → recordOk rec ≡ r → long ≡ l → calledFrame rec xs cells f ≡ called (cond r (cond l 3 2) 1) xs (f .out) 0 0 0
-      go true true e k = rw (e, k, u)
-      go true false e k = rw (e, k)
-      go false l e k = rw e
+      go : (r l t : Bool) → recordOk rec ≡ r → long ≡ l → eqb (length (f .wear)) (modelOf (rec .model) .sectors) ≡ t
+          → calledFrame rec xs cells f ≡ called (cond r (cond l (cond t 3 24) 2) 1) xs (f .wear) (f .out) 0 0 0
+      go true true true e k w = rw (e, k, w, u)
+      go true true false e k w = rw (e, k, w)
+      go true false t e k w = rw (e, k)
+      go false l t e k w = rw e
 
   unfit-chip : (numberOf (chipRefusal rec (chipIn xs cells)) ≡ bytesRefusal rec (length cells)) × (isDone (chipRefusal rec (chipIn xs cells)) ≡ false)
   unfolding chipRefusal
@@ -216,7 +219,7 @@ module _ (rec : Record) (xs : List ℕ) {r : Record} (re : r ≡ rec) (b : recor
   bad : recordOk rec ≡ false
   bad = sym (ap recordOk re) ∙ b
 
-  record-frame : (cells : List ℕ) (f : Sent) → calledFrame rec xs cells f ≡ called 1 xs (f .out) 0 0 0
+  record-frame : (cells : List ℕ) (f : Sent) → calledFrame rec xs cells f ≡ called 1 xs (f .wear) (f .out) 0 0 0
   unfolding calledFrame frameOf refusalOf headFor keptOf
   record-frame cells f = rw bad
 
@@ -236,8 +239,8 @@ module _ (rec : Record) (xs : List ℕ) {r : Record} (re : r ≡ rec) (b : recor
   unfolding calledCycle powerOf powerRefusal keptOf
   record-cycle = rw bad
 
-  pub bad-record-frame : (cells : List ℕ) (f : Sent) → Leaves (calledFrame rec xs cells f) 1 xs (f .out) 0 0 0
-  bad-record-frame cells f = rw (record-frame cells f) (record { number-is = refl; state-is = refl; out-is = refl; from-is = refl; count-is = refl; fold-is = refl })
+  pub bad-record-frame : (cells : List ℕ) (f : Sent) → Leaves (calledFrame rec xs cells f) 1 xs (f .wear) (f .out) 0 0 0
+  bad-record-frame cells f = rw (record-frame cells f) (record { number-is = refl; state-is = refl; wear-is = refl; out-is = refl; from-is = refl; count-is = refl; fold-is = refl })
 
   pub bad-record-wait : (cells : List ℕ) (us : ℕ) → Alters (calledWait rec xs cells us) 1 xs cells
   bad-record-wait cells us = rw (record-wait cells us) (record { number-is = refl; state-is = refl; cells-are = refl })
@@ -257,15 +260,16 @@ module _ (rec : Record) (xs : List ℕ) (n : isPacking xs ≡ false) {r : Record
     same-number : m ≡ bytesRefusal rec (length cells)
     same-number = rw good (e ∙ ap (λ (x : Record). cellsRefusal (x .model) (length cells)) re)
 
-    pub bad-bytes-frame : (f : Sent) → Leaves (calledFrame rec xs cells f) m xs (f .out) 0 0 0
-    bad-bytes-frame f =
-        rw (unfit-frame rec xs cells (no-packing rec xs n) f) (record { number-is = same-number; state-is = refl; out-is = refl; from-is = refl; count-is = refl; fold-is = refl })
-
     pub bad-bytes-wait : (us : ℕ) → Alters (calledWait rec xs cells us) m xs cells
     bad-bytes-wait us = rw (unfit-wait rec xs cells (no-packing rec xs n) us) (record { number-is = same-number; state-is = refl; cells-are = refl })
 
     pub bad-bytes-cut : (pattern : List ℕ) → Alters (calledCut rec xs cells pattern) m xs cells
     bad-bytes-cut pattern = rw (unfit-cut rec xs cells (no-packing rec xs n) pattern) (record { number-is = same-number; state-is = refl; cells-are = refl })
+
+  pub bad-bytes-frame : (cells : List ℕ) (f : Sent) {m : ℕ} → m ≡ tableRefusal (r .model) (length cells) (length (f .wear)) → Leaves (calledFrame rec xs cells f) m xs (f .wear) (f .out) 0 0 0
+  bad-bytes-frame cells f e =
+      rw (unfit-frame rec xs cells (no-packing rec xs n) f, good)
+      (record { number-is = e ∙ ap (λ (x : Record). tableRefusal (x .model) (length cells) (length (f .wear))) re; state-is = refl; wear-is = refl; out-is = refl; from-is = refl; count-is = refl; fold-is = refl })
 
   pub bad-bytes-cycle : Answers (calledCycle rec xs) 3 xs
   bad-bytes-cycle = rw (unfit-cycle rec xs (no-packing rec xs n), good) (record { number-is = refl; state-is = refl })

@@ -7,7 +7,7 @@ use Prim.Native.Nat.{ℕ}
 use native.Mathlib.Omega.{arith}
 use borrow.Author.Tests.{eq-eqb, ne-eqb}
 use Rattle.units.proofs.Bools.{both}
-use Rattle.models.specs.Models.{modelOf}
+use Rattle.models.specs.Models.{modelOf, isSectors}
 use Rattle.answers.specs.Answers.{numberOf}
 use Rattle.answers.specs.declared.Answer.{Answer}
 use Rattle.states.specs.States.{stateOk, pageOk, chipOf}
@@ -18,12 +18,14 @@ use Rattle.effects.proofs.Replies.{leaves-latch, clears-latch}
 use Rattle.chip.specs.Frames.{Sent, frameOf}
 use Rattle.time.specs.Time.{waited, cutOff, chipRefusal, powerRefusal, cutRefusal, waitOf, powerOf, powerCutOf}
 use Rattle.packing.specs.Packing.{packed, pageIn, unpackOf}
-use Rattle.pod.specs.Calls.{chipIn, mayMove, keptOf, called, calledOf, calledFrame, calledWait, calledCut, calledCycle}
-use Rattle.pod.specs.Promises.{NoPacking, FrameRefusesBytes, WaitRefusesBytes, CutRefusesBytes, CycleRefusesBytes, RefusedFrameStays, RefusedFrameClears, RefusedWaitStays, RefusedCutStays, RefusedCycleStays, FrameCarries, WaitCarries, CutCarries, CycleCarries, OneCalled, OneAltered, OneAnswered}
+use Rattle.pod.specs.Calls.{chipIn, mayMove, keptOf, called, calledOf, calledFrame, calledWait, calledCut, calledCycle, calledReport, reported}
+use Rattle.pod.specs.Promises.{NoPacking, FrameRefusesBytes, WaitRefusesBytes, CutRefusesBytes, CycleRefusesBytes, RefusedFrameStays, RefusedFrameClears, RefusedWaitStays, RefusedCutStays, RefusedCycleStays, FrameCarries, WaitCarries, CutCarries, CycleCarries, OneCalled, OneAltered, OneAnswered, OneReported, RefusedReportStays}
 use Rattle.packing.proofs.Packing.{page-packed, pack-unpack, unpack-pack}
 use Rattle.packing.proofs.Valid.{valid-packing}
 use Rattle.pod.proofs.Valid.{Keeps, frame-keeps, refused, wait-keeps, cut-keeps, cycle-keeps, chip-spared, cut-spared}
 use Rattle.pod.proofs.Calls.{Unfit, unfit-frame, unfit-wait, unfit-cut, unfit-cycle, refused-altered, refused-answered}
+use Rattle.counts.specs.Counts.{reportOf}
+use lib.ListN.{length}
 
 -- ---- what is no packing
 unfit : (rec : Record) (xs : List ℕ) → NoPacking rec xs → Unfit rec xs
@@ -54,7 +56,7 @@ module _ (rec : Record) (xs cells : List ℕ) (f : Sent) where
 
   -- a refused frame drives nothing and leaves the page data
   refused-called : (numberOf a ≡ 0 → ⊥)
-      → calledFrame rec xs cells f ≡ called (numberOf a) (keptOf a (refusalLeaves (rec .model) a (unpackOf xs)) (pageIn xs) xs) (f .out) 0 0 0
+      → calledFrame rec xs cells f ≡ called (numberOf a) (keptOf a (refusalLeaves (rec .model) a (unpackOf xs)) (pageIn xs) xs) (f .wear) (f .out) 0 0 0
   unfolding calledFrame
   refused-called n = ap (calledOf xs) (refused rec (chipIn xs cells) f (ne-eqb (numberOf a) 0 n))
 
@@ -75,7 +77,7 @@ module _ (rec : Record) (xs cells : List ℕ) (f : Sent) where
 pub refused-frame-stays : RefusedFrameStays
 unfolding calledFrame
 refused-frame-stays rec xs cells f n h =
-    refused-called rec xs cells f n ∙ ap (λ (b : List ℕ). called (numberOf (a rec xs cells f)) b (f .out) 0 0 0) (stays rec xs cells f n h)
+    refused-called rec xs cells f n ∙ ap (λ (b : List ℕ). called (numberOf (a rec xs cells f)) b (f .wear) (f .out) 0 0 0) (stays rec xs cells f n h)
 
 pub refused-frame-clears : RefusedFrameClears
 unfolding calledFrame keptOf
@@ -128,11 +130,23 @@ cycle-carries rec xs cells = carried rec xs cells _ _ _ cells (cycle-keeps rec (
 
 -- ---- no second answer
 pub one-called : OneCalled
-one-called c n m xs ys out out′ from from′ count count′ fold fold′ p q =
-    rw (p .number-is, p .state-is, p .out-is, p .from-is, p .count-is, p .fold-is, q .number-is, q .state-is, q .out-is, q .from-is, q .count-is, q .fold-is)
+one-called c n m xs ys wear wear′ out out′ from from′ count count′ fold fold′ p q =
+    rw (p .number-is, p .state-is, p .wear-is, p .out-is, p .from-is, p .count-is, p .fold-is, q .number-is, q .state-is, q .wear-is, q .out-is, q .from-is, q .count-is, q .fold-is)
 
 pub one-altered : OneAltered
 one-altered c n m xs ys cells cells′ p q = rw (p .number-is, p .state-is, p .cells-are, q .number-is, q .state-is, q .cells-are)
 
 pub one-answered : OneAnswered
 one-answered c n m xs ys p q = rw (p .number-is, p .state-is, q .number-is, q .state-is)
+
+pub one-reported : OneReported
+one-reported c n m a a′ b b′ d d′ e e′ f f′ g g′ p q =
+    rw (p .number-is, p .total-is, p .smallest-is, p .largest-is, p .sector-is, p .mean-is, p .remainder-is, q .number-is, q .total-is, q .smallest-is, q .largest-is, q .sector-is, q .mean-is, q .remainder-is)
+
+pub refused-report-stays : RefusedReportStays
+unfolding calledReport reportOf
+refused-report-stays wear a b d e f g = go (isSectors (length wear)) refl
+  where
+    go : (t : Bool) → isSectors (length wear) ≡ t → (calledReport wear a b d e f g .number ≡ 0 → ⊥) → calledReport wear a b d e f g ≡ reported 24 a b d e f g
+    go true k n = absurd (n (rw k))
+    go false k n = rw k

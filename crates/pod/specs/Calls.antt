@@ -12,6 +12,8 @@ use Rattle.states.specs.declared.Record.{Record}
 use Rattle.states.specs.declared.State.{State}
 use Rattle.answers.specs.declared.Answer.{Answer}
 use Rattle.time.specs.declared.After.{After}
+use Rattle.counts.specs.declared.Figures.{Figures}
+use Rattle.counts.specs.Counts.{reportOf}
 use Rattle.effects.specs.Effects.{Effect}
 use Rattle.chip.specs.Frames.{Sent, sentOf, frameOf}
 use Rattle.time.specs.Time.{Aftermath, waitOf, powerOf, powerCutOf}
@@ -33,6 +35,13 @@ cellsRefusal model n = cond (eqb n (modelOf model .length)) 3 2
 abbrev pub bytesRefusal : Record → ℕ → ℕ
 bytesRefusal rec n = cond (recordOk rec) (cellsRefusal (rec .model) n) 1
 
+-- a frame has a wear table of s counts too: 24 stands between 2 and 3
+abbrev pub tableRefusal : ℕ → ℕ → ℕ → ℕ
+tableRefusal model n s = cond (eqb n (modelOf model .length)) (cond (eqb s (modelOf model .sectors)) 3 24) 2
+
+abbrev pub frameRefusal : Record → ℕ → ℕ → ℕ
+frameRefusal rec n s = cond (recordOk rec) (tableRefusal (rec .model) n s) 1
+
 -- the answers after which the state may differ: 0, and 17 where it clears WEL
 abbrev pub mayMove : Answer → Bool
 mayMove a = isDone a || saysProtected a
@@ -41,26 +50,27 @@ mayMove a = isDone a || saysProtected a
 unfoldable pub keptOf : Answer → State → List ℕ → List ℕ → List ℕ
 keptOf a next page state = cond (mayMove a) (packed next page) state
 
--- ---- a frame: the number of 01's table, the state bytes, the output, the first driven position and how many, and whether it folded. The array is only read
+-- ---- a frame: the number of 01's table, the state bytes, the wear table, the output, the first driven position and how many, and whether it folded. The array is only read
 pub record Called : Type 0 where
   pub number : ℕ
   pub state : List ℕ
+  pub wear : List ℕ
   pub out : List ℕ
   pub from : ℕ
   pub count : ℕ
   pub fold : ℕ
 
-abbrev pub called : ℕ → List ℕ → List ℕ → ℕ → ℕ → ℕ → Called
-called number state out from count fold =
-    record { number = number; state = state; out = out; from = from; count = count; fold = fold }
+abbrev pub called : ℕ → List ℕ → List ℕ → List ℕ → ℕ → ℕ → ℕ → Called
+called number state wear out from count fold =
+    record { number = number; state = state; wear = wear; out = out; from = from; count = count; fold = fold }
 
 -- what C sends: WP# is low at 0, high at any other number
-abbrev pub sentBy : List ℕ → ℕ → ℕ → List ℕ → Sent
-sentBy bytes tail wp out = sentOf bytes tail (not (eqb wp 0)) out
+abbrev pub sentBy : List ℕ → ℕ → ℕ → List ℕ → List ℕ → Sent
+sentBy bytes tail wp wear out = sentOf bytes tail (not (eqb wp 0)) wear out
 
 abbrev pub calledOf : List ℕ → Effect → Called
 calledOf state e =
-    called (numberOf (e .reply .answer)) (keptOf (e .reply .answer) (e .reply .state) (e .page) state) (e .out) (e .reply .from) (e .reply .count) (flag (e .reply .fold) 1)
+    called (numberOf (e .reply .answer)) (keptOf (e .reply .answer) (e .reply .state) (e .page) state) (e .wear) (e .out) (e .reply .from) (e .reply .count) (flag (e .reply .fold) 1)
 
 unfoldable pub calledFrame : Record → List ℕ → List ℕ → Sent → Called
 calledFrame rec state cells f = calledOf state (frameOf rec (chipIn state cells) f)
@@ -98,9 +108,10 @@ unfoldable pub calledCycle : Record → List ℕ → Answered
 calledCycle rec state = answeredOf state (powerOf rec (unpackOf state) (pageIn state))
 
 -- ---- what a function's result and its lent places at exit have to be
-pub record Leaves (c : Called) (number : ℕ) (state out : List ℕ) (from count fold : ℕ) : Type 0 where
+pub record Leaves (c : Called) (number : ℕ) (state wear out : List ℕ) (from count fold : ℕ) : Type 0 where
   pub number-is : number ≡ c .number
   pub state-is : state ≡ c .state
+  pub wear-is : wear ≡ c .wear
   pub out-is : out ≡ c .out
   pub from-is : from ≡ c .from
   pub count-is : count ≡ c .count
@@ -114,6 +125,35 @@ pub record Alters (c : Altered) (number : ℕ) (state cells : List ℕ) : Type 0
 pub record Answers (c : Answered) (number : ℕ) (state : List ℕ) : Type 0 where
   pub number-is : number ≡ c .number
   pub state-is : state ≡ c .state
+
+-- ---- a report: the number, and what the six places hold after: the figures where it is 0, and what they held where it is not
+pub record Reported : Type 0 where
+  pub number : ℕ
+  pub total : ℕ
+  pub smallest : ℕ
+  pub largest : ℕ
+  pub sector : ℕ
+  pub mean : ℕ
+  pub remainder : ℕ
+
+abbrev pub reported : ℕ → ℕ → ℕ → ℕ → ℕ → ℕ → ℕ → Reported
+reported number total smallest largest sector mean remainder =
+    record { number = number; total = total; smallest = smallest; largest = largest; sector = sector; mean = mean; remainder = remainder }
+
+unfoldable pub calledReport : List ℕ → ℕ → ℕ → ℕ → ℕ → ℕ → ℕ → Reported
+calledReport wear total smallest largest sector mean remainder =
+    let r : Figures = reportOf wear in
+    cond (isDone (r .answer)) (reported 0 (r .total) (r .smallest) (r .largest) (r .sector) (r .mean) (r .remainder))
+    (reported (numberOf (r .answer)) total smallest largest sector mean remainder)
+
+pub record Reports (c : Reported) (number total smallest largest sector mean remainder : ℕ) : Type 0 where
+  pub number-is : number ≡ c .number
+  pub total-is : total ≡ c .total
+  pub smallest-is : smallest ≡ c .smallest
+  pub largest-is : largest ≡ c .largest
+  pub sector-is : sector ≡ c .sector
+  pub mean-is : mean ≡ c .mean
+  pub remainder-is : remainder ≡ c .remainder
 
 -- what the code asks before it packs: there are 272 bytes, and where the state may differ BP fits the status byte
 pub record Packs (a : Answer) (next : State) (state : List ℕ) : Type 0 where

@@ -13,15 +13,15 @@ use Rattle.effects.specs.Effects.{latched}
 use Rattle.chip.specs.Frames.{Sent, frameOf}
 use Rattle.time.specs.Time.{waitOf, powerOf, powerCutOf}
 use Rattle.packing.specs.Packing.{packed, pageIn, unpackOf}
-use Rattle.pod.specs.Calls.{chipIn, bytesRefusal, Called, Altered, Answered, called, altered, answered, calledFrame, calledWait, calledCut, calledCycle, Leaves, Alters, Answers}
+use Rattle.pod.specs.Calls.{chipIn, bytesRefusal, frameRefusal, Called, Altered, Answered, Reported, Reports, reported, calledReport, called, altered, answered, calledFrame, calledWait, calledCut, calledCycle, Leaves, Alters, Answers}
 
--- ---- bytes that pack no state and page data valid under the record are refused, by the first of 1, 2 and 3 that applies; a power cycle has no 2
+-- ---- bytes that pack no state and page data valid under the record are refused, by the first of 1, 2 and 3 that applies; a frame has 24 before 3, and a power cycle no 2
 abbrev pub NoPacking : Record → List ℕ → Type 0
 NoPacking rec xs = (s : State) (page : List ℕ) → stateOk rec s ≡ true → pageOk (rec .model) s page ≡ true → xs ≡ packed s page → ⊥
 
 abbrev pub FrameRefusesBytes : Type 0
 FrameRefusesBytes =
-    (rec : Record) (xs cells : List ℕ) (f : Sent) → NoPacking rec xs → calledFrame rec xs cells f ≡ called (bytesRefusal rec (length cells)) xs (f .out) 0 0 0
+    (rec : Record) (xs cells : List ℕ) (f : Sent) → NoPacking rec xs → calledFrame rec xs cells f ≡ called (frameRefusal rec (length cells) (length (f .wear))) xs (f .wear) (f .out) 0 0 0
 
 abbrev pub WaitRefusesBytes : Type 0
 WaitRefusesBytes = (rec : Record) (xs cells : List ℕ) (us : ℕ) → NoPacking rec xs → calledWait rec xs cells us ≡ altered (bytesRefusal rec (length cells)) xs cells
@@ -38,14 +38,14 @@ RefusedFrameStays =
     (rec : Record) (xs cells : List ℕ) (f : Sent)
     → (calledFrame rec xs cells f .number ≡ 0 → ⊥)
     → (modelOf (rec .model) .«latch_falls» ≡ false) ⊎ (calledFrame rec xs cells f .number ≡ 17 → ⊥)
-    → calledFrame rec xs cells f ≡ called (calledFrame rec xs cells f .number) xs (f .out) 0 0 0
+    → calledFrame rec xs cells f ≡ called (calledFrame rec xs cells f .number) xs (f .wear) (f .out) 0 0 0
 
 abbrev pub RefusedFrameClears : Type 0
 RefusedFrameClears =
     (rec : Record) (xs cells : List ℕ) (f : Sent)
     → modelOf (rec .model) .«latch_falls» ≡ true
     → calledFrame rec xs cells f .number ≡ 17
-    → calledFrame rec xs cells f ≡ called 17 (packed (latched (unpackOf xs) false) (pageIn xs)) (f .out) 0 0 0
+    → calledFrame rec xs cells f ≡ called 17 (packed (latched (unpackOf xs) false) (pageIn xs)) (f .wear) (f .out) 0 0 0
 
 abbrev pub RefusedWaitStays : Type 0
 RefusedWaitStays =
@@ -86,13 +86,24 @@ CycleCarries =
 -- ---- no second answer: two results of one call that satisfy the contract are equal in every part
 abbrev pub OneCalled : Type 0
 OneCalled =
-    (c : Called) (n m : ℕ) (xs ys out out′ : List ℕ) (from from′ count count′ fold fold′ : ℕ)
-    → Leaves c n xs out from count fold
-    → Leaves c m ys out′ from′ count′ fold′
-    → called n xs out from count fold ≡ called m ys out′ from′ count′ fold′
+    (c : Called) (n m : ℕ) (xs ys wear wear′ out out′ : List ℕ) (from from′ count count′ fold fold′ : ℕ)
+    → Leaves c n xs wear out from count fold
+    → Leaves c m ys wear′ out′ from′ count′ fold′
+    → called n xs wear out from count fold ≡ called m ys wear′ out′ from′ count′ fold′
 
 abbrev pub OneAltered : Type 0
 OneAltered = (c : Altered) (n m : ℕ) (xs ys cells cells′ : List ℕ) → Alters c n xs cells → Alters c m ys cells′ → altered n xs cells ≡ altered m ys cells′
 
 abbrev pub OneAnswered : Type 0
 OneAnswered = (c : Answered) (n m : ℕ) (xs ys : List ℕ) → Answers c n xs → Answers c m ys → answered n xs ≡ answered m ys
+
+-- of a report, whose places are one after the other
+abbrev pub OneReported : Type 0
+OneReported =
+    (c : Reported) (n m a a′ b b′ d d′ e e′ f f′ g g′ : ℕ) → Reports c n a b d e f g → Reports c m a′ b′ d′ e′ f′ g′
+    → reported n a b d e f g ≡ reported m a′ b′ d′ e′ f′ g′
+
+-- a refused report leaves its places as they were
+abbrev pub RefusedReportStays : Type 0
+RefusedReportStays =
+    (wear : List ℕ) (a b d e f g : ℕ) → (calledReport wear a b d e f g .number ≡ 0 → ⊥) → calledReport wear a b d e f g ≡ reported 24 a b d e f g

@@ -3,7 +3,7 @@
 ghost use mathlib.Core.Path.{_≡_};
 ghost use Rattle.answers.specs.Answers.{numberOf};
 ghost use Rattle.packing.specs.Packing.{pageIn};
-ghost use Rattle.pod.specs.Calls.{recordOf, cellsRefusal, keptOf, Packs, sentBy, Leaves, Alters, Answers, calledFrame, calledWait, calledCut, calledCycle};
+ghost use Rattle.pod.specs.Calls.{recordOf, cellsRefusal, tableRefusal, calledReport, Reports, keptOf, Packs, sentBy, Leaves, Alters, Answers, calledFrame, calledWait, calledCut, calledCycle};
 use answers::Answer;
 use states::Record;
 use states::State;
@@ -29,6 +29,17 @@ fn bytes_refusal(model: u32, cells: usize) -> u32
         return 2;
     }
     3
+}
+
+// The same of a frame, which has a wear table of so many counts too: 24 stands between 2 and 3.
+fn frame_refusal(model: u32, cells: usize, sectors: usize) -> u32
+    ensures { λ r. ⌜ r ≡ tableRefusal model cells sectors ⌝ }
+{
+    let row = models::model_of(model);
+    if sectors == row.sectors as usize {
+        return bytes_refusal(model, cells);
+    }
+    if cells == row.length as usize { 24 } else { 2 }
 }
 
 // ---- what C calls
@@ -77,6 +88,7 @@ pub extern "C" fn gwo_frame(
     sign_us: u32,
     state: &mut [u8],
     array: &[u8],
+    wear: &mut [u32],
     frame: &[u8],
     tail: u32,
     wp: u32,
@@ -85,7 +97,7 @@ pub extern "C" fn gwo_frame(
     count: &mut u32,
     fold: &mut u32,
 ) -> u32
-    ensures { λ r. ⌜ Leaves (calledFrame (recordOf model «status_us» «page_us» «sector_us» «block_us» «chip_us» «half_us» «sleep_us» «wake_us» «sign_us») (now (state .entry)) (now (array .entry)) (sentBy (now (frame .entry)) tail wp (now (out .entry)))) r (now (state .exit)) (now (out .exit)) (now (from .exit)) (now (count .exit)) (now (fold .exit)) ⌝ }
+    ensures { λ r. ⌜ Leaves (calledFrame (recordOf model «status_us» «page_us» «sector_us» «block_us» «chip_us» «half_us» «sleep_us» «wake_us» «sign_us») (now (state .entry)) (now (array .entry)) (sentBy (now (frame .entry)) tail wp (now (wear .entry)) (now (out .entry)))) r (now (state .exit)) (now (wear .exit)) (now (out .exit)) (now (from .exit)) (now (count .exit)) (now (fold .exit)) ⌝ }
 {
     let rec = record_of(
         model,
@@ -110,7 +122,7 @@ pub extern "C" fn gwo_frame(
         *from = 0;
         *count = 0;
         *fold = 0;
-        return bytes_refusal(rec.model, array.len());
+        return frame_refusal(rec.model, array.len(), wear.len());
     }
     let st = packing::unpack(state, busy);
     let reply = chip::frame(
@@ -118,6 +130,7 @@ pub extern "C" fn gwo_frame(
         st,
         &mut state[16..272],
         array,
+        wear,
         frame,
         tail,
         wp != 0,
@@ -262,4 +275,31 @@ pub extern "C" fn gwo_power_cycle(
     let answer = cycled.answer;
     let next = cycled.state;
     keep(answer, next, state)
+}
+
+// The report on a wear table: its answer's number. The six places are written only where it is 0.
+#[no_mangle]
+pub extern "C" fn gwo_wear_report(
+    wear: &[u32],
+    total: &mut u64,
+    smallest: &mut u32,
+    largest: &mut u32,
+    sector: &mut u32,
+    mean: &mut u32,
+    remainder: &mut u32,
+) -> u32
+    ensures { λ r. ⌜ Reports (calledReport (now (wear .entry)) (now (total .entry)) (now (smallest .entry)) (now (largest .entry)) (now (sector .entry)) (now (mean .entry)) (now (remainder .entry))) r (now (total .exit)) (now (smallest .exit)) (now (largest .exit)) (now (sector .exit)) (now (mean .exit)) (now (remainder .exit)) ⌝ }
+{
+    let said = counts::report(wear);
+    let answer = said.answer;
+    if !answers::is_done(answer) {
+        return answers::number_of(answer);
+    }
+    *total = said.total;
+    *smallest = said.smallest;
+    *largest = said.largest;
+    *sector = said.sector;
+    *mean = said.mean;
+    *remainder = said.remainder;
+    0
 }

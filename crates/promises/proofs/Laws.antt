@@ -22,7 +22,7 @@ use Rattle.fold.proofs.Counts.{only-falls}
 use Rattle.flash.proofs.Arrays.{page-folds, outside-stays}
 use Rattle.answers.specs.Answers.{numberOf, isDone, saysProtected}
 use Rattle.answers.specs.declared.Answer.{Answer}
-use Rattle.answers.specs.declared.Answer.the-variants.{BadRecord, BadArray, BadState, BadFrame, ShortOut, Empty, Settling}
+use Rattle.answers.specs.declared.Answer.the-variants.{BadRecord, BadArray, BadTable, BadState, BadFrame, ShortOut, Empty, Settling}
 use Rattle.commands.specs.Commands.{decodeOf}
 use Rattle.commands.specs.declared.Operation.{Operation}
 use Rattle.commands.specs.declared.Operation.the-variants.{Idle, WritesStatus, Programs, ErasesSector, ErasesHalf, ErasesBlock, ErasesChip}
@@ -45,10 +45,10 @@ use Rattle.time.proofs.Time.{chip-fits, fit-taken, ready, cuttable}
 use Rattle.chip.specs.Frames.{headFor, refusedOf, Sent, frameOf}
 use Rattle.chip.specs.Driven.{drivenBytes, foldOf}
 use Rattle.chip.proofs.Sorts.{is-done, notes, counts, moves, Move, stays, latches, dozes, Turn, moved, begun}
-use Rattle.chip.proofs.Cases.{head, refusal, frame-cases, sort, shown-asked, refused-moves}
+use Rattle.chip.proofs.Cases.{head, refusal, frame-cases, sort, shown-asked, refused-moves, table-frame}
 use Rattle.calls.specs.Calls.{sends, waits, cycles, cuts, after, Bench}
 use Rattle.calls.proofs.Steps.{wait-taken, waits-to, refused-frame}
-use Rattle.promises.specs.Laws.{WaitsAdd, RefusedFrame, RefusedWait, RefusedCut, RefusedCycle, unit, OnlyItsUnit, CutsOnlyItsUnit, ProgramFalls, NotBefore, unitCells, PatternOld, PatternFinished, OneOutcome, OneEffect, OneEnd, OneCycle, NumberFixed, FoldNoted, RefusalKeeps, RefusalClears, LatchFalls, TbStays, among, settlingNumbers, SettlingAnswers, SettlingStays}
+use Rattle.promises.specs.Laws.{WaitsAdd, RefusedFrame, RefusedWait, RefusedCut, RefusedCycle, unit, OnlyItsUnit, CutsOnlyItsUnit, ProgramFalls, NotBefore, unitCells, PatternOld, PatternFinished, OneOutcome, OneEffect, OneEnd, OneCycle, NumberFixed, FoldNoted, RefusalKeeps, RefusalClears, LatchFalls, TbStays, among, settlingNumbers, SettlingAnswers, SettlingStays, WearCounted}
 
 -- ---- waits
 -- both waits run the time out exactly where their sum does
@@ -336,7 +336,7 @@ pub one-outcome : OneOutcome
 one-outcome A a r t p q = p ∙ sym q
 
 pub one-effect : OneEffect
-one-effect rec x f r t page page′ os ps g k = (g .reply ∙ sym (k .reply), g .page-is ∙ sym (k .page-is), g .out ∙ sym (k .out))
+one-effect rec x f r t page page′ wear wear′ os ps g k = (g .reply ∙ sym (k .reply), g .page-is ∙ sym (k .page-is), g .wear-is ∙ sym (k .wear-is), g .out ∙ sym (k .out))
 
 same-after : {r t : After} → r .answer ≡ t .answer → r .state ≡ t .state → r ≡ t
 same-after {r} {t} p q = ap₂ (λ (a : Answer) (s : State). record { answer = a; state = s }) p q
@@ -349,43 +349,44 @@ pub one-cycle : OneCycle
 one-cycle rec s page r t p q = p ∙ sym q
 
 -- ---- a chip that settles
--- what the first of seven answers is, whichever tests hold
-first-seven : (P : Answer → Type 0) (a b c d e f : Bool) → P BadRecord → P BadArray → P BadState → P BadFrame → P ShortOut → P Empty → P Settling
-    → P (cond a BadRecord (cond b BadArray (cond c BadState (cond d BadFrame (cond e ShortOut (cond f Empty Settling))))))
-first-seven P true b c d e f p1 p2 p3 p4 p5 p10 p22 = p1
-first-seven P false true c d e f p1 p2 p3 p4 p5 p10 p22 = p2
-first-seven P false false true d e f p1 p2 p3 p4 p5 p10 p22 = p3
-first-seven P false false false true e f p1 p2 p3 p4 p5 p10 p22 = p4
-first-seven P false false false false true f p1 p2 p3 p4 p5 p10 p22 = p5
-first-seven P false false false false false true p1 p2 p3 p4 p5 p10 p22 = p10
-first-seven P false false false false false false p1 p2 p3 p4 p5 p10 p22 = p22
+-- what the first of eight answers is, whichever tests hold
+first-eight : (P : Answer → Type 0) (a b c d e f g : Bool) → P BadRecord → P BadArray → P BadTable → P BadState → P BadFrame → P ShortOut → P Empty → P Settling
+    → P (cond a BadRecord (cond b BadArray (cond c BadTable (cond d BadState (cond e BadFrame (cond f ShortOut (cond g Empty Settling)))))))
+first-eight P true b c d e f g p1 p2 p24 p3 p4 p5 p10 p22 = p1
+first-eight P false true c d e f g p1 p2 p24 p3 p4 p5 p10 p22 = p2
+first-eight P false false true d e f g p1 p2 p24 p3 p4 p5 p10 p22 = p24
+first-eight P false false false true e f g p1 p2 p24 p3 p4 p5 p10 p22 = p3
+first-eight P false false false false true f g p1 p2 p24 p3 p4 p5 p10 p22 = p4
+first-eight P false false false false false true g p1 p2 p24 p3 p4 p5 p10 p22 = p5
+first-eight P false false false false false false true p1 p2 p24 p3 p4 p5 p10 p22 = p10
+first-eight P false false false false false false false p1 p2 p24 p3 p4 p5 p10 p22 = p22
 
 module _ (rec : Record) (x : Chip) (f : Sent) (settling : x .state .settle ≡ 0 → ⊥) where
-  settling-refusal : (P : Answer → Type 0) → P BadRecord → P BadArray → P BadState → P BadFrame → P ShortOut → P Empty → P Settling → P (refusal rec x f)
+  settling-refusal : (P : Answer → Type 0) → P BadRecord → P BadArray → P BadTable → P BadState → P BadFrame → P ShortOut → P Empty → P Settling → P (refusal rec x f)
   unfolding refusalOf headFor
   settling-refusal P = rw (ne-eqb (x .state .settle) 0 settling)
-      (first-seven P (not (recordOk rec)) (not (eqb (length (x .cells)) (modelOf (rec .model) .length))) (not (stateOk rec (x .state) && pageOk (rec .model) (x .state) (x .page)))
+      (first-eight P (not (recordOk rec)) (not (eqb (length (x .cells)) (modelOf (rec .model) .length))) (not (eqb (length (f .wear)) (modelOf (rec .model) .sectors))) (not (stateOk rec (x .state) && pageOk (rec .model) (x .state) (x .page)))
       (ltb 65541 (length (f .bytes)) || ltb 7 (f .tail)) (ltb (length (f .out)) (length (f .bytes))) (eqb (length (f .bytes)) 0))
 
   abbrev As : Answer → Type 0
   As a = (isDone a ≡ false) × (saysProtected a ≡ false) × (among (numberOf a) settlingNumbers ≡ true)
 
   refuses : As (refusal rec x f)
-  refuses = settling-refusal As (refl, refl, refl) (refl, refl, refl) (refl, refl, refl) (refl, refl, refl) (refl, refl, refl) (refl, refl, refl) (refl, refl, refl)
+  refuses = settling-refusal As (refl, refl, refl) (refl, refl, refl) (refl, refl, refl) (refl, refl, refl) (refl, refl, refl) (refl, refl, refl) (refl, refl, refl) (refl, refl, refl)
 
-  settled : frameOf rec x f ≡ stateOnly (refusal rec x f) (x .state) (x .page) (f .out)
+  settled : frameOf rec x f ≡ stateOnly (refusal rec x f) (x .state) (x .page) (f .wear) (f .out)
   settled = refused-frame rec x f (refusal rec x f) refl (refuses .0) ∙ rw (leaves-all (rec .model) (refusal rec x f) (x .state) (refuses .1))
 
 pub settling-answers : SettlingAnswers
 settling-answers rec x f z = rw (settled rec x f z) (refuses rec x f z .2)
 
 pub settling-stays : SettlingStays
-settling-stays rec x f z = settled rec x f z ∙ ap (λ (e : Effect). stateOnly (e .reply .answer) (x .state) (x .page) (f .out)) (sym (settled rec x f z))
+settling-stays rec x f z = settled rec x f z ∙ ap (λ (e : Effect). stateOnly (e .reply .answer) (x .state) (x .page) (f .wear) (f .out)) (sym (settled rec x f z))
 
 -- ---- the number of driven bytes
 pub number-fixed : NumberFixed
 unfolding headFor
-number-fixed rec x f r page os g d =
+number-fixed rec x f r page wear os g d =
     ap (λ (q : Reply). q .count) (g .reply)
     ∙ frame-cases rec x f (λ (e : Effect). isDone (e .reply .answer) ≡ true → e .reply .count ≡ drivenBytes (decodeOf (rec .model) (getD (f .bytes) 0 0)) (length (f .bytes)))
     (λ e p. counts (sort rec x f)) (λ e p. absurd (true≢false (sym p ∙ e)))
@@ -396,3 +397,7 @@ pub fold-noted : FoldNoted
 fold-noted rec x f =
     frame-cases rec x f (λ (e : Effect). e .reply .fold ≡ (isDone (e .reply .answer) && foldOf (head rec x f .command) (head rec x f .address) (length (f .bytes))))
     (λ d. let k = sort rec x f in rw (is-done k) (notes k)) (λ d. rw d)
+
+-- ---- the wear table
+pub wear-counted : WearCounted
+wear-counted rec x f = table-frame rec x f

@@ -1,13 +1,13 @@
 -- Laws of the model that are worth having in their own right. Assumes nothing.
 use mathlib.Core.Path.{_≡_}
-use mathlib.Core.Bool.{Bool, false, true, _&&_, _||_}
+use mathlib.Core.Bool.{Bool, false, true, _&&_, _||_, cond}
 use mathlib.Core.List.{List, [], _∷_}
 use mathlib.Core.Logic.{_⊎_}
 use Prim.Native.Nat.{ℕ, _+_, _≤_, _<_}
 use lib.Dec.{eqb}
 use lib.ListN.{length, getD}
 use Rattle.models.specs.Models.{modelOf}
-use Rattle.commands.specs.Commands.{decodeOf}
+use Rattle.commands.specs.Commands.{decodeOf, operationOf}
 use Rattle.cells.specs.Cell.{bit}
 use Rattle.answers.specs.Answers.{numberOf, isDone}
 use Rattle.answers.specs.declared.Answer.{Answer}
@@ -16,6 +16,7 @@ use Rattle.states.specs.declared.Record.{Record}
 use Rattle.states.specs.declared.State.{State}
 use Rattle.commands.specs.declared.Operation.the-variants.{Programs}
 use Rattle.parts.specs.Parts.{part}
+use Rattle.counts.specs.Counts.{counted}
 use Rattle.effects.specs.declared.Reply.{Reply}
 use Rattle.time.specs.declared.After.{After}
 use Rattle.effects.specs.Effects.{Gives, latched, refusalLeaves, stateOnly}
@@ -70,24 +71,24 @@ TbStays = (rec : Record) (c : Call) (x : Chip) → tbOf (x .state) ≡ true → 
 abbrev pub Settles : Chip → Type 0
 Settles x = x .state .settle ≡ 0 → ⊥
 
--- answers a frame 22, 10 or 1 to 5, and nothing else
+-- answers a frame 22, 10, 24 or 1 to 5, and nothing else
 abbrev pub among : ℕ → List ℕ → Bool
 among n [] = false
 among n (m ∷ more) = eqb n m || among n more
 
 abbrev pub settlingNumbers : List ℕ
-settlingNumbers = 22 ∷ 10 ∷ 1 ∷ 2 ∷ 3 ∷ 4 ∷ 5 ∷ []
+settlingNumbers = 22 ∷ 10 ∷ 24 ∷ 1 ∷ 2 ∷ 3 ∷ 4 ∷ 5 ∷ []
 
 abbrev pub SettlingAnswers : Type 0
 SettlingAnswers =
     (rec : Record) (x : Chip) (f : Sent) → Settles x
     → among (numberOf (frameOf rec x f .reply .answer)) settlingNumbers ≡ true
 
--- and no frame changes anything of it, nor drives a byte: that is left to waits and power cycles
+-- and no frame changes anything of it, nor counts, nor drives a byte: that is left to waits and power cycles
 abbrev pub SettlingStays : Type 0
 SettlingStays =
     (rec : Record) (x : Chip) (f : Sent) → Settles x
-    → frameOf rec x f ≡ stateOnly (frameOf rec x f .reply .answer) (x .state) (x .page) (f .out)
+    → frameOf rec x f ≡ stateOnly (frameOf rec x f .reply .answer) (x .state) (x .page) (f .wear) (f .out)
 
 -- a wait changes at most the unit of the running operation, and so does a cut; a frame changes no cell at all
 abbrev pub unit : Record → Chip → Extent
@@ -124,14 +125,21 @@ PatternFinished =
     → (let done : List ℕ = finished (rec .model) x .cells in
     isDone (powerCutOf rec x (unitCells rec x done) .answer) ≡ true → powerCutOf rec x (unitCells rec x done) .chip .cells ≡ done)
 
+-- the wear table after a frame: one that is taken counts the sectors that its operation covers, and every other leaves the table
+abbrev pub WearCounted : Type 0
+WearCounted =
+    (rec : Record) (x : Chip) (f : Sent)
+    → (let h : Head = headOf rec x f in
+    frameOf rec x f .wear ≡ cond (isDone (frameOf rec x f .reply .answer)) (counted (operationOf (h .command)) (h .address .0) (f .wear)) (f .wear))
+
 -- no second answer satisfies a promise. Every promise of the crates below is an equation with a definition, `Gives` or `Ends`.
 abbrev pub OneOutcome : Type 1
 OneOutcome = (A : Type 0) (a r t : A) → r ≡ a → t ≡ a → r ≡ t
 
 abbrev pub OneEffect : Type 0
 OneEffect =
-    (rec : Record) (x : Chip) (f : Sent) (r t : Reply) (page page′ os ps : List ℕ)
-    → Gives (frameOf rec x f) r page os → Gives (frameOf rec x f) t page′ ps → (r ≡ t) × (page ≡ page′) × (os ≡ ps)
+    (rec : Record) (x : Chip) (f : Sent) (r t : Reply) (page page′ wear wear′ os ps : List ℕ)
+    → Gives (frameOf rec x f) r page wear os → Gives (frameOf rec x f) t page′ wear′ ps → (r ≡ t) × (page ≡ page′) × (wear ≡ wear′) × (os ≡ ps)
 
 -- of a wait and of a cut
 abbrev pub OneEnd : Type 0
@@ -145,7 +153,7 @@ OneCycle = (rec : Record) (s : State) (page : List ℕ) (r t : After) → r ≡ 
 -- a made-up number of driven bytes falls: what satisfies the contract of a frame drives as many as the command and the length say
 abbrev pub NumberFixed : Type 0
 NumberFixed =
-    (rec : Record) (x : Chip) (f : Sent) (r : Reply) (page os : List ℕ) → Gives (frameOf rec x f) r page os → isDone (r .answer) ≡ true
+    (rec : Record) (x : Chip) (f : Sent) (r : Reply) (page wear os : List ℕ) → Gives (frameOf rec x f) r page wear os → isDone (r .answer) ≡ true
     → r .count ≡ drivenBytes (decodeOf (rec .model) (getD (f .bytes) 0 0)) (length (f .bytes))
 
 -- the answer says that a program folded exactly when the frame is taken, its command is a program, and a byte went past the page's end

@@ -3,3 +3,4 @@ pub mod Histories
 pub mod Shorter
 pub mod Reached
 pub mod Pods
+pub mod Wear

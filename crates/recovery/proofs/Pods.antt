@@ -3,7 +3,7 @@ use mathlib.Core.Path.{_≡_, refl, sym, ap, _∙_}
 use mathlib.Core.Bool.{Bool, true, false, cond}
 use mathlib.Core.List.{List, [], _∷_}
 use mathlib.Core.Logic.{_⊎_, inl, inr, ⊎-elim}
-use Prim.Native.Nat.{ℕ, _+_, _≤_, _<_}
+use Prim.Native.Nat.{ℕ, zero, suc, _+_, _≤_, _<_}
 use native.Mathlib.Omega.{arith}
 use lib.Dec.{eqb, lit≤, lit<}
 use lib.ListN.{getD, replicate, length-replicate, getD-replicate}
@@ -17,15 +17,22 @@ use Rattle.states.specs.declared.Record.{Record}
 use Rattle.answers.specs.declared.Answer.{Answer}
 use Rattle.answers.specs.declared.Answer.the-variants.{Done}
 use Rattle.effects.specs.Effects.{Effect}
-use Rattle.calls.specs.Calls.{Call, sends, waits, cycles, cuts, Pod, after, answer, run, effectAfter, Bench}
+use Rattle.calls.specs.Calls.{Call, sends, waits, cycles, cuts, Pod, after, answer, run, tables, effectAfter, Bench}
 use Rattle.recovery.specs.Recovery.{Job, JobFits, wakeUp, readBack, waitLongest, toRead, recovery, Recovers, WinsBack}
 use Rattle.recovery.specs.Histories.{factory}
-use Rattle.recovery.specs.Pods.{RefusesAll, SameByte, KeepsCells, OnlyOnce, OnlyReplays, Worthless}
+use Rattle.recovery.specs.Pods.{RefusesAll, SameByte, KeepsCells, OnlyOnce, OnlyReplays, NeverCounts, Worthless}
 use Rattle.recovery.proofs.Histories.{fresh-bench}
 
 -- ---- one set-up: model 1 with bench values, all cells 0, one byte d to address 0
 abbrev room : List ℕ
 room = replicate 8 0
+
+-- the table from the factory, and the same with the first count 1
+abbrev neverErased : List ℕ
+neverErased = replicate 16 0
+
+abbrev onceErased : List ℕ
+onceErased = 1 ∷ replicate 15 0
 
 abbrev one : ℕ → Job
 one d =
@@ -36,6 +43,8 @@ one d =
       bytes = d ∷ [];
       more = 0 ∷ [];
       outs = record { wakeUp = room; enableUnlock = room; unlock = room; enableErase = room; erase = room; enableProgram = room; program = room; readBack = room };
+      wear = neverErased;
+      worn = onceErased;
     }
 
 abbrev zeros : List ℕ
@@ -51,7 +60,12 @@ bench : Bench benchKH25L512 start
 unfolding recordOk inRange halfOk isModel partOf
 bench = fresh-bench benchKH25L512 zeros refl (length-replicate {A = ℕ} 65536 0)
 
-fits : (d : ℕ) → d < 256 → JobFits (one d)
+no-other : (k : ℕ) → (k ≡ 0 → ⊥) → getD onceErased k 0 ≡ getD neverErased k 0
+no-other zero n = absurd (n refl)
+no-other (suc k) n = refl
+
+fits : (d : ℕ) → d < 256 → JobFits benchKH25L512 (one d)
+unfolding partOf addressOf
 fits d h =
     record {
       some = lit≤ tt;
@@ -69,6 +83,9 @@ fits d h =
             program = lit≤ tt;
             readBack = lit≤ tt;
           };
+      table = refl;
+      spare = lit< tt;
+      after = record { same = refl; one = refl; others = λ k n. no-other k n };
     }
 
 module _ (p : Pod) (t : WinsBack p) where
@@ -153,5 +170,27 @@ only-once p h t =
     let z : last p t 0 .reply .count ≡ 0 = ap (λ (f : Effect). f .reply .count) e in
     omega arith
 
+-- the tables that were lent to the frames of a list
+abbrev lent : List Call → List (List ℕ)
+lent [] = []
+lent (sends f ∷ cs) = f .wear ∷ lent cs
+lent (waits us ∷ cs) = lent cs
+lent (cycles ∷ cs) = lent cs
+lent (cuts pattern ∷ cs) = lent cs
+
+all-kept : (p : Pod) → NeverCounts p → (rec : Record) (seen cs : List Call) (x : Chip) → tables p rec seen cs x ≡ lent cs
+all-kept p h rec seen [] x = refl
+all-kept p h rec seen (sends f ∷ cs) x = rw (h seen rec x f, all-kept p h rec (sends f ∷ seen) cs (after p rec seen (sends f) x))
+all-kept p h rec seen (waits us ∷ cs) x = all-kept p h rec (waits us ∷ seen) cs (after p rec seen (waits us) x)
+all-kept p h rec seen (cycles ∷ cs) x = all-kept p h rec (cycles ∷ seen) cs (after p rec seen cycles x)
+all-kept p h rec seen (cuts pattern ∷ cs) x = all-kept p h rec (cuts pattern ∷ seen) cs (after p rec seen (cuts pattern) x)
+
+-- the table that the erase leaves would be the one that was lent
+pub never-counts : (p : Pod) → NeverCounts p → WinsBack p → ⊥
+never-counts p h t =
+    let left = won p t 0 (lit< tt) .counted in
+    let e : getD neverErased 0 0 ≡ getD onceErased 0 0 = ap (λ (ws : List (List ℕ)). getD (getD ws 4 []) 0 0) (sym (all-kept p h benchKH25L512 [] (recovery benchKH25L512 (one 0)) start) ∙ left) in
+    omega (arith, e)
+
 pub worthless : Worthless
-worthless = record { refuses-all = refuses-all; same-byte = same-byte; keeps-cells = keeps-cells; only-once = only-once; only-replays = only-replays }
+worthless = record { refuses-all = refuses-all; same-byte = same-byte; keeps-cells = keeps-cells; only-once = only-once; only-replays = only-replays; never-counts = never-counts }

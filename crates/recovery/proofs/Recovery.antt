@@ -3,7 +3,7 @@ use mathlib.Core.Path.{_≡_, refl, sym, ap, subst, _∙_}
 use mathlib.Core.Bool.{Bool, true, false, _||_, and-false, cond}
 use mathlib.Core.List.{List, [], _∷_}
 use mathlib.Core.Logic.{⊎-elim}
-use Prim.Native.Nat.{ℕ, _+_, _-_, _*_, _%_, _≤_, _<_}
+use Prim.Native.Nat.{ℕ, _+_, _-_, _*_, _/_, _%_, _≤_, _<_}
 use native.Mathlib.Nat.{mod-lt, zero-mod, mod-mod-of-dvd, dvd-mul-right}
 use native.Mathlib.Omega.{arith}
 use lib.Dec.{eqb, ltb}
@@ -31,6 +31,8 @@ use Rattle.states.specs.declared.State.{State}
 use Rattle.answers.specs.declared.Answer.the-variants.{Done}
 use Rattle.states.proofs.States.{Resting, sound, times, busy-le, busy-le-all, settle-le-all, blank-page}
 use Rattle.effects.specs.Effects.{Effect, quiet, stateOnly, turned, started, shown, drives, latched, dozing, starting, writeStatus, eraseStarts as Effects·erase, programPage, readFrom}
+use Rattle.counts.specs.Counts.{counted}
+use Rattle.counts.proofs.Laws.{sector-spared, sector-counted}
 use Rattle.operations.specs.Operations.{runs, pageAddress, configAfter, written, forgotten, finished}
 use Rattle.operations.proofs.Kept.{finished-settle}
 use Rattle.operations.proofs.Page.{page-laid}
@@ -38,7 +40,7 @@ use Rattle.chip.specs.Frames.{frameOf}
 use Rattle.time.specs.Time.{later, waited}
 use Rattle.calls.specs.Calls.{sends, waits, ours, run, effectAfter, Bench, frame}
 use Rattle.recovery.specs.Recovery.{Job, JobFits, wakeUp, enableUnlock, unlock, enableErase, erase, enableProgram, program, readBack, waitLongest, waitWake, waitUnlock, waitErase, waitProgram, toUnlock, toErase, toProgram, toRead, recovery, target, base, Won, Recovers, WinsBack}
-use Rattle.calls.proofs.Steps.{Goes, ends, goes, goes-on, goes-run, goes-answers, Step, sends-to, waits-to, waits-on, wake-taken, enable-taken, write-taken, erase-taken, program-taken, read-taken}
+use Rattle.calls.proofs.Steps.{Goes, ends, goes, goes-on, goes-run, goes-answers, goes-tables, Step, sends-to, waits-to, waits-on, wake-taken, enable-taken, write-taken, erase-taken, program-taken, read-taken}
 
 -- a chip that is awake with protection off: idle, with WEL set, and running an operation for so long; the calls of the list leave its register v as it is
 abbrev pub calm : ℕ → State
@@ -58,12 +60,12 @@ pub not-yet : (time : ℕ) → 0 < time → (eqb time 0 || ltb (time - 1) time) 
 not-yet time p = rw (ne-eqb time 0 (λ z. omega arith), lt-ltb (time - 1) time (omega arith))
 
 -- 06 on an idle chip
-pub enable : (rec : Record) (v : ℕ) (cells out : List ℕ) → Bench rec (chipOf (calm v) blankPage cells) → 1 ≤ length out
-    → Step rec (sends (frame (0x06 ∷ []) out)) (chipOf (calm v) blankPage cells) (chipOf (enabled v) blankPage cells)
+pub enable : (rec : Record) (v : ℕ) (cells wear out : List ℕ) → Bench rec (chipOf (calm v) blankPage cells) → length wear ≡ modelOf (rec .model) .sectors → 1 ≤ length out
+    → Step rec (sends (frame (0x06 ∷ []) wear out)) (chipOf (calm v) blankPage cells) (chipOf (enabled v) blankPage cells) (wear ∷ [])
 unfolding latched
-enable rec v cells out c r =
+enable rec v cells wear out c k r =
     let y : Chip = chipOf (calm v) blankPage cells in
-    sends-to rec y c (frame (0x06 ∷ []) out) (stateOnly Done (enabled v) blankPage out) (enable-taken rec y c refl refl out refl r) refl
+    sends-to rec y c (frame (0x06 ∷ []) wear out) (stateOnly Done (enabled v) blankPage wear out) (enable-taken rec y c refl refl wear out k refl r) refl
 
 -- the page data of 01 00, and what the operations of the list come to
 abbrev pub unlockPage : List ℕ
@@ -88,7 +90,7 @@ module _ (rec : Record) (x : Chip) (b : Bench rec x) where
   abbrev pub z : Chip
   z = waited (rec .model) x (longestOf rec)
 
-  pub first-wait : Step rec (waits (longestOf rec)) x z
+  pub first-wait : Step rec (waits (longestOf rec)) x z []
   first-wait = waits-to rec x b (longestOf rec) z refl
 
   pub idle-after : z .state .busy ≡ 0
@@ -121,7 +123,7 @@ pub waits-end : (rec : Record) (x : Chip) (time : ℕ) → 0 < time → x .state
 unfolding waited
 waits-end rec x time p e = rw (e, run-out time p)
 
-module _ (rec : Record) (j : Job) (x : Chip) (b : Bench rec x) (f : JobFits j) where
+module _ (rec : Record) (j : Job) (x : Chip) (b : Bench rec x) (f : JobFits rec j) where
   -- ---- up to the unlocking: whatever the valid state was, a status write runs
   abbrev start : Chip
   start = z rec x b
@@ -149,19 +151,19 @@ module _ (rec : Record) (j : Job) (x : Chip) (b : Bench rec x) (f : JobFits j) w
   abbrev armed : State
   armed = latched settled true
 
-  pub rests : Step rec (waitLongest rec j) x (on rested)
+  pub rests : Step rec (waitLongest rec j) x (on rested) []
   rests = first-wait rec x b
 
-  pub wakes : Step rec (sends (wakeUp j)) (on rested) (on woken)
+  pub wakes : Step rec (sends (wakeUp j)) (on rested) (on woken) (j .wear ∷ [])
   wakes =
       let out = j .outs .wakeUp in
-      sends-to rec (on rested) (rests .bench) (wakeUp j) (stateOnly Done woken (start .page) out) (wake-taken rec (on rested) (rests .bench) (idle-after rec x b) (settled-after rec x b) out (f .rooms .wakeUp)) refl
+      sends-to rec (on rested) (rests .bench) (wakeUp j) (stateOnly Done woken (start .page) (j .wear) out) (wake-taken rec (on rested) (rests .bench) (idle-after rec x b) (settled-after rec x b) (j .wear) out (f .table) (f .rooms .wakeUp)) refl
 
   woken-idle : woken .busy ≡ 0
   unfolding dozing
   woken-idle = idle-after rec x b
 
-  settles : Step rec (waitWake rec j) (on woken) (on settled)
+  settles : Step rec (waitWake rec j) (on woken) (on settled) []
   settles = waits-on rec (on woken) (wakes .bench) (rec .wake) (rw (eq-eqb (woken .busy) 0 woken-idle))
 
   still-idle : settled .busy ≡ 0
@@ -176,35 +178,35 @@ module _ (rec : Record) (j : Job) (x : Chip) (b : Bench rec x) (f : JobFits j) w
       go true = omega arith
       go false = omega arith
 
-  arms : Step rec (sends (enableUnlock j)) (on settled) (on armed)
+  arms : Step rec (sends (enableUnlock j)) (on settled) (on armed) (j .wear ∷ [])
   unfolding dozing later
   arms =
       let out = j .outs .enableUnlock in
-      sends-to rec (on settled) (settles .bench) (enableUnlock j) (stateOnly Done armed (start .page) out) (enable-taken rec (on settled) (settles .bench) still-idle at-rest out refl (f .rooms .enableUnlock)) refl
+      sends-to rec (on settled) (settles .bench) (enableUnlock j) (stateOnly Done armed (start .page) (j .wear) out) (enable-taken rec (on settled) (settles .bench) still-idle at-rest (j .wear) out (f .table) refl (f .rooms .enableUnlock)) refl
 
   abbrev pub unlocking : Chip
   unlocking = chipOf (starting armed 0x01 1 (rec .«status_write»)) unlockPage c0
 
-  pub unlocks : Step rec (sends (unlock j)) (on armed) unlocking
+  pub unlocks : Step rec (sends (unlock j)) (on armed) unlocking (j .wear ∷ [])
   unfolding dozing latched later writeStatus
   unlocks =
       let out = j .outs .unlock in
-      let e : Effect = record { reply = quiet Done (starting armed 0x01 1 (rec .«status_write»)); page = unlockPage; out = out } in
+      let e : Effect = record { reply = quiet Done (starting armed 0x01 1 (rec .«status_write»)); page = unlockPage; wear = j .wear; out = out } in
       sends-to rec (on armed) (arms .bench) (unlock j) e
-      (write-taken rec (on armed) (arms .bench) still-idle at-rest out 0 refl refl (f .rooms .unlock) ∙ ap (λ (page : List ℕ). started out (writeStatus rec armed page (0x01 ∷ 0x00 ∷ []))) (blank-after rec x b)) refl
+      (write-taken rec (on armed) (arms .bench) still-idle at-rest (j .wear) out (f .table) 0 refl refl (f .rooms .unlock) ∙ ap (λ (page : List ℕ). started (j .wear) out (writeStatus rec armed page (0x01 ∷ 0x00 ∷ []))) (blank-after rec x b)) refl
 
   -- ---- up to the erase: protection is off
   abbrev calmed : List ℕ → Chip
   calmed cells = chipOf (calm v) blankPage cells
 
-  unlocked : Step rec (waitUnlock rec j) unlocking (calmed c0)
+  unlocked : Step rec (waitUnlock rec j) unlocking (calmed c0) []
   unfolding starting dozing latched later
   unlocked =
       waits-to rec unlocking (unlocks .bench) (rec .«status_write») (calmed c0)
       (waits-end rec unlocking (rec .«status_write») (times rec (b .right) .status) refl ∙ finish-unlock (rec .model) v (rec .«status_write») c0 (starting armed 0x01 1 (rec .«status_write»)) refl refl refl at-rest)
 
-  erase-enabled : Step rec (sends (enableErase j)) (calmed c0) (chipOf (enabled v) blankPage c0)
-  erase-enabled = enable rec v c0 (j .outs .enableErase) (unlocked .bench) (f .rooms .enableErase)
+  erase-enabled : Step rec (sends (enableErase j)) (calmed c0) (chipOf (enabled v) blankPage c0) (j .wear ∷ [])
+  erase-enabled = enable rec v c0 (j .wear) (j .outs .enableErase) (unlocked .bench) (f .table) (f .rooms .enableErase)
 
   abbrev to : Address
   to = target rec j
@@ -212,22 +214,37 @@ module _ (rec : Record) (j : Job) (x : Chip) (b : Bench rec x) (f : JobFits j) w
   abbrev pub erasing : Chip
   erasing = chipOf (running v 0x20 (to .0) (rec .sector)) blankPage c0
 
-  pub erases : Step rec (sends (erase j)) (chipOf (enabled v) blankPage c0) erasing
+  -- its count is below its top, and the erase makes it one more
+  in-array : to .0 < modelOf (rec .model) .length
+  unfolding addressOf
+  in-array = mod-lt _ (omega (arith, row-rules (rec .model) .some))
+
+  counted-in : to .0 / 4096 < length (j .wear)
+  counted-in = omega (arith, in-array, f .table, row-rules (rec .model) .sectors)
+
+  pub worn-table : length (j .worn) ≡ modelOf (rec .model) .sectors
+  worn-table = f .after .same ∙ f .table
+
+  erase-counts : turned blankPage (counted ErasesSector (to .0) (j .wear)) (j .outs .erase) (Effects·erase rec (enabled v) ErasesSector (to .0) (erase j .bytes))
+      ≡ turned blankPage (j .worn) (j .outs .erase) (quiet Done (running v 0x20 (to .0) (rec .sector)))
   unfolding Effects·erase starting
+  erase-counts = ap (λ (ws : List ℕ). turned blankPage ws (j .outs .erase) (quiet Done (running v 0x20 (to .0) (rec .sector)))) (sector-counted (to .0) (j .wear) (j .worn) counted-in (f .after))
+
+  pub erases : Step rec (sends (erase j)) (chipOf (enabled v) blankPage c0) erasing (j .worn ∷ [])
   erases =
       let out = j .outs .erase in
-      sends-to rec (chipOf (enabled v) blankPage c0) (erase-enabled .bench) (erase j) (turned blankPage out (Effects·erase rec (enabled v) ErasesSector (to .0) (erase j .bytes)))
-      (erase-taken rec (chipOf (enabled v) blankPage c0) (erase-enabled .bench) refl refl out (j .high) (j .middle) (j .low) refl refl refl (f .rooms .erase)) refl
+      sends-to rec (chipOf (enabled v) blankPage c0) (erase-enabled .bench) (erase j) (turned blankPage (j .worn) out (quiet Done (running v 0x20 (to .0) (rec .sector))))
+      (erase-taken rec (chipOf (enabled v) blankPage c0) (erase-enabled .bench) refl refl (j .wear) out (f .table) (j .high) (j .middle) (j .low) refl refl refl (f .rooms .erase) (sector-spared (to .0) (j .wear) counted-in (f .spare)) ∙ erase-counts) refl
 
   -- ---- up to the program
   abbrev cleared : List ℕ
   cleared = sectorErased c0 (sectorOf to)
 
-  erased : Step rec (waitErase rec j) erasing (calmed cleared)
+  erased : Step rec (waitErase rec j) erasing (calmed cleared) []
   erased = waits-to rec erasing (erases .bench) (rec .sector) (calmed cleared) (waits-end rec erasing (rec .sector) (times rec (b .right) .sector) refl ∙ finish-erase (rec .model) v (rec .sector) c0 (to .0))
 
-  program-enabled : Step rec (sends (enableProgram j)) (calmed cleared) (chipOf (enabled v) blankPage cleared)
-  program-enabled = enable rec v cleared (j .outs .enableProgram) (erased .bench) (f .rooms .enableProgram)
+  program-enabled : Step rec (sends (enableProgram j)) (calmed cleared) (chipOf (enabled v) blankPage cleared) (j .worn ∷ [])
+  program-enabled = enable rec v cleared (j .worn) (j .outs .enableProgram) (erased .bench) worn-table (f .rooms .enableProgram)
 
   -- the data bytes, folded into the page data
   abbrev folded : List ℕ
@@ -236,12 +253,12 @@ module _ (rec : Record) (j : Job) (x : Chip) (b : Bench rec x) (f : JobFits j) w
   abbrev pub programming : Chip
   programming = chipOf (running v 0x02 (to .0) (rec .page)) folded cleared
 
-  pub programs : Step rec (sends (program j)) (chipOf (enabled v) blankPage cleared) programming
+  pub programs : Step rec (sends (program j)) (chipOf (enabled v) blankPage cleared) programming (j .worn ∷ [])
   unfolding programPage starting
   programs =
       let out = j .outs .program in
-      sends-to rec (chipOf (enabled v) blankPage cleared) (program-enabled .bench) (program j) (started out (programPage rec (enabled v) blankPage to (program j .bytes)))
-      (program-taken rec (chipOf (enabled v) blankPage cleared) (program-enabled .bench) refl refl out (j .high) (j .middle) (j .low) (j .bytes) refl refl refl (f .some) (omega (arith, f .page)) (f .rooms .program)) refl
+      sends-to rec (chipOf (enabled v) blankPage cleared) (program-enabled .bench) (program j) (started (j .worn) out (programPage rec (enabled v) blankPage to (program j .bytes)))
+      (program-taken rec (chipOf (enabled v) blankPage cleared) (program-enabled .bench) refl refl (j .worn) out worn-table (j .high) (j .middle) (j .low) (j .bytes) refl refl refl (f .some) (omega (arith, f .page)) (f .rooms .program)) refl
 
   -- ---- the read
   abbrev stored : List ℕ
@@ -250,35 +267,35 @@ module _ (rec : Record) (j : Job) (x : Chip) (b : Bench rec x) (f : JobFits j) w
   abbrev ended : Chip
   ended = calmed stored
 
-  all-programmed : Step rec (waitProgram rec j) programming ended
+  all-programmed : Step rec (waitProgram rec j) programming ended []
   all-programmed = waits-to rec programming (programs .bench) (rec .page) ended (waits-end rec programming (rec .page) (times rec (b .right) .page) refl ∙ finish-program (rec .model) v (rec .page) cleared (to .0) folded)
 
   abbrev shows : Effect
-  shows = shown blankPage (readFrom 4 (calm v) stored to (readBack j .bytes) (j .outs .readBack))
+  shows = shown blankPage (j .worn) (readFrom 4 (calm v) stored to (readBack j .bytes) (j .outs .readBack))
 
   read : frameOf rec ended (readBack j) ≡ shows
   read =
-      read-taken rec ended (all-programmed .bench) refl refl (j .outs .readBack) (j .high) (j .middle) (j .low) (j .more) refl
+      read-taken rec ended (all-programmed .bench) refl refl (j .worn) (j .outs .readBack) worn-table (j .high) (j .middle) (j .low) (j .more) refl
       (omega (arith, f .page, f .more)) (f .rooms .readBack)
 
-  reads : Step rec (sends (readBack j)) ended ended
+  reads : Step rec (sends (readBack j)) ended ended (j .worn ∷ [])
   unfolding readFrom drives
   reads = sends-to rec ended (all-programmed .bench) (readBack j) shows read refl
 
   -- ---- the list
-  pub to-unlock : Goes rec (toUnlock rec j) x unlocking
+  pub to-unlock : Goes rec (toUnlock rec j) x unlocking (j .wear ∷ j .wear ∷ j .wear ∷ [])
   to-unlock = goes rests (goes wakes (goes settles (goes arms (goes unlocks ends))))
 
-  pub to-erase : Goes rec (toErase rec j) x erasing
+  pub to-erase : Goes rec (toErase rec j) x erasing (j .wear ∷ j .wear ∷ j .wear ∷ j .wear ∷ j .worn ∷ [])
   to-erase = goes-on to-unlock (goes unlocked (goes erase-enabled (goes erases ends)))
 
-  pub to-program : Goes rec (toProgram rec j) x programming
+  pub to-program : Goes rec (toProgram rec j) x programming (j .wear ∷ j .wear ∷ j .wear ∷ j .wear ∷ j .worn ∷ j .worn ∷ j .worn ∷ [])
   to-program = goes-on to-erase (goes erased (goes program-enabled (goes programs ends)))
 
-  to-read : Goes rec (toRead rec j) x ended
+  to-read : Goes rec (toRead rec j) x ended (j .wear ∷ j .wear ∷ j .wear ∷ j .wear ∷ j .worn ∷ j .worn ∷ j .worn ∷ [])
   to-read = goes-on to-program (goes all-programmed ends)
 
-  whole-list : Goes rec (recovery rec j) x ended
+  whole-list : Goes rec (recovery rec j) x ended (j .wear ∷ j .wear ∷ j .wear ∷ j .wear ∷ j .worn ∷ j .worn ∷ j .worn ∷ j .worn ∷ [])
   whole-list = goes-on to-read (goes reads ends)
 
   -- ---- what the array and the last output hold
@@ -364,6 +381,7 @@ module _ (rec : Record) (j : Job) (x : Chip) (b : Bench rec x) (f : JobFits j) w
   recovers =
       record {
         answered = goes-answers [] whole-list;
+        counted = goes-tables [] whole-list;
         won =
             subst (λ (u : Chip). Won rec j u (run ours rec [] (recovery rec j) x) (effectAfter ours rec (toRead rec j) x (readBack j))) (sym (rests .leads))
             (subst (λ (y : Chip). Won rec j start y (effectAfter ours rec (toRead rec j) x (readBack j))) (sym (goes-run [] whole-list))

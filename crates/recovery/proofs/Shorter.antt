@@ -18,14 +18,14 @@ use Rattle.states.proofs.States.{sound, times}
 use Rattle.chip.specs.Frames.{Sent}
 use Rattle.effects.specs.Effects.{dozing, starting}
 use Rattle.time.specs.Time.{later, waited}
-use Rattle.calls.specs.Calls.{Call, sends, waits, ours, answer, Bench, Roomy, frame}
+use Rattle.calls.specs.Calls.{Call, sends, waits, ours, answer, Bench, Roomy, Tabled, frame}
 use Rattle.recovery.specs.Recovery.{Job, JobFits, wakeUp, enableUnlock, enableErase, enableProgram, readBack}
 use Rattle.recovery.specs.Shorter.{Then, ThenBusy, TooShort, ShorterWake, ShorterUnlock, ShorterErase, ShorterProgram}
 use Rattle.calls.proofs.Steps.{Goes, ends, goes, goes-on, goes-then, Step, waits-on, while-busy, while-settling}
-use Rattle.recovery.proofs.Recovery.{not-yet, z, idle-after, woken, rests, wakes, to-unlock, to-erase, to-program, unlocks, erases, programs}
+use Rattle.recovery.proofs.Recovery.{not-yet, z, idle-after, woken, rests, wakes, to-unlock, to-erase, to-program, unlocks, erases, programs, worn-table}
 
 -- calls answered 0, and a frame more
-then-answers : {rec : Record} {cs : List Call} {x w : Chip} {a : Answer} (f : Sent) → Goes rec cs x w → answer ours rec [] (sends f) w ≡ a → Then a rec cs f x
+then-answers : {rec : Record} {cs : List Call} {x w : Chip} {ts : List (List ℕ)} {a : Answer} (f : Sent) → Goes rec cs x w ts → answer ours rec [] (sends f) w ≡ a → Then a rec cs f x
 then-answers f g e = goes-then [] (sends f) g ∙ rw e
 
 -- after a wait that is a microsecond short the operation still runs
@@ -33,16 +33,16 @@ module _ (rec : Record) (x : Chip) (time : ℕ) (p : 0 < time) (t : x .state .bu
   abbrev almost : Chip
   almost = chipOf (later (x .state) (time - 1)) (x .page) (x .cells)
 
-  pub short-wait : Step rec (waits (time - 1)) x almost
+  pub short-wait : Step rec (waits (time - 1)) x almost []
   short-wait = waits-on rec x b (time - 1) (rw t (not-yet time p))
 
   busy-still : 0 < almost .state .busy
   unfolding later
   busy-still = omega arith
 
-  pub refused : (bytes out : List ℕ) → 0 < length bytes → length bytes ≤ 65541 → Roomy (frame bytes out)
-      → traitsOf (modelOf (rec .model) .register) (decodeOf (rec .model) (getD bytes 0 0)) .«while_busy» ≡ false → answer ours rec [] (sends (frame bytes out)) almost ≡ Busy
-  refused bytes out some l r w = while-busy rec almost (short-wait .bench) bytes out busy-still some l r w
+  pub refused : (bytes wear out : List ℕ) → 0 < length bytes → length bytes ≤ 65541 → Roomy (frame bytes wear out) → Tabled rec (frame bytes wear out)
+      → traitsOf (modelOf (rec .model) .register) (decodeOf (rec .model) (getD bytes 0 0)) .«while_busy» ≡ false → answer ours rec [] (sends (frame bytes wear out)) almost ≡ Busy
+  refused bytes wear out some l r k w = while-busy rec almost (short-wait .bench) bytes wear out busy-still some l r k w
 
 pub shorter-unlock : ShorterUnlock
 unfolding decodeOf traitsOf starting
@@ -50,7 +50,7 @@ shorter-unlock rec j x b f =
     let c = unlocks rec j x b f .bench in
     let t = times rec (b .right) .status in
     then-answers (enableErase j) (goes-on (to-unlock rec j x b f) (goes (short-wait rec _ _ t refl c) ends))
-    (refused rec _ _ t refl c (0x06 ∷ []) (j .outs .enableErase) (lit≤ tt) (lit≤ tt) (f .rooms .enableErase) refl)
+    (refused rec _ _ t refl c (0x06 ∷ []) (j .wear) (j .outs .enableErase) (lit≤ tt) (lit≤ tt) (f .rooms .enableErase) (f .table) refl)
 
 pub shorter-erase : ShorterErase
 unfolding decodeOf traitsOf
@@ -58,7 +58,7 @@ shorter-erase rec j x b f =
     let c = erases rec j x b f .bench in
     let t = times rec (b .right) .sector in
     then-answers (enableProgram j) (goes-on (to-erase rec j x b f) (goes (short-wait rec _ _ t refl c) ends))
-    (refused rec _ _ t refl c (0x06 ∷ []) (j .outs .enableProgram) (lit≤ tt) (lit≤ tt) (f .rooms .enableProgram) refl)
+    (refused rec _ _ t refl c (0x06 ∷ []) (j .worn) (j .outs .enableProgram) (lit≤ tt) (lit≤ tt) (f .rooms .enableProgram) (worn-table rec j x b f) refl)
 
 pub shorter-program : ShorterProgram
 unfolding decodeOf traitsOf
@@ -66,7 +66,7 @@ shorter-program rec j x b f =
     let c = programs rec j x b f .bench in
     let t = times rec (b .right) .page in
     then-answers (readBack j) (goes-on (to-program rec j x b f) (goes (short-wait rec _ _ t refl c) ends))
-    (refused rec _ _ t refl c (readBack j .bytes) (j .outs .readBack) (omega arith) (omega (arith, f .page, f .more)) (f .rooms .readBack) refl)
+    (refused rec _ _ t refl c (readBack j .bytes) (j .worn) (j .outs .readBack) (omega arith) (omega (arith, f .page, f .more)) (f .rooms .readBack) (worn-table rec j x b f) refl)
 
 -- ---- the wait after AB
 -- a chip that was asleep still settles a microsecond before that time has passed
@@ -85,22 +85,22 @@ shorter-wake rec j x b f a =
     let s = waits-on rec y (wakes rec j x b f .bench) (rec .wake - 1) (rw (eq-eqb (w .busy) 0 (idle-after rec x b))) in
     let left : 0 < cond (z rec x b .state .asleep) (rec .wake) 0 - (rec .wake - 1) = rw (was-asleep rec x b a) (omega arith) in
     then-answers (enableUnlock j) (goes (rests rec j x b f) (goes (wakes rec j x b f) (goes s ends)))
-    (while-settling rec _ (s .bench) (0x06 ∷ []) (j .outs .enableUnlock) left (lit≤ tt) (lit≤ tt) (f .rooms .enableUnlock))
+    (while-settling rec _ (s .bench) (0x06 ∷ []) (j .wear) (j .outs .enableUnlock) left (lit≤ tt) (lit≤ tt) (f .rooms .enableUnlock) (f .table))
 
 -- ---- the first wait
 -- a chip that runs its longest operation is still busy a microsecond before that time has passed
-pub still : (rec : Record) (x : Chip) (j : Job) (time : ℕ) → 0 < time → x .state .busy ≡ time → longestOf rec ≡ time → Bench rec x → JobFits j → TooShort rec j x
+pub still : (rec : Record) (x : Chip) (j : Job) (time : ℕ) → 0 < time → x .state .busy ≡ time → longestOf rec ≡ time → Bench rec x → JobFits rec j → TooShort rec j x
 unfolding decodeOf traitsOf
 still rec x j time p t e b f =
     inl (rw e
     (then-answers (wakeUp j) (goes (short-wait rec x time p t b) ends)
-    (refused rec x time p t b (0xAB ∷ []) (j .outs .wakeUp) (lit≤ tt) (lit≤ tt) (f .rooms .wakeUp) refl)))
+    (refused rec x time p t b (0xAB ∷ []) (j .wear) (j .outs .wakeUp) (lit≤ tt) (lit≤ tt) (f .rooms .wakeUp) (f .table) refl)))
 
 -- and one that settles for the longest time still settles
-pub still-settling : (rec : Record) (x : Chip) (j : Job) → x .state .busy ≡ 0 → 0 < x .state .settle → longestOf rec ≡ x .state .settle → Bench rec x → JobFits j → TooShort rec j x
+pub still-settling : (rec : Record) (x : Chip) (j : Job) → x .state .busy ≡ 0 → 0 < x .state .settle → longestOf rec ≡ x .state .settle → Bench rec x → JobFits rec j → TooShort rec j x
 unfolding later
 still-settling rec x j i p e b f =
     let k = waits-on rec x b (x .state .settle - 1) (rw (eq-eqb (x .state .busy) 0 i)) in
     inr (rw e
     (then-answers (wakeUp j) (goes k ends)
-    (while-settling rec _ (k .bench) (0xAB ∷ []) (j .outs .wakeUp) (omega arith) (lit≤ tt) (lit≤ tt) (f .rooms .wakeUp))))
+    (while-settling rec _ (k .bench) (0xAB ∷ []) (j .wear) (j .outs .wakeUp) (omega arith) (lit≤ tt) (lit≤ tt) (f .rooms .wakeUp) (f .table))))

@@ -36,13 +36,13 @@ ValidHistories =
 -- the listed calls win back the chip that any history has left, with whichever array of the right length is lent to them
 abbrev pub AnyHistory : Type 0
 AnyHistory =
-    (rec : Record) (past : List Lent) (cells : List ℕ) (j : Job) → recordOk rec ≡ true → length cells ≡ modelOf (rec .model) .length → JobFits j
+    (rec : Record) (past : List Lent) (cells : List ℕ) (j : Job) → recordOk rec ≡ true → length cells ≡ modelOf (rec .model) .length → JobFits rec j
     → Recovers ours rec j (lend (history rec past (factory [])) cells)
 
 -- also where the power was cut at any moment of it, whatever the pattern
 abbrev pub AfterCut : Type 0
 AfterCut =
-    (rec : Record) (past : List Lent) (cells pattern : List ℕ) (j : Job) → recordOk rec ≡ true → length cells ≡ modelOf (rec .model) .length → JobFits j
+    (rec : Record) (past : List Lent) (cells pattern : List ℕ) (j : Job) → recordOk rec ≡ true → length cells ≡ modelOf (rec .model) .length → JobFits rec j
     → Recovers ours rec j (after ours rec [] (cuts pattern) (lend (history rec past (factory [])) cells))
 
 -- no call changes the length of the array that it is given

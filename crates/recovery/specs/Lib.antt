@@ -2,3 +2,4 @@ pub mod Recovery
 pub mod Histories
 pub mod Shorter
 pub mod Pods
+pub mod Wear

@@ -44,7 +44,7 @@ module _ (p : Pod) where
 
   -- whatever it does with the first frame, it answers 0 to the others and does nothing
   abbrev pub OnlyOnce : Type 0
-  OnlyOnce = (seen : List Call) (rec : Record) (x : Chip) (f : Sent) → sentBefore seen ≡ true → p .frame seen rec x f ≡ stateOnly Done (x .state) (x .page) (f .out)
+  OnlyOnce = (seen : List Call) (rec : Record) (x : Chip) (f : Sent) → sentBefore seen ≡ true → p .frame seen rec x f ≡ stateOnly Done (x .state) (x .page) (f .wear) (f .out)
 
   -- it can erase cells and no more; what it was sent it may remember, and drive it back when it is asked to read
   abbrev pub AsItWas : List ℕ → List ℕ → Type 0
@@ -55,10 +55,15 @@ module _ (p : Pod) where
       ((seen : List Call) (rec : Record) (x : Chip) (us : ℕ) → AsItWas (x .cells) (p .wait seen rec x us .chip .cells))
       × ((seen : List Call) (rec : Record) (x : Chip) (pattern : List ℕ) → AsItWas (x .cells) (p .cut seen rec x pattern .chip .cells))
 
--- the four of 01 fall, and the one that replays
+  -- it counts no erase
+  abbrev pub NeverCounts : Type 0
+  NeverCounts = (seen : List Call) (rec : Record) (x : Chip) (f : Sent) → p .frame seen rec x f .wear ≡ f .wear
+
+-- the four of 01 fall, the one that replays, and the one that does not count
 pub record Worthless : Type 0 where
   pub refuses-all : (p : Pod) → RefusesAll p → WinsBack p → ⊥
   pub same-byte : (p : Pod) (b : ℕ) → SameByte p b → WinsBack p → ⊥
   pub keeps-cells : (p : Pod) → KeepsCells p → WinsBack p → ⊥
   pub only-once : (p : Pod) → OnlyOnce p → WinsBack p → ⊥
   pub only-replays : (p : Pod) → OnlyReplays p → WinsBack p → ⊥
+  pub never-counts : (p : Pod) → NeverCounts p → WinsBack p → ⊥

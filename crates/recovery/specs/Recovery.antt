@@ -3,7 +3,7 @@
 use mathlib.Core.Path.{_≡_}
 use mathlib.Core.Bool.{true}
 use mathlib.Core.List.{List, [], _∷_, _++_}
-use Prim.Native.Nat.{ℕ, _+_, _≤_, _<_}
+use Prim.Native.Nat.{ℕ, _+_, _/_, _≤_, _<_}
 use lib.ListN.{length, getD, replicate}
 use Rattle.units.specs.declared.Address.{Address}
 use Rattle.units.specs.Kinds.{sectorOf, sectorStart}
@@ -14,8 +14,9 @@ use Rattle.states.specs.States.{longestOf, Chip}
 use Rattle.states.specs.declared.Record.{Record}
 use Rattle.answers.specs.declared.Answer.the-variants.{Done}
 use Rattle.effects.specs.Effects.{Effect}
-use Rattle.chip.specs.Frames.{Sent, sentOf}
-use Rattle.calls.specs.Calls.{Call, sends, waits, Pod, after, run, answers, effectAfter, frame, Roomy, Bench}
+use Rattle.counts.specs.Counts.{topCount, OneMore}
+use Rattle.chip.specs.Frames.{Sent}
+use Rattle.calls.specs.Calls.{Call, sends, waits, Pod, after, run, answers, tables, effectAfter, frame, Roomy, Bench}
 
 -- the output lent to each frame of the list
 pub record Outs : Type 0 where
@@ -28,7 +29,7 @@ pub record Outs : Type 0 where
   pub program : List ℕ
   pub readBack : List ℕ
 
--- what is to be written where; the n more bytes that are sent while it is read back; and the outputs
+-- what is to be written where; the n more bytes that are sent while it is read back; the outputs; and the wear table, as it is lent to the frames up to the erase, and to those after it
 pub record Job : Type 0 where
   pub high : ℕ
   pub middle : ℕ
@@ -36,32 +37,34 @@ pub record Job : Type 0 where
   pub bytes : List ℕ
   pub more : List ℕ
   pub outs : Outs
+  pub wear : List ℕ
+  pub worn : List ℕ
 
 -- ---- the frames of the list
 module _ (j : Job) where
   abbrev pub wakeUp : Sent
-  wakeUp = frame (0xAB ∷ []) (j .outs .wakeUp)
+  wakeUp = frame (0xAB ∷ []) (j .wear) (j .outs .wakeUp)
 
   abbrev pub enableUnlock : Sent
-  enableUnlock = frame (0x06 ∷ []) (j .outs .enableUnlock)
+  enableUnlock = frame (0x06 ∷ []) (j .wear) (j .outs .enableUnlock)
 
   abbrev pub unlock : Sent
-  unlock = frame (0x01 ∷ 0x00 ∷ []) (j .outs .unlock)
+  unlock = frame (0x01 ∷ 0x00 ∷ []) (j .wear) (j .outs .unlock)
 
   abbrev pub enableErase : Sent
-  enableErase = frame (0x06 ∷ []) (j .outs .enableErase)
+  enableErase = frame (0x06 ∷ []) (j .wear) (j .outs .enableErase)
 
   abbrev pub erase : Sent
-  erase = frame (0x20 ∷ j .high ∷ j .middle ∷ j .low ∷ []) (j .outs .erase)
+  erase = frame (0x20 ∷ j .high ∷ j .middle ∷ j .low ∷ []) (j .wear) (j .outs .erase)
 
   abbrev pub enableProgram : Sent
-  enableProgram = frame (0x06 ∷ []) (j .outs .enableProgram)
+  enableProgram = frame (0x06 ∷ []) (j .worn) (j .outs .enableProgram)
 
   abbrev pub program : Sent
-  program = frame (0x02 ∷ j .high ∷ j .middle ∷ j .low ∷ j .bytes) (j .outs .program)
+  program = frame (0x02 ∷ j .high ∷ j .middle ∷ j .low ∷ j .bytes) (j .worn) (j .outs .program)
 
   abbrev pub readBack : Sent
-  readBack = frame (0x03 ∷ j .high ∷ j .middle ∷ j .low ∷ j .more) (j .outs .readBack)
+  readBack = frame (0x03 ∷ j .high ∷ j .middle ∷ j .low ∷ j .more) (j .worn) (j .outs .readBack)
 
 -- ---- the list
 module _ (rec : Record) (j : Job) where
@@ -117,13 +120,17 @@ pub record Rooms (j : Job) : Type 0 where
   pub program : Roomy (program j)
   pub readBack : Roomy (readBack j)
 
--- n data bytes with 1 ≤ n ≤ 256 and a + n ≤ 256, a being the page offset
-pub record JobFits (j : Job) : Type 0 where
+-- n data bytes with 1 ≤ n ≤ 256 and a + n ≤ 256, a being the page offset; a table of the right length, whose count of the addressed sector is below its top, and
+-- the same with that count one more
+pub record JobFits (rec : Record) (j : Job) : Type 0 where
   pub some : 1 ≤ length (j .bytes)
   pub page : j .low + length (j .bytes) ≤ 256
   pub bytes : Bytes (j .bytes)
   pub more : length (j .more) ≡ length (j .bytes)
   pub rooms : Rooms j
+  pub table : length (j .wear) ≡ modelOf (rec .model) .sectors
+  pub spare : getD (j .wear) (place rec j / 4096) 0 < topCount
+  pub after : OneMore (place rec j / 4096) (j .wear) (j .worn)
 
 -- ---- what it gives
 -- what has come of the chip x, which the first wait left and which is now y, and what the last frame did
@@ -141,11 +148,12 @@ pub record Won (rec : Record) (j : Job) (x y : Chip) (last : Effect) : Type 0 wh
   pub below : (k : ℕ) → k < base rec j → getD (y .cells) k 0 ≡ getD (x .cells) k 0
   pub above : (k : ℕ) → base rec j + 4096 ≤ k → getD (y .cells) k 0 ≡ getD (x .cells) k 0
 
--- every call is answered 0, and the chip is won back
+-- every call is answered 0, each frame leaves the table as it was lent but for the erase, which leaves it with that count one more, and the chip is won back
 pub record Recovers (p : Pod) (rec : Record) (j : Job) (x : Chip) : Type 0 where
   pub answered : answers p rec [] (recovery rec j) x ≡ replicate (length (recovery rec j)) Done
+  pub counted : tables p rec [] (recovery rec j) x ≡ j .wear ∷ j .wear ∷ j .wear ∷ j .wear ∷ j .worn ∷ j .worn ∷ j .worn ∷ j .worn ∷ []
   pub won : Won rec j (after p rec [] (waitLongest rec j) x) (run p rec [] (recovery rec j) x) (effectAfter p rec (toRead rec j) x (readBack j))
 
 -- demand 3, of any pod
 abbrev pub WinsBack : Pod → Type 0
-WinsBack p = (rec : Record) (j : Job) (x : Chip) → Bench rec x → JobFits j → Recovers p rec j x
+WinsBack p = (rec : Record) (j : Job) (x : Chip) → Bench rec x → JobFits rec j → Recovers p rec j x

@@ -25,23 +25,23 @@ ThenBusy = Then Busy
 -- with the wait after AB shortened by one, the next call is answered 22, for every chip that was asleep
 abbrev pub ShorterWake : Type 0
 ShorterWake =
-    (rec : Record) (j : Job) (x : Chip) → Bench rec x → JobFits j → x .state .asleep ≡ true
+    (rec : Record) (j : Job) (x : Chip) → Bench rec x → JobFits rec j → x .state .asleep ≡ true
     → Then Settling rec (waitLongest rec j ∷ sends (wakeUp j) ∷ waits (rec .wake - 1) ∷ []) (enableUnlock j) x
 
 -- with the wait after an operation shortened by one, the next call is answered 11, for every record and state
 abbrev pub ShorterUnlock : Type 0
 ShorterUnlock =
-    (rec : Record) (j : Job) (x : Chip) → Bench rec x → JobFits j
+    (rec : Record) (j : Job) (x : Chip) → Bench rec x → JobFits rec j
     → ThenBusy rec (toUnlock rec j ++ (waits (rec .«status_write» - 1) ∷ [])) (enableErase j) x
 
 abbrev pub ShorterErase : Type 0
 ShorterErase =
-    (rec : Record) (j : Job) (x : Chip) → Bench rec x → JobFits j
+    (rec : Record) (j : Job) (x : Chip) → Bench rec x → JobFits rec j
     → ThenBusy rec (toErase rec j ++ (waits (rec .sector - 1) ∷ [])) (enableProgram j) x
 
 abbrev pub ShorterProgram : Type 0
 ShorterProgram =
-    (rec : Record) (j : Job) (x : Chip) → Bench rec x → JobFits j
+    (rec : Record) (j : Job) (x : Chip) → Bench rec x → JobFits rec j
     → ThenBusy rec (toProgram rec j ++ (waits (rec .page - 1) ∷ [])) (readBack j) x
 
 -- with the first wait shortened by one, AB is answered 11 or 22 on some chip
@@ -52,11 +52,11 @@ TooShort rec j x =
 -- there is a chip with a valid state for which it is
 abbrev pub ShorterFirst : Type 0
 ShorterFirst =
-    (rec : Record) (cells : List ℕ) (j : Job) → recordOk rec ≡ true → length cells ≡ modelOf (rec .model) .length → JobFits j
+    (rec : Record) (cells : List ℕ) (j : Job) → recordOk rec ≡ true → length cells ≡ modelOf (rec .model) .length → JobFits rec j
     → (x : Chip) × Bench rec x × TooShort rec j x
 
 -- and calls from power-on on one array that lead to one, for every record
 abbrev pub ReachedFirst : Type 0
 ReachedFirst =
-    (rec : Record) (cells : List ℕ) (j : Job) → recordOk rec ≡ true → length cells ≡ modelOf (rec .model) .length → JobFits j
+    (rec : Record) (cells : List ℕ) (j : Job) → recordOk rec ≡ true → length cells ≡ modelOf (rec .model) .length → JobFits rec j
     → (calls : List Call) × TooShort rec j (run ours rec [] calls (factory cells))

@@ -91,8 +91,38 @@ fn say_cells(array: &[u8], look: u32) {
     }
 }
 
-// The row of a line: the line, what it came to, and the eight cells from `look` on.
-pub fn say_row(line: &[u8], last: Played, look: u32, array: &[u8], out: &[u8]) {
+// A tab, and a count.
+fn say_one(count: u32) {
+    say(b"\t");
+    io::print_decimal(STDOUT_FILENO, count as u64);
+}
+
+// The count of the sector that holds the address, where the table has one.
+fn say_count(array: &[u8], wear: &[u32], look: u32) {
+    if 0 < array.len() {
+        let sector = look as usize % array.len() / 4096;
+        if sector < wear.len() {
+            say_one(wear[sector]);
+            return;
+        }
+    }
+    say(b"\t-");
+}
+
+// The sum of all counts, where the table is a chip's.
+fn say_total(wear: &[u32]) {
+    let figures = counts::report(wear);
+    let answer = figures.answer;
+    say(b"\t");
+    if answers::number_of(answer) == 0 {
+        io::print_decimal(STDOUT_FILENO, figures.total);
+    } else {
+        say(b"-");
+    }
+}
+
+// The row of a line: the line, what it came to, the eight cells from `look` on, the count of their sector, and the sum of all counts.
+pub fn say_row(line: &[u8], last: Played, look: u32, array: &[u8], wear: &[u32], out: &[u8]) {
     let st = last.state;
     say(line);
     say(b"|");
@@ -101,5 +131,7 @@ pub fn say_row(line: &[u8], last: Played, look: u32, array: &[u8], out: &[u8]) {
     say_note(last.fold);
     say_state(st);
     say_cells(array, look);
+    say_count(array, wear, look);
+    say_total(wear);
     say(b"\n");
 }

@@ -18,11 +18,12 @@ pub fn step(
     line: &[u8],
     page: &mut [u8],
     array: &mut [u8],
+    wear: &mut [u32],
     shown: &mut [u8],
 ) -> Played
-    ensures { λ r. ⌜ Steps (playOf rec (chipOf (now (st .entry)) (now (page .entry)) (now (array .entry))) (now (shown .entry)) (now (line .entry))) r (now (st .exit)) (now (page .exit)) (now (array .exit)) (now (shown .exit)) ⌝ }
+    ensures { λ r. ⌜ Steps (playOf rec (chipOf (now (st .entry)) (now (page .entry)) (now (array .entry))) (now (wear .entry)) (now (shown .entry)) (now (line .entry))) r (now (st .exit)) (now (page .exit)) (now (array .exit)) (now (wear .exit)) (now (shown .exit)) ⌝ }
 {
-    let p = play::play(line, rec, *st, page, array, shown);
+    let p = play::play(line, rec, *st, page, array, wear, shown);
     *st = p.state;
     p
 }
@@ -34,12 +35,13 @@ pub fn stepped(
     line: &[u8],
     page: &mut [u8],
     array: &mut [u8],
+    wear: &mut [u32],
     shown: &mut [u8],
 ) -> Played
-    ensures { λ r. ⌜ Plays (playOf rec (chipOf st (now (page .entry)) (now (array .entry))) (now (shown .entry)) (now (line .entry))) r (now (page .exit)) (now (array .exit)) (now (shown .exit)) ⌝ }
+    ensures { λ r. ⌜ Plays (playOf rec (chipOf st (now (page .entry)) (now (array .entry))) (now (wear .entry)) (now (shown .entry)) (now (line .entry))) r (now (page .exit)) (now (array .exit)) (now (wear .exit)) (now (shown .exit)) ⌝ }
 {
     let mut s = st;
-    let p = step(&mut s, rec, line, page, array, shown);
+    let p = step(&mut s, rec, line, page, array, wear, shown);
     Played {
         answer: p.answer,
         from: p.from,
@@ -63,14 +65,15 @@ pub fn log_line(
     st: State,
     page: &mut [u8],
     array: &mut [u8],
+    wear: &mut [u32],
     log: &mut [u8],
     at: usize,
 ) -> Logged
     requires { ⌜ at + longestRow ≤ length (now log) ⌝ }
-    ensures { λ r. ⌜ Logs rec (chipOf st (now (page .entry)) (now (array .entry))) number (now (line .entry)) (now (log .entry)) at r (now (page .exit)) (now (array .exit)) (now (log .exit)) ⌝ }
+    ensures { λ r. ⌜ Logs rec (chipOf st (now (page .entry)) (now (array .entry))) (now (wear .entry)) number (now (line .entry)) (now (log .entry)) at r (now (page .exit)) (now (array .exit)) (now (wear .exit)) (now (log .exit)) ⌝ }
 {
     let mut shown = [0u8; 300];
-    let p = stepped(st, rec, line, page, array, &mut shown);
+    let p = stepped(st, rec, line, page, array, wear, &mut shown);
     let from = p.from as usize;
     let end = from + p.count as usize;
     let next = log::put_row(number, p.answer, p.from, &shown[from..end], p.fold, log, at);

@@ -6,10 +6,10 @@ use Rattle.cases.proofs.work.Statement.{statement}
 use Rattle.cases.proofs.work.Tie as tie
 
 abbrev Inv-loop : tie.InvT-loop
-Inv-loop script page₀ array₀ out₀ setup₀ at₀ page array out setup at = Unit {0}
+Inv-loop script page₀ array₀ wear₀ out₀ setup₀ at₀ page array wear out setup at = Unit {0}
 
 abbrev μ-loop : tie.MeasureT-loop
-μ-loop script page₀ array₀ out₀ setup₀ at₀ page array out setup at = length script - at
+μ-loop script page₀ array₀ wear₀ out₀ setup₀ at₀ page array wear out setup at = length script - at
 
 pub work-spec : {M : Type 1} → statement M
 work-spec =

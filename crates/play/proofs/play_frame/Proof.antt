@@ -8,8 +8,8 @@ use Rattle.play.proofs.play_frame.Tie as tie
 
 returns : tie.Need-returns
 returns c =
-    let a = c .before .before .before .before .before .before .before .before .before .before .before .before .before .before .before .before .before .before .args in
-    frame-plays (a .rec) (chipOf (a .st) (a .page .now) (a .array .now)) (a .shown .now) (a .line .now) (a .wp) (a .tail) (unhexed-front 300 refl (c .before .before .before .before .before .before .before .before .before .before .before .before .frame-bytes .ensures)) (c .before .before .before .before .before .before .frame .ensures) (c .number-of .ensures)
+    let a = c .before .before .before .before .before .before .before .before .before .before .before .before .before .before .before .before .before .before .before .before .before .before .args in
+    frame-plays (a .rec) (chipOf (a .st) (a .page .now) (a .array .now)) (a .wear .now) (a .shown .now) (a .line .now) (a .wp) (a .tail) (unhexed-front 300 refl (c .before .before .before .before .before .before .before .before .before .before .before .before .before .before .before .frame-bytes .ensures)) (c .before .before .before .before .before .before .before .before .frame .ensures) (c .number-of .ensures)
 
 pub play-frame-spec : {M : Type 1} → statement M
 play-frame-spec =
@@ -22,6 +22,7 @@ play-frame-spec =
     (λ c. search needs)
     (λ c κs. search needs)
     (λ c κs. search needs)
+    (λ c. search needs)
     (λ c. search needs)
     (λ c. search needs)
     returns)

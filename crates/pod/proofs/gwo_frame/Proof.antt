@@ -24,18 +24,18 @@ numbers c =
 right : (c : tie.Else1) → recordOk (c .before .before .record-of .result) ≡ true
 right c = sym (c .before .record-ok .ensures) ∙ not-false _ (c .if1 .left)
 
-packing : (c : tie.Else2) → isPacking (c .before .before .before .before .before .before .before .before .before .before .before .before .args .state .now) ≡ true
+packing : (c : tie.Else2) → isPacking (c .before .before .before .before .before .before .before .before .before .before .before .before .before .args .state .now) ≡ true
 packing c = sym (c .before .is-packed .ensures) ∙ not-false _ (c .if2 .left)
 
-whole : (c : tie.Else2) → length (c .before .before .before .before .before .before .before .before .before .before .before .before .args .state .now) ≡ 272
+whole : (c : tie.Else2) → length (c .before .before .before .before .before .before .before .before .before .before .before .before .before .args .state .now) ≡ 272
 whole c = packing-length _ (packing c)
 
 returns : tie.Need-returns
 returns c =
     let r = c .before .before in
-    let start = r .before .before .before .before .before in
+    let start = r .before .before .before .before .before .before in
     let given = start .args in
-    bad-record-frame (numbers start) (given .state .now) (r .record-of .ensures) (sym (c .before .record-ok .ensures) ∙ not-true _ (c .if1 .taken)) (given .array .now) (sentBy (given .frame .now) (given .tail) (given .wp) (given .out .now))
+    bad-record-frame (numbers start) (given .state .now) (r .record-of .ensures) (sym (c .before .record-ok .ensures) ∙ not-true _ (c .if1 .taken)) (given .array .now) (sentBy (given .frame .now) (given .tail) (given .wp) (given .wear .now) (given .out .now))
 
 is-packed-requires : tie.Need-is-packed-requires
 is-packed-requires c κs = c .before .busy-in .ensures
@@ -44,9 +44,9 @@ returns-2 : tie.Need-returns-2
 returns-2 c =
     let t = c .before in
     let e = t .before .before .before .before .before in
-    let start = e .before .before .before .before .before .before .before in
+    let start = e .before .before .before .before .before .before .before .before in
     let given = start .args in
-    bad-bytes-frame (numbers start) (given .state .now) (sym (t .before .is-packed .ensures) ∙ not-true _ (t .if2 .taken)) (e .before .before .record-of .ensures) (right e) (given .array .now) (c .bytes-refusal .ensures) (sentBy (given .frame .now) (given .tail) (given .wp) (given .out .now))
+    bad-bytes-frame (numbers start) (given .state .now) (sym (t .before .is-packed .ensures) ∙ not-true _ (t .if2 .taken)) (e .before .before .record-of .ensures) (right e) (given .array .now) (sentBy (given .frame .now) (given .tail) (given .wp) (given .wear .now) (given .out .now)) (c .frame-refusal .ensures)
 
 unpack-requires : tie.Need-unpack-requires
 unpack-requires c κs = (whole (c .before), c .before .before .before .before .busy-in .ensures)
@@ -56,19 +56,19 @@ part-end c = omega (arith, whole (c .before .before))
 
 keep-requires : tie.Need-keep-requires
 keep-requires c κs =
-    let u = c .before .before .before .before .before .before .before .before .before .before in
+    let u = c .before .before .before .before .before .before .before .before .before .before .before .before .before in
     let e = u .before .before in
-    let start = e .before .before .before .before .before .before .before .before .before .before .before .before in
+    let start = e .before .before .before .before .before .before .before .before .before .before .before .before .before in
     let given = start .args in
-    fits-frame (numbers start) (given .state .now) (given .array .now) (sentBy (given .frame .now) (given .tail) (given .wp) (given .out .now)) (whole e) (e .before .before .before .before .before .before .before .record-of .ensures) (u .unpack .ensures ∙ sym (unpack-read _ (packing e))) (c .before .before .before .before .before .before .before .frame .ensures)
+    fits-frame (numbers start) (given .state .now) (given .array .now) (sentBy (given .frame .now) (given .tail) (given .wp) (given .wear .now) (given .out .now)) (whole e) (e .before .before .before .before .before .before .before .record-of .ensures) (u .unpack .ensures ∙ sym (unpack-read _ (packing e))) (c .before .before .before .before .before .before .before .before .before .frame .ensures)
 
 returns-3 : tie.Need-returns-3
 returns-3 c =
-    let u = c .before .before .before .before .before .before .before .before .before .before .before .before .before in
+    let u = c .before .before .before .before .before .before .before .before .before .before .before .before .before .before .before .before in
     let e = u .before .before in
-    let start = e .before .before .before .before .before .before .before .before .before .before .before .before in
+    let start = e .before .before .before .before .before .before .before .before .before .before .before .before .before in
     let given = start .args in
-    leaves (numbers start) (given .state .now) (given .array .now) (sentBy (given .frame .now) (given .tail) (given .wp) (given .out .now)) (whole e) (e .before .before .before .before .before .before .before .record-of .ensures) (u .unpack .ensures ∙ sym (unpack-read _ (packing e))) (c .before .before .before .before .before .before .before .before .before .before .frame .ensures) (c .before .before .keep .ensures .0) (c .before .before .keep .ensures .1)
+    leaves (numbers start) (given .state .now) (given .array .now) (sentBy (given .frame .now) (given .tail) (given .wp) (given .wear .now) (given .out .now)) (whole e) (e .before .before .before .before .before .before .before .record-of .ensures) (u .unpack .ensures ∙ sym (unpack-read _ (packing e))) (c .before .before .before .before .before .before .before .before .before .before .before .before .frame .ensures) (c .before .before .keep .ensures .0) (c .before .before .keep .ensures .1)
 
 pub gwo-frame-spec : {M : Type 1} → statement M
 gwo-frame-spec =
@@ -89,6 +89,7 @@ gwo-frame-spec =
     (λ c κs. search needs)
     (λ c. search needs)
     keep-requires
+    (λ c. search needs)
     (λ c. search needs)
     (λ c. search needs)
     returns-3)
