@@ -123,7 +123,7 @@ static struct reply take_step(const struct step *s)
     case FRAME:
         to.answer = ref_frame(r->model, r->status_us, r->page_us, r->sector_us, r->block_us, r->chip_us, r->half_us,
                               r->sleep_us, r->wake_us, r->sign_us, packed, sizeof packed, cells, CELLS, wear,
-                              sizeof wear / sizeof wear[0], s->frame, s->frame_len, s->tail, s->wp, out, sizeof out,
+                              sizeof wear / sizeof wear[0], s->frame, s->frame_len, s->tail, s->wp, 0, out, sizeof out,
                               &to.from, &to.count, &to.fold);
         break;
     case WAIT:

@@ -16,7 +16,7 @@ use Rattle.states.specs.declared.Record.{Record}
 use Rattle.commands.specs.declared.Command.{Command}
 use Rattle.commands.specs.declared.Command.the-variants.{Unknown, WriteEnable, WriteDisable, ReadStatus, ReadConfig, WriteStatus, Read, FastRead, EraseSector, EraseHalf, EraseBlock, EraseChip, Program, ReadId, Wake, ReadMaker, Sleep}
 use Rattle.answers.specs.declared.Answer.{Answer}
-use Rattle.answers.specs.declared.Answer.the-variants.{Done, WornOut}
+use Rattle.answers.specs.declared.Answer.the-variants.{Done, WornOut, NotErased}
 use Rattle.commands.specs.declared.Operation.{Operation}
 use Rattle.states.specs.declared.State.{State}
 use Rattle.counts.specs.Counts.{wornOut, counted, InTable}
@@ -77,13 +77,13 @@ module _ (rec : Record) (x : Chip) (f : Sent) where
   abbrev H : Head
   H = headOf rec x f
 
-  -- with whatever is said of the counts
-  abbrev headWith : Bool → Head
-  headWith w = headFor (rec .model) (length (x .cells)) (length (f .wear)) (pageOk (rec .model) (x .state) (x .page)) (f .bytes) (f .tail) (f .wp) (length (f .out)) w
+  -- with whatever is said of the cells and of the counts
+  abbrev headWith : Bool → Bool → Head
+  headWith o w = headFor (rec .model) (length (x .cells)) (length (f .wear)) (pageOk (rec .model) (x .state) (x .page)) (f .bytes) (f .tail) (f .wp) (length (f .out)) o w
 
-  pub arrived : (w : Bool) → Passed rec (x .state) (headWith w) → Ready rec x (H .command) (H .address) (f .bytes) (f .out)
+  pub arrived : (o w : Bool) → Passed rec (x .state) (headWith o w) → Ready rec x (H .command) (H .address) (f .bytes) (f .out)
   unfolding headFor addressOf
-  arrived w p =
+  arrived o w p =
       let b : List ℕ = f .bytes in
       record {
         level = omega (arith, sound rec (x .state) (p .valid) .level, highest-bp (rec .model));
@@ -96,7 +96,7 @@ module _ (rec : Record) (x : Chip) (f : Sent) where
 
   -- the head that the code reads: it has not looked at the counts yet
   abbrev unworn : Head
-  unworn = headWith false
+  unworn = headWith false false
 
   given-unworn : givenOf rec (x .state) unworn ≡ givenOf rec (x .state) H
   unfolding givenOf headFor
@@ -123,7 +123,7 @@ module _ (rec : Record) (x : Chip) (f : Sent) where
   pub ready : {h : Head} {a : Answer} → isDone (givenOf rec (x .state) H) ≡ true → h ≡ unworn → a ≡ saidOf rec (x .state) h
       → isDone a ≡ true → Ready rec x (h .command) (h .address) (f .bytes) (f .out)
   unfolding headFor
-  ready {h} {a} p e g d = subst (λ (k : Head). Ready rec x (k .command) (k .address) (f .bytes) (f .out)) (sym e) (arrived false (all-but-last p e g d))
+  ready {h} {a} p e g d = subst (λ (k : Head). Ready rec x (k .command) (k .address) (f .bytes) (f .out)) (sym e) (arrived false false (all-but-last p e g d))
 
   -- the sectors that it covers lie in the table
   pub countable : {h : Head} {a : Answer} {op : Operation} → isDone (givenOf rec (x .state) H) ≡ true → h ≡ unworn → a ≡ saidOf rec (x .state) h
@@ -131,22 +131,26 @@ module _ (rec : Record) (x : Chip) (f : Sent) where
   unfolding headFor
   countable {h} {a} {op} p e g d o =
       let k = all-but-last p e g d in
-      let r = arrived false k in
+      let r = arrived false false k in
       subst (λ (q : Operation). InTable q (h .address .0) (f .wear)) (sym o)
       (subst (λ (q : Head). InTable (operationOf (q .command)) (q .address .0) (f .wear)) (sym e)
       (in-table (rec .model) (operationOf (unworn .command)) (unworn .address .0) (f .wear) (k .table) (omega (arith, r .inside, r .whole))))
 
   -- the last row is left: the frame is what its command does, or refused by its counts
   taken-is : isDone (givenOf rec (x .state) H) ≡ true → isDone (saidOf rec (x .state) H) ≡ true
-      → takenOf rec x (unworn .command) (unworn .address) (f .bytes) (f .wear) (f .out) ≡ frameOf rec x f
+      → takenOf rec x (unworn .command) (unworn .address) (f .strict) (f .bytes) (f .wear) (f .out) ≡ frameOf rec x f
   unfolding frameOf headFor
-  taken-is p q = go (H .worn) (goes-on rec (x .state) H p q ∙ last-is rec (x .state) H)
+  taken-is p q = go (H .over) (H .worn) (goes-on rec (x .state) H p q ∙ last-is rec (x .state) H)
     where
-      go : (b : Bool) → refusalOf rec (x .state) H ≡ cond b WornOut Done
-          → cond b (stateOnly WornOut (x .state) (x .page) (f .wear) (f .out)) (acceptedOf rec x (H .command) (H .address) (f .bytes) (f .wear) (f .out))
+      refused-as : (a : Answer) → saysProtected a ≡ false → stateOnly a (x .state) (x .page) (f .wear) (f .out) ≡ refusedOf rec a x f
+      refused-as a e = ap (λ (s : State). stateOnly a s (x .page) (f .wear) (f .out)) (sym (leaves-all (rec .model) a (x .state) e))
+
+      go : (o b : Bool) → refusalOf rec (x .state) H ≡ cond o NotErased (cond b WornOut Done)
+          → cond o (stateOnly NotErased (x .state) (x .page) (f .wear) (f .out)) (cond b (stateOnly WornOut (x .state) (x .page) (f .wear) (f .out)) (acceptedOf rec x (H .command) (H .address) (f .bytes) (f .wear) (f .out)))
           ≡ cond (isDone (refusalOf rec (x .state) H)) (acceptedOf rec x (H .command) (H .address) (f .bytes) (f .wear) (f .out)) (refusedOf rec (refusalOf rec (x .state) H) x f)
-      go true e = rw e (ap (λ (s : State). stateOnly WornOut s (x .page) (f .wear) (f .out)) (sym (leaves-all (rec .model) WornOut (x .state) refl)))
-      go false e = rw e
+      go true b e = rw e (refused-as NotErased refl)
+      go false true e = rw e (refused-as WornOut refl)
+      go false false e = rw e
 
   -- counted and done
   pub accept : {h : Head} {a : Answer} {op : Operation} {done : Bool} {ws : List ℕ} {r : Reply} {xs os : List ℕ} → isDone (givenOf rec (x .state) H) ≡ true → h ≡ unworn
@@ -157,9 +161,9 @@ module _ (rec : Record) (x : Chip) (f : Sent) where
   accept {h} {a} {op} {done} {ws} {r} {xs} {os} p e g d o n w y q =
       let spare : wornOut (operationOf (h .command)) (h .address .0) (f .wear) ≡ false = ap (λ (k : Operation). wornOut k (h .address .0) (f .wear)) (sym o) ∙ not-true _ (sym n ∙ y) in
       let table : acceptedOf rec x (h .command) (h .address) (f .bytes) (f .wear) (f .out) .wear ≡ ws = table-after rec x (h .address) (f .bytes) (f .wear) (f .out) (h .command) ∙ ap (λ (k : Operation). counted k (h .address .0) (f .wear)) (sym o) ∙ sym (w ∙ rw y) in
-      let taken : takenOf rec x (h .command) (h .address) (f .bytes) (f .wear) (f .out) ≡ acceptedOf rec x (h .command) (h .address) (f .bytes) (f .wear) (f .out) = rw spare in
+      let taken : takenOf rec x (h .command) (h .address) (f .strict) (f .bytes) (f .wear) (f .out) ≡ acceptedOf rec x (h .command) (h .address) (f .bytes) (f .wear) (f .out) = rw spare in
       subst (λ (k : Effect). Gives k r xs ws os)
-      (sym taken ∙ ap (λ (k : Head). takenOf rec x (k .command) (k .address) (f .bytes) (f .wear) (f .out)) e ∙ taken-is p (sym (ap isDone (said e g)) ∙ d))
+      (sym taken ∙ ap (λ (k : Head). takenOf rec x (k .command) (k .address) (f .strict) (f .bytes) (f .wear) (f .out)) e ∙ taken-is p (sym (ap isDone (said e g)) ∙ d))
       (subst (λ (k : List ℕ). Gives (acceptedOf rec x (h .command) (h .address) (f .bytes) (f .wear) (f .out)) r xs k os) table (with-table rec x (h .address) (f .bytes) (f .wear) (f .out) (h .command) q))
 
   -- refused by its counts
@@ -169,9 +173,9 @@ module _ (rec : Record) (x : Chip) (f : Sent) where
       → r ≡ quiet WornOut (x .state) → Gives (frameOf rec x f) r (x .page) ws (f .out)
   worn-out {h} {a} {op} {done} {ws} {r} p e g d o n w y q =
       let full : wornOut (operationOf (h .command)) (h .address .0) (f .wear) ≡ true = ap (λ (k : Operation). wornOut k (h .address .0) (f .wear)) (sym o) ∙ not-false _ (sym n ∙ y) in
-      let turned-away : takenOf rec x (h .command) (h .address) (f .bytes) (f .wear) (f .out) ≡ stateOnly WornOut (x .state) (x .page) (f .wear) (f .out) = rw full in
+      let turned-away : takenOf rec x (h .command) (h .address) (f .strict) (f .bytes) (f .wear) (f .out) ≡ stateOnly WornOut (x .state) (x .page) (f .wear) (f .out) = rw full in
       subst (λ (k : Effect). Gives k r (x .page) ws (f .out))
-      (sym turned-away ∙ ap (λ (k : Head). takenOf rec x (k .command) (k .address) (f .bytes) (f .wear) (f .out)) e ∙ taken-is p (sym (ap isDone (said e g)) ∙ d))
+      (sym turned-away ∙ ap (λ (k : Head). takenOf rec x (k .command) (k .address) (f .strict) (f .bytes) (f .wear) (f .out)) e ∙ taken-is p (sym (ap isDone (said e g)) ∙ d))
       (record { reply = q; page-is = refl; wear-is = w ∙ rw y; out = refl })
 
   -- what a frame comes to, by whether it is refused
@@ -205,6 +209,7 @@ module _ (rec : Record) (x : Chip) (f : Sent) where
         room = length (f .out);
         command = Unknown;
         address = record { 0 = 0 };
+        over = false;
         worn = false;
       }
 
@@ -221,10 +226,11 @@ module _ (rec : Record) (x : Chip) (f : Sent) where
         room = length (f .out);
         command = Unknown;
         address = record { 0 = 0 };
+        over = false;
         worn = false;
       })
       → b ≡ pageOk (rec .model) (x .state) (x .page) → a ≡ givenOf rec (x .state) unread
-  first-rows g e = g ∙ ap (λ (b : Bool). givenOf rec (x .state) (record { cells = length (x .cells); sectors = length (f .wear); page = b; count = length (f .bytes); tail = f .tail; wp = f .wp; room = length (f .out); command = Unknown; address = record { 0 = 0 }; worn = false })) e
+  first-rows g e = g ∙ ap (λ (b : Bool). givenOf rec (x .state) (record { cells = length (x .cells); sectors = length (f .wear); page = b; count = length (f .bytes); tail = f .tail; wp = f .wp; room = length (f .out); command = Unknown; address = record { 0 = 0 }; over = false; worn = false })) e
 
   as-given : givenOf rec (x .state) unread ≡ givenOf rec (x .state) H
   unfolding givenOf headFor
@@ -235,8 +241,8 @@ module _ (rec : Record) (x : Chip) (f : Sent) where
   let-pass e d = let g = sym (ap isDone (e ∙ as-given)) ∙ d in record { given = g; fits = given-page rec (x .state) H g }
 
   -- the head that is read after them: the page data fit
-  pub read-head : {h : Head} → Heard rec x f → h ≡ headFor (rec .model) (length (x .cells)) (length (f .wear)) true (f .bytes) (f .tail) (f .wp) (length (f .out)) false → h ≡ unworn
-  read-head p e = e ∙ ap (λ (b : Bool). headFor (rec .model) (length (x .cells)) (length (f .wear)) b (f .bytes) (f .tail) (f .wp) (length (f .out)) false) (sym (p .fits))
+  pub read-head : {h : Head} → Heard rec x f → h ≡ headFor (rec .model) (length (x .cells)) (length (f .wear)) true (f .bytes) (f .tail) (f .wp) (length (f .out)) false false → h ≡ unworn
+  read-head p e = e ∙ ap (λ (b : Bool). headFor (rec .model) (length (x .cells)) (length (f .wear)) b (f .bytes) (f .tail) (f .wp) (length (f .out)) false false) (sym (p .fits))
 
   pub refuse-given : {a : Answer} {r : Reply} → a ≡ givenOf rec (x .state) unread → isDone a ≡ false → r ≡ quiet a (x .state) → Gives (frameOf rec x f) r (x .page) (f .wear) (f .out)
   refuse-given e d q =

@@ -16,7 +16,7 @@ use Rattle.states.specs.States.{recordOk, stateOk}
 use Rattle.states.specs.declared.Record.{Record}
 use Rattle.states.specs.declared.State.{State}
 use Rattle.answers.specs.declared.Answer.{Answer}
-use Rattle.answers.specs.declared.Answer.the-variants.{Done, Protected, WornOut}
+use Rattle.answers.specs.declared.Answer.the-variants.{Done, Protected, WornOut, NotErased}
 use Rattle.ladder.specs.declared.Head.{Head}
 use Rattle.ladder.specs.Ladder.{Rung, firstOf, ladder, asks, guarded, refusalOf}
 use Rattle.ladder.specs.Stages.{givenOf}
@@ -60,6 +60,7 @@ pub record Passed (rec : Record) (s : State) (h : Head) : Type 0 where
   pub enabled : (asks rec h .latch && not (s .wel)) ≡ false
   pub unlocked : (asks rec h .lock && (s .srwd && not (h .wp))) ≡ false
   pub free : guarded rec s (asks rec h) h ≡ false
+  pub fresh : h .over ≡ false
   pub spare : h .worn ≡ false
 
 pub passed : (rec : Record) (s : State) (h : Head) → isDone (refusalOf rec s h) ≡ true
@@ -91,7 +92,8 @@ passed rec s h e =
       enabled = f .0;
       unlocked = f .1 .0;
       free = f .1 .1 .0;
-      spare = f .1 .1 .1 .0;
+      fresh = f .1 .1 .1 .0;
+      spare = f .1 .1 .1 .1 .0;
     }
 
 -- the first six rows have shown that the page data fit
@@ -157,7 +159,7 @@ stopped rec s h e =
     let c = t .0 in
     let v = c .1 .1 .1 in
     let ok = both (stateOk rec s) (h .page) (not-false _ (v .0)) in
-    let g : guarded rec s (asks rec h) h ≡ true = reached (guarded rec s (asks rec h) h) (h .worn) (t .1) in
+    let g : guarded rec s (asks rec h) h ≡ true = reached (guarded rec s (asks rec h) h) (h .over) (h .worn) (t .1) in
     record {
       right = not-false _ (c .0);
       valid = ok .0;
@@ -166,7 +168,8 @@ stopped rec s h e =
       settled = eqb-true (s .settle) 0 (not-false _ (v .1 .1 .1 .1 .0));
     }
   where
-    reached : (b w : Bool) → saysProtected (cond b Protected (cond w WornOut Done)) ≡ true → b ≡ true
-    reached true w f = refl
-    reached false true f = absurd (false≢true f)
-    reached false false f = absurd (false≢true f)
+    reached : (b o w : Bool) → saysProtected (cond b Protected (cond o NotErased (cond w WornOut Done))) ≡ true → b ≡ true
+    reached true o w f = refl
+    reached false true w f = absurd (false≢true f)
+    reached false false true f = absurd (false≢true f)
+    reached false false false f = absurd (false≢true f)

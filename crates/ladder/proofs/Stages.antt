@@ -11,7 +11,7 @@ use Rattle.states.specs.declared.State.{State}
 use Rattle.commands.specs.declared.Traits.{Traits}
 use Rattle.commands.proofs.Rows.{no-latch}
 use Rattle.answers.specs.declared.Answer.{Answer}
-use Rattle.answers.specs.declared.Answer.the-variants.{Done, WornOut}
+use Rattle.answers.specs.declared.Answer.the-variants.{Done, WornOut, NotErased}
 use Rattle.ladder.specs.declared.Head.{Head}
 use Rattle.ladder.specs.Ladder.{Rung, firstOf, ladder, asks, refusalOf}
 use Rattle.ladder.specs.Stages.{givenOf, saidOf, heardOf, allowedOf, lastRow}
@@ -61,8 +61,8 @@ module _ (rec : Record) (s : State) (h : Head) where
   pub goes-on : isDone (givenOf rec s h) ≡ true → isDone (saidOf rec s h) ≡ true → refusalOf rec s h ≡ lastRow rec s h
   goes-on e f = one-table rec s h ∙ rw (e, f)
 
-  -- the last row looks at nothing but the wear table
-  pub last-is : lastRow rec s h ≡ cond (h .worn) WornOut Done
+  -- the last rows look at nothing but what the cells and the wear table say
+  pub last-is : lastRow rec s h ≡ cond (h .over) NotErased (cond (h .worn) WornOut Done)
   unfolding lastRow
   last-is = refl
 

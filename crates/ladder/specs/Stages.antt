@@ -1,4 +1,4 @@
--- The table in stages, for the code: rows 1 to 5 with 24 among them; what the frame says: rows 10, 22 and 11 to 14, and 15 to 17; and what its wear table says: 25.
+-- The table in stages, for the code: rows 1 to 5 with 24 among them; what the frame says: rows 10, 22 and 11 to 14, and 15 to 17; and what the cells and the wear table say: 19 and 25.
 -- proofs/Stages.antt shows that they are the one table.
 -- Assumes nothing.
 use lib.ListN.{take, drop}

@@ -25,7 +25,7 @@ use Rattle.ladder.specs.Ladder.{refusalOf}
 use Rattle.counts.specs.Counts.{covered, wornOut, counted}
 use Rattle.effects.specs.Effects.{Effect, drives, latched, dozing, starting, refusalLeaves, writeEnable, writeStatus, eraseStarts, sleep, readStatus, readConfig, readFrom, programPage, wakingTime, wake}
 use Rattle.operations.specs.Operations.{configWritten, configAfter, written, forgotten, finished}
-use Rattle.chip.specs.Frames.{Sent, headFor, wornBy, acceptedOf, refusedOf, frameOf}
+use Rattle.chip.specs.Frames.{Sent, headFor, overBy, wornBy, acceptedOf, refusedOf, frameOf}
 use Rattle.time.specs.Time.{later, waited, cycled}
 use Rattle.sheet.specs.Sheet.{Case, seen, bench, AllRight, smallCases, sleepCases, largeCases, BenchSheet}
 
@@ -36,7 +36,7 @@ joined (x ∷ xs) ys p q = (p .0, joined xs ys (p .1) q)
 -- the array has the model's length, and the page data of an idle chip fit: the frame with both told, and not computed
 abbrev told : ℕ → Record → Chip → Sent → Effect
 told n rec x f =
-    let h : Head = headFor (rec .model) n (length (f .wear)) true (f .bytes) (f .tail) (f .wp) (length (f .out)) (wornBy (rec .model) (f .bytes) (f .wear)) in
+    let h : Head = headFor (rec .model) n (length (f .wear)) true (f .bytes) (f .tail) (f .wp) (length (f .out)) (overBy (rec .model) (x .cells) f) (wornBy (rec .model) (f .bytes) (f .wear)) in
     let a : Answer = refusalOf rec (x .state) h in
     cond (isDone a) (acceptedOf rec x (h .command) (h .address) (f .bytes) (f .wear) (f .out)) (refusedOf rec a x f)
 

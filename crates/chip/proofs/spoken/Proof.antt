@@ -16,7 +16,7 @@ count-requires c κs =
     let d = c .before .before .before .before in
     let s = h .before .before .before .before .before .before in
     let a = s .args in
-    countable (a .rec) (chipOf (a .st) (now (a .page)) (now (a .array))) (sentOf (now (a .bytes)) (a .tail) (a .wp) (now (a .wear)) (now (a .out))) (s .pre .given) (read-head (a .rec) (chipOf (a .st) (now (a .page)) (now (a .array))) (sentOf (now (a .bytes)) (a .tail) (a .wp) (now (a .wear)) (now (a .out))) (s .pre) (h .head .ensures)) (c .before .before .before .before .before .said .ensures) (sym (d .is-done .ensures) ∙ c .before .before .before .if1 .taken) (c .operation-of .ensures)
+    countable (a .rec) (chipOf (a .st) (now (a .page)) (now (a .array))) (sentOf (now (a .bytes)) (a .tail) (a .wp) (a .strict) (now (a .wear)) (now (a .out))) (s .pre .given) (read-head (a .rec) (chipOf (a .st) (now (a .page)) (now (a .array))) (sentOf (now (a .bytes)) (a .tail) (a .wp) (a .strict) (now (a .wear)) (now (a .out))) (s .pre) (h .head .ensures)) (c .before .before .before .before .before .said .ensures) (sym (d .is-done .ensures) ∙ c .before .before .before .if1 .taken) (c .operation-of .ensures)
 
 -- refused by its counts
 returns : tie.Need-returns
@@ -27,7 +27,7 @@ returns c =
     let a = s .args in
     let o = c .before .before .before .before .before in
     let k = c .before .before .before .before in
-    worn-out (a .rec) (chipOf (a .st) (now (a .page)) (now (a .array))) (sentOf (now (a .bytes)) (a .tail) (a .wp) (now (a .wear)) (now (a .out))) (s .pre .given) (read-head (a .rec) (chipOf (a .st) (now (a .page)) (now (a .array))) (sentOf (now (a .bytes)) (a .tail) (a .wp) (now (a .wear)) (now (a .out))) (s .pre) (h .head .ensures)) (c .before .before .before .before .before .before .before .before .before .before .said .ensures) (sym (d .is-done .ensures) ∙ c .before .before .before .before .before .before .before .before .if1 .taken) (o .operation-of .ensures) (k .count .ensures .0) (k .count .ensures .1) (not-true _ (c .before .if2 .taken)) (c .quiet .ensures)
+    worn-out (a .rec) (chipOf (a .st) (now (a .page)) (now (a .array))) (sentOf (now (a .bytes)) (a .tail) (a .wp) (a .strict) (now (a .wear)) (now (a .out))) (s .pre .given) (read-head (a .rec) (chipOf (a .st) (now (a .page)) (now (a .array))) (sentOf (now (a .bytes)) (a .tail) (a .wp) (a .strict) (now (a .wear)) (now (a .out))) (s .pre) (h .head .ensures)) (c .before .before .before .before .before .before .before .before .before .before .said .ensures) (sym (d .is-done .ensures) ∙ c .before .before .before .before .before .before .before .before .if1 .taken) (o .operation-of .ensures) (k .count .ensures .0) (k .count .ensures .1) (not-true _ (c .before .if2 .taken)) (c .quiet .ensures)
 
 accepted-requires : tie.Need-accepted-requires
 accepted-requires c κs =
@@ -35,7 +35,7 @@ accepted-requires c κs =
     let d = c .before .before .before .before .before .before .before .before .before .before in
     let s = h .before .before .before .before .before .before in
     let a = s .args in
-    ready (a .rec) (chipOf (a .st) (now (a .page)) (now (a .array))) (sentOf (now (a .bytes)) (a .tail) (a .wp) (now (a .wear)) (now (a .out))) (s .pre .given) (read-head (a .rec) (chipOf (a .st) (now (a .page)) (now (a .array))) (sentOf (now (a .bytes)) (a .tail) (a .wp) (now (a .wear)) (now (a .out))) (s .pre) (h .head .ensures)) (c .before .before .before .before .before .before .before .before .before .before .before .said .ensures) (sym (d .is-done .ensures) ∙ c .before .before .before .before .before .before .before .before .before .if1 .taken)
+    ready (a .rec) (chipOf (a .st) (now (a .page)) (now (a .array))) (sentOf (now (a .bytes)) (a .tail) (a .wp) (a .strict) (now (a .wear)) (now (a .out))) (s .pre .given) (read-head (a .rec) (chipOf (a .st) (now (a .page)) (now (a .array))) (sentOf (now (a .bytes)) (a .tail) (a .wp) (a .strict) (now (a .wear)) (now (a .out))) (s .pre) (h .head .ensures)) (c .before .before .before .before .before .before .before .before .before .before .before .said .ensures) (sym (d .is-done .ensures) ∙ c .before .before .before .before .before .before .before .before .before .if1 .taken)
 
 returns-2 : tie.Need-returns-2
 returns-2 c =
@@ -45,7 +45,7 @@ returns-2 c =
     let a = s .args in
     let o = c .before .before .before .before .before .before .before .before .before .before .before in
     let k = c .before .before .before .before .before .before .before .before .before .before in
-    accept (a .rec) (chipOf (a .st) (now (a .page)) (now (a .array))) (sentOf (now (a .bytes)) (a .tail) (a .wp) (now (a .wear)) (now (a .out))) (s .pre .given) (read-head (a .rec) (chipOf (a .st) (now (a .page)) (now (a .array))) (sentOf (now (a .bytes)) (a .tail) (a .wp) (now (a .wear)) (now (a .out))) (s .pre) (h .head .ensures)) (c .before .before .before .before .before .before .before .before .before .before .before .before .before .before .before .before .said .ensures) (sym (d .is-done .ensures) ∙ c .before .before .before .before .before .before .before .before .before .before .before .before .before .before .if1 .taken) (o .operation-of .ensures) (k .count .ensures .0) (k .count .ensures .1) (not-false _ (c .before .before .before .before .before .before .before .if2 .left)) (c .before .before .before .before .accepted .ensures)
+    accept (a .rec) (chipOf (a .st) (now (a .page)) (now (a .array))) (sentOf (now (a .bytes)) (a .tail) (a .wp) (a .strict) (now (a .wear)) (now (a .out))) (s .pre .given) (read-head (a .rec) (chipOf (a .st) (now (a .page)) (now (a .array))) (sentOf (now (a .bytes)) (a .tail) (a .wp) (a .strict) (now (a .wear)) (now (a .out))) (s .pre) (h .head .ensures)) (c .before .before .before .before .before .before .before .before .before .before .before .before .before .before .before .before .said .ensures) (sym (d .is-done .ensures) ∙ c .before .before .before .before .before .before .before .before .before .before .before .before .before .before .if1 .taken) (o .operation-of .ensures) (k .count .ensures .0) (k .count .ensures .1) (not-false _ (c .before .before .before .before .before .before .before .if2 .left)) (c .before .before .before .before .accepted .ensures)
 
 returns-3 : tie.Need-returns-3
 returns-3 c =
@@ -54,7 +54,7 @@ returns-3 c =
     let h = d .before .before in
     let s = h .before .before .before .before .before .before in
     let a = s .args in
-    refuse (a .rec) (chipOf (a .st) (now (a .page)) (now (a .array))) (sentOf (now (a .bytes)) (a .tail) (a .wp) (now (a .wear)) (now (a .out))) (s .pre .given) (read-head (a .rec) (chipOf (a .st) (now (a .page)) (now (a .array))) (sentOf (now (a .bytes)) (a .tail) (a .wp) (now (a .wear)) (now (a .out))) (s .pre) (h .head .ensures)) (d .before .said .ensures) (sym (d .is-done .ensures) ∙ t .if1 .left) (c .refuse .ensures)
+    refuse (a .rec) (chipOf (a .st) (now (a .page)) (now (a .array))) (sentOf (now (a .bytes)) (a .tail) (a .wp) (a .strict) (now (a .wear)) (now (a .out))) (s .pre .given) (read-head (a .rec) (chipOf (a .st) (now (a .page)) (now (a .array))) (sentOf (now (a .bytes)) (a .tail) (a .wp) (a .strict) (now (a .wear)) (now (a .out))) (s .pre) (h .head .ensures)) (d .before .said .ensures) (sym (d .is-done .ensures) ∙ t .if1 .left) (c .refuse .ensures)
 
 pub spoken-spec : {M : Type 1} → statement M
 spoken-spec =
