@@ -2,22 +2,24 @@
 use mathlib.Core.Path.{_≡_, refl, sym, ap, subst, _∙_}
 use mathlib.Core.Bool.{Bool, true, false, cond, not}
 use mathlib.Core.List.{List, []}
-use Prim.Native.Nat.{ℕ, _≤_, _<_}
+use Prim.Native.Nat.{ℕ, _+_, _≤_, _<_}
 use native.Mathlib.Nat.{mod-lt}
 use native.Mathlib.Omega.{arith}
 use lib.ListN.{length, getD}
 use Rattle.units.specs.declared.Address.{Address}
+use Rattle.units.specs.Kinds.{pageStart}
 use Rattle.models.specs.Models.{modelOf, addressOf}
-use Rattle.models.proofs.Rules.{row-rules, highest-bp}
+use Rattle.models.proofs.Rules.{row-rules, highest-bp, units-inside}
 use Rattle.answers.specs.Answers.{isDone, saysProtected}
 use Rattle.commands.specs.Commands.{traitsOf, lengthOk, fewest, mostWritten, operationOf}
-use Rattle.commands.proofs.Rows.{long-enough, write-length}
+use Rattle.commands.proofs.Rows.{long-enough, write-length, program-length}
 use Rattle.states.specs.declared.Record.{Record}
 use Rattle.commands.specs.declared.Command.{Command}
 use Rattle.commands.specs.declared.Command.the-variants.{Unknown, WriteEnable, WriteDisable, ReadStatus, ReadConfig, WriteStatus, Read, FastRead, EraseSector, EraseHalf, EraseBlock, EraseChip, Program, ReadId, Wake, ReadMaker, Sleep}
 use Rattle.answers.specs.declared.Answer.{Answer}
 use Rattle.answers.specs.declared.Answer.the-variants.{Done, WornOut, NotErased}
 use Rattle.commands.specs.declared.Operation.{Operation}
+use Rattle.commands.specs.declared.Operation.the-variants.{Programs}
 use Rattle.states.specs.declared.State.{State}
 use Rattle.counts.specs.Counts.{wornOut, counted, InTable}
 use Rattle.counts.proofs.Laws.{in-table}
@@ -29,7 +31,7 @@ use Rattle.ladder.proofs.Stages.{stops-given, stops-said, goes-on, last-is}
 use Rattle.ladder.specs.declared.Head.{Head}
 use Rattle.ladder.proofs.Passed.{Passed, passed, given-spares, given-page}
 use Rattle.effects.specs.declared.Reply.{Reply}
-use Rattle.effects.specs.Effects.{Effect, Gives, Room, quiet, stateOnly, refusalLeaves}
+use Rattle.effects.specs.Effects.{Effect, Gives, Room, quiet, stateOnly, refusalLeaves, goesOver}
 use Rattle.effects.proofs.Replies.{leaves-all}
 use Rattle.chip.specs.Frames.{Sent, Does, Ready, Heard, headFor, headOf, acceptedOf, takenOf, refusedOf, frameOf}
 use borrow.Author.Tests.{not-true, not-false}
@@ -94,7 +96,7 @@ module _ (rec : Record) (x : Chip) (f : Sent) where
         fits = record { long = long-enough _ _ _ (p .fits); short = p .short; room = p .roomy };
       }
 
-  -- the head that the code reads: it has not looked at the counts yet
+  -- the head that the code reads: it has looked at neither yet
   abbrev unworn : Head
   unworn = headWith false false
 
@@ -114,29 +116,46 @@ module _ (rec : Record) (x : Chip) (f : Sent) where
   said : {h : Head} {a : Answer} → h ≡ unworn → a ≡ saidOf rec (x .state) h → a ≡ saidOf rec (x .state) H
   said e g = g ∙ ap (saidOf rec (x .state)) e ∙ said-unworn
 
-  -- every row but the last has let it pass
-  all-but-last : {h : Head} {a : Answer} → isDone (givenOf rec (x .state) H) ≡ true → h ≡ unworn → a ≡ saidOf rec (x .state) h → isDone a ≡ true → Passed rec (x .state) unworn
-  all-but-last {h} {a} p e g d =
-      let q : isDone (saidOf rec (x .state) unworn) ≡ true = ap isDone (said-unworn ∙ sym (said e g)) ∙ d in
-      passed rec (x .state) unworn (ap isDone (goes-on rec (x .state) unworn (ap isDone given-unworn ∙ p) q ∙ spared-unworn))
+  -- what the code has found where the rows before 19 let the frame pass: the head that it read, what they said, and the operation
+  pub record Found (h : Head) (a : Answer) (op : Operation) : Type 0 where
+    pub first : isDone (givenOf rec (x .state) H) ≡ true
+    pub read : h ≡ unworn
+    pub answer : a ≡ saidOf rec (x .state) h
+    pub done : isDone a ≡ true
+    pub op-is : op ≡ operationOf (h .command)
 
-  pub ready : {h : Head} {a : Answer} → isDone (givenOf rec (x .state) H) ≡ true → h ≡ unworn → a ≡ saidOf rec (x .state) h
-      → isDone a ≡ true → Ready rec x (h .command) (h .address) (f .bytes) (f .out)
+  all-said : {h : Head} {a : Answer} {op : Operation} → Found h a op → isDone (saidOf rec (x .state) H) ≡ true
+  all-said k = sym (ap isDone (said (k .read) (k .answer))) ∙ k .done
+
+  -- every row but the last two has let it pass
+  all-but-last : {h : Head} {a : Answer} {op : Operation} → Found h a op → Passed rec (x .state) unworn
+  all-but-last k =
+      let q : isDone (saidOf rec (x .state) unworn) ≡ true = ap isDone said-unworn ∙ all-said k in
+      passed rec (x .state) unworn (ap isDone (goes-on rec (x .state) unworn (ap isDone given-unworn ∙ k .first) q ∙ spared-unworn))
+
+  pub ready : {h : Head} {a : Answer} {op : Operation} → Found h a op → Ready rec x (h .command) (h .address) (f .bytes) (f .out)
   unfolding headFor
-  ready {h} {a} p e g d = subst (λ (k : Head). Ready rec x (k .command) (k .address) (f .bytes) (f .out)) (sym e) (arrived false false (all-but-last p e g d))
+  ready k = subst (λ (h : Head). Ready rec x (h .command) (h .address) (f .bytes) (f .out)) (sym (k .read)) (arrived false false (all-but-last k))
+
+  -- a program has data bytes, and its page lies in the array
+  pub lookable : {h : Head} {a : Answer} {op : Operation} → Found h a op → (op ≡ Programs → 5 ≤ length (f .bytes)) × (pageStart (h .address) + 256 ≤ length (x .cells))
+  lookable {h} k =
+      let r = ready k in (
+        λ e. omega (arith, program-length (modelOf (rec .model) .register) (h .command) (sym (k .op-is) ∙ e), r .fits .long),
+        omega (arith, units-inside (rec .model) (h .address) (omega (arith, r .inside, r .whole)) .page, r .whole),
+      )
 
   -- the sectors that it covers lie in the table
-  pub countable : {h : Head} {a : Answer} {op : Operation} → isDone (givenOf rec (x .state) H) ≡ true → h ≡ unworn → a ≡ saidOf rec (x .state) h
-      → isDone a ≡ true → op ≡ operationOf (h .command) → InTable op (h .address .0) (f .wear)
+  pub countable : {h : Head} {a : Answer} {op : Operation} → Found h a op → InTable op (h .address .0) (f .wear)
   unfolding headFor
-  countable {h} {a} {op} p e g d o =
-      let k = all-but-last p e g d in
-      let r = arrived false false k in
-      subst (λ (q : Operation). InTable q (h .address .0) (f .wear)) (sym o)
-      (subst (λ (q : Head). InTable (operationOf (q .command)) (q .address .0) (f .wear)) (sym e)
-      (in-table (rec .model) (operationOf (unworn .command)) (unworn .address .0) (f .wear) (k .table) (omega (arith, r .inside, r .whole))))
+  countable {h} k =
+      let p = all-but-last k in
+      let r = arrived false false p in
+      subst (λ (q : Operation). InTable q (h .address .0) (f .wear)) (sym (k .op-is))
+      (subst (λ (q : Head). InTable (operationOf (q .command)) (q .address .0) (f .wear)) (sym (k .read))
+      (in-table (rec .model) (operationOf (unworn .command)) (unworn .address .0) (f .wear) (p .table) (omega (arith, r .inside, r .whole))))
 
-  -- the last row is left: the frame is what its command does, or refused by its counts
+  -- the last two rows are left: the frame is refused for the cells or for its counts, or it is what its command does
   taken-is : isDone (givenOf rec (x .state) H) ≡ true → isDone (saidOf rec (x .state) H) ≡ true
       → takenOf rec x (unworn .command) (unworn .address) (f .strict) (f .bytes) (f .wear) (f .out) ≡ frameOf rec x f
   unfolding frameOf headFor
@@ -152,31 +171,37 @@ module _ (rec : Record) (x : Chip) (f : Sent) where
       go false true e = rw e (refused-as WornOut refl)
       go false false e = rw e
 
-  -- counted and done
-  pub accept : {h : Head} {a : Answer} {op : Operation} {done : Bool} {ws : List ℕ} {r : Reply} {xs os : List ℕ} → isDone (givenOf rec (x .state) H) ≡ true → h ≡ unworn
-      → a ≡ saidOf rec (x .state) h → isDone a ≡ true → op ≡ operationOf (h .command)
-      → done ≡ not (wornOut op (h .address .0) (f .wear)) → ws ≡ cond done (counted op (h .address .0) (f .wear)) (f .wear) → done ≡ true
-      → Does (acceptedOf rec x (h .command) (h .address) (f .bytes) [] (f .out)) r xs os
-      → Gives (frameOf rec x f) r xs ws os
-  accept {h} {a} {op} {done} {ws} {r} {xs} {os} p e g d o n w y q =
-      let spare : wornOut (operationOf (h .command)) (h .address .0) (f .wear) ≡ false = ap (λ (k : Operation). wornOut k (h .address .0) (f .wear)) (sym o) ∙ not-true _ (sym n ∙ y) in
-      let table : acceptedOf rec x (h .command) (h .address) (f .bytes) (f .wear) (f .out) .wear ≡ ws = table-after rec x (h .address) (f .bytes) (f .wear) (f .out) (h .command) ∙ ap (λ (k : Operation). counted k (h .address .0) (f .wear)) (sym o) ∙ sym (w ∙ rw y) in
-      let taken : takenOf rec x (h .command) (h .address) (f .strict) (f .bytes) (f .wear) (f .out) ≡ acceptedOf rec x (h .command) (h .address) (f .bytes) (f .wear) (f .out) = rw spare in
-      subst (λ (k : Effect). Gives k r xs ws os)
-      (sym taken ∙ ap (λ (k : Head). takenOf rec x (k .command) (k .address) (f .strict) (f .bytes) (f .wear) (f .out)) e ∙ taken-is p (sym (ap isDone (said e g)) ∙ d))
-      (subst (λ (k : List ℕ). Gives (acceptedOf rec x (h .command) (h .address) (f .bytes) (f .wear) (f .out)) r xs k os) table (with-table rec x (h .address) (f .bytes) (f .wear) (f .out) (h .command) q))
+  -- the same of the operation that the code has found
+  abbrev takenAs : Head → Operation → Effect
+  takenAs h op =
+      cond (goesOver op (f .strict) (h .address) (x .cells) (f .bytes)) (stateOnly NotErased (x .state) (x .page) (f .wear) (f .out))
+      (cond (wornOut op (h .address .0) (f .wear)) (stateOnly WornOut (x .state) (x .page) (f .wear) (f .out)) (acceptedOf rec x (h .command) (h .address) (f .bytes) (f .wear) (f .out)))
 
-  -- refused by its counts
-  pub worn-out : {h : Head} {a : Answer} {op : Operation} {done : Bool} {ws : List ℕ} {r : Reply} → isDone (givenOf rec (x .state) H) ≡ true → h ≡ unworn
-      → a ≡ saidOf rec (x .state) h → isDone a ≡ true → op ≡ operationOf (h .command)
-      → done ≡ not (wornOut op (h .address .0) (f .wear)) → ws ≡ cond done (counted op (h .address .0) (f .wear)) (f .wear) → done ≡ false
-      → r ≡ quiet WornOut (x .state) → Gives (frameOf rec x f) r (x .page) ws (f .out)
-  worn-out {h} {a} {op} {done} {ws} {r} p e g d o n w y q =
-      let full : wornOut (operationOf (h .command)) (h .address .0) (f .wear) ≡ true = ap (λ (k : Operation). wornOut k (h .address .0) (f .wear)) (sym o) ∙ not-false _ (sym n ∙ y) in
-      let turned-away : takenOf rec x (h .command) (h .address) (f .strict) (f .bytes) (f .wear) (f .out) ≡ stateOnly WornOut (x .state) (x .page) (f .wear) (f .out) = rw full in
-      subst (λ (k : Effect). Gives k r (x .page) ws (f .out))
-      (sym turned-away ∙ ap (λ (k : Head). takenOf rec x (k .command) (k .address) (f .strict) (f .bytes) (f .wear) (f .out)) e ∙ taken-is p (sym (ap isDone (said e g)) ∙ d))
-      (record { reply = q; page-is = refl; wear-is = w ∙ rw y; out = refl })
+  frame-is : {h : Head} {a : Answer} {op : Operation} → Found h a op → takenAs h op ≡ frameOf rec x f
+  frame-is {h} k = ap (takenAs h) (k .op-is) ∙ ap (λ (q : Head). takenOf rec x (q .command) (q .address) (f .strict) (f .bytes) (f .wear) (f .out)) (k .read) ∙ taken-is (k .first) (all-said k)
+
+  module _ {h : Head} {a : Answer} {op : Operation} {over : Bool} (k : Found h a op) (o : over ≡ goesOver op (f .strict) (h .address) (x .cells) (f .bytes)) where
+    -- refused for the cells
+    pub not-erased : {r : Reply} → over ≡ true → r ≡ quiet NotErased (x .state) → Gives (frameOf rec x f) r (x .page) (f .wear) (f .out)
+    not-erased {r} t q =
+        let turned-away : takenAs h op ≡ stateOnly NotErased (x .state) (x .page) (f .wear) (f .out) = rw (sym o ∙ t) in
+        subst (λ (e : Effect). Gives e r (x .page) (f .wear) (f .out)) (sym turned-away ∙ frame-is k) (record { reply = q; page-is = refl; wear-is = refl; out = refl })
+
+    module _ {done : Bool} {ws : List ℕ} {r : Reply} (t : over ≡ false)
+        (n : done ≡ not (wornOut op (h .address .0) (f .wear))) (w : ws ≡ cond done (counted op (h .address .0) (f .wear)) (f .wear)) where
+      -- refused for its counts
+      pub worn-out : done ≡ false → r ≡ quiet WornOut (x .state) → Gives (frameOf rec x f) r (x .page) ws (f .out)
+      worn-out y q =
+          let turned-away : takenAs h op ≡ stateOnly WornOut (x .state) (x .page) (f .wear) (f .out) = rw (sym o ∙ t, not-false (wornOut op (h .address .0) (f .wear)) (sym n ∙ y)) in
+          subst (λ (e : Effect). Gives e r (x .page) ws (f .out)) (sym turned-away ∙ frame-is k) (record { reply = q; page-is = refl; wear-is = w ∙ rw y; out = refl })
+
+      -- counted and done
+      pub accept : {xs os : List ℕ} → done ≡ true → Does (acceptedOf rec x (h .command) (h .address) (f .bytes) [] (f .out)) r xs os → Gives (frameOf rec x f) r xs ws os
+      accept {xs} {os} y q =
+          let table : acceptedOf rec x (h .command) (h .address) (f .bytes) (f .wear) (f .out) .wear ≡ ws = table-after rec x (h .address) (f .bytes) (f .wear) (f .out) (h .command) ∙ ap (λ (p : Operation). counted p (h .address .0) (f .wear)) (sym (k .op-is)) ∙ sym (w ∙ rw y) in
+          let taken : takenAs h op ≡ acceptedOf rec x (h .command) (h .address) (f .bytes) (f .wear) (f .out) = rw (sym o ∙ t, not-true (wornOut op (h .address .0) (f .wear)) (sym n ∙ y)) in
+          subst (λ (e : Effect). Gives e r xs ws os) (sym taken ∙ frame-is k)
+          (subst (λ (us : List ℕ). Gives (acceptedOf rec x (h .command) (h .address) (f .bytes) (f .wear) (f .out)) r xs us os) table (with-table rec x (h .address) (f .bytes) (f .wear) (f .out) (h .command) q))
 
   -- what a frame comes to, by whether it is refused
   abbrev either-way : Bool → Effect

@@ -157,9 +157,7 @@ pub fn frame(
     };
     let first = ladder::given(rec, st, unread);
     if answers::is_done(first) {
-        spoken(
-            rec, st, page, array, wear, bytes, tail, wp, strict, out,
-        )
+        spoken(rec, st, page, array, wear, bytes, tail, wp, strict, out)
     } else {
         effects::quiet(first, st)
     }
