@@ -11,12 +11,13 @@ use Rattle.counts.specs.Counts.{wornOut, counted}
 use Rattle.counts.proofs.Laws.{none-worn, new-table}
 use Rattle.models.specs.Models.{modelOf, addressOf}
 use Rattle.states.specs.States.{recordOk, longestOf, noCommand, noAddress, blankPage, Chip, chipOf}
-use Rattle.commands.specs.declared.Operation.the-variants.{ErasesSector, ErasesHalf, ErasesBlock, ErasesChip}
+use Rattle.commands.specs.declared.Operation.the-variants.{Programs, ErasesSector, ErasesHalf, ErasesBlock, ErasesChip}
 use Rattle.states.specs.declared.Record.{Record}
 use Rattle.states.specs.declared.State.{State}
 use Rattle.answers.specs.declared.Answer.the-variants.{Done}
 use Rattle.states.proofs.States.{times, has-half, longest-in-range, by-longest}
 use Rattle.effects.specs.Effects.{Effect, stateOnly, turned, started, shown, drives, dozing, starting, wakingTime, wake, writeStatus, eraseStarts, programPage}
+use Rattle.effects.proofs.Strict.{off}
 use Rattle.time.specs.Time.{later, waited}
 use Rattle.chip.specs.Frames.{frameOf}
 use Rattle.calls.specs.Calls.{Call, sends, waits, ours, left, run, Bench, frame}
@@ -83,7 +84,7 @@ module _ (rec : Record) (cells : List ℕ) (j : Job) (e : recordOk rec ≡ true)
   unfolding programPage starting
   by-page m =
       by (0x02 ∷ 0 ∷ 0 ∷ 0 ∷ 0 ∷ []) (started new room (programPage rec (enabled 0) blankPage (addressOf (rec .model) 0 0 0) (0x02 ∷ 0 ∷ 0 ∷ 0 ∷ 0 ∷ []))) (rec .page)
-      (program-taken rec armed (arms .bench) refl refl false new room new-fits 0 0 0 (0 ∷ []) refl refl refl (lit≤ tt) (lit≤ tt) (lit≤ tt) refl) refl refl (times rec e .page) m
+      (program-taken rec armed (arms .bench) refl refl false new room new-fits 0 0 0 (0 ∷ []) refl refl refl (lit≤ tt) (lit≤ tt) (lit≤ tt) (off Programs _ _ _)) refl refl (times rec e .page) m
 
   by-sector : longestOf rec ≡ rec .sector → Reached
   unfolding eraseStarts starting
