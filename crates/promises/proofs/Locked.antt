@@ -73,12 +73,6 @@ outside-by u k h = go (ltb k (u .start)) refl (ltb k (u .start + u .size)) refl
     go false p false q = inr (ltb-false k (u .start + u .size) q)
 
 module _ (rec : Record) (start s : State) (p : Guarding rec start s) where
-  moved-guards : {t : State} → Move rec s t → Guarding rec start t
-  unfolding latched dozing tbOf
-  moved-guards stays = p
-  moved-guards (latches b z) = record { srwd = p .srwd; bp = p .bp; tb = p .tb; mood = p .mood }
-  moved-guards (dozes b t z l) = record { srwd = p .srwd; bp = p .bp; tb = p .tb; mood = p .mood }
-
   latched-guards : (b : Bool) → Guarding rec start (latched s b)
   unfolding latched tbOf
   latched-guards b = record { srwd = p .srwd; bp = p .bp; tb = p .tb; mood = p .mood }
@@ -86,6 +80,11 @@ module _ (rec : Record) (start s : State) (p : Guarding rec start s) where
   dozing-guards : (b : Bool) (time : ℕ) → Guarding rec start (dozing s b time)
   unfolding dozing tbOf
   dozing-guards b time = record { srwd = p .srwd; bp = p .bp; tb = p .tb; mood = p .mood }
+
+  moved-guards : {t : State} → Move rec s t → Guarding rec start t
+  moved-guards stays = p
+  moved-guards (latches b z) = latched-guards b
+  moved-guards (dozes b t z l) = dozing-guards b t
 
   starting-guards : (command place time : ℕ) → Elsewhere rec start (startedBy (rec .model) command) (record { 0 = place }) → Guarding rec start (starting s command place time)
   unfolding starting tbOf
@@ -156,9 +155,9 @@ cut-bits n s page pattern ErasesHalf w = refl
 cut-bits n s page pattern ErasesBlock w = refl
 cut-bits n s page pattern ErasesChip w = refl
 
-cycled-tb : (s : State) → tbOf (cycled s) ≡ tbOf s
+cycled-same : (s : State) → tbOf (cycled s) ≡ tbOf s
 unfolding tbOf cycled
-cycled-tb s = let e : s .config / 8 % 2 * 8 / 8 % 2 ≡ s .config / 8 % 2 = omega arith in rw e
+cycled-same s = let e : s .config / 8 % 2 * 8 / 8 % 2 ≡ s .config / 8 % 2 = omega arith in rw e
 
 module _ (rec : Record) (start s : State) (p : Guarding rec start s) where
   later-guards : (us : ℕ) → Guarding rec start (later s us)
@@ -171,7 +170,7 @@ module _ (rec : Record) (start s : State) (p : Guarding rec start s) where
 
   cycled-guards : Guarding rec start (cycled s)
   unfolding cycled
-  cycled-guards = record { srwd = p .srwd; bp = p .bp; tb = cycled-tb s ∙ p .tb; mood = inl refl }
+  cycled-guards = record { srwd = p .srwd; bp = p .bp; tb = cycled-same s ∙ p .tb; mood = inl refl }
 
 -- ---- the four calls
 module _ (rec : Record) (start : State) (x : Chip) (p : Guarding rec start (x .state)) where
