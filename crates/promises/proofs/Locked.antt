@@ -3,7 +3,7 @@ use mathlib.Core.Path.{_≡_, refl, sym, ap, _∙_}
 use mathlib.Core.Bool.{Bool, true, false, not, _&&_, _||_, cond, true≢false}
 use mathlib.Core.List.{List, [], _∷_}
 use mathlib.Core.Logic.{_⊎_, inl, inr, ⊎-elim}
-use Prim.Native.Nat.{ℕ, _+_, _-_, _*_, _/_, _%_, _≤_, _<_}
+use Prim.Native.Nat.{ℕ, _+_, _*_, _/_, _%_, _≤_, _<_}
 use native.Mathlib.Omega.{arith}
 use lib.Dec.{eqb, ltb}
 use lib.ListN.{length, getD}
@@ -22,11 +22,11 @@ use Rattle.commands.proofs.Rows.{none-started}
 use Rattle.states.specs.States.{tbOf, noAddress, Chip, chipOf}
 use Rattle.states.specs.declared.Record.{Record}
 use Rattle.states.specs.declared.State.{State}
-use Rattle.states.proofs.States.{sound, Resting}
-use Rattle.ladder.specs.Ladder.{asks, guarded}
+use Rattle.states.proofs.States.{sound}
+use Rattle.ladder.specs.Ladder.{asks}
 use Rattle.ladder.proofs.Passed.{passed}
-use Rattle.effects.specs.Effects.{Effect, latched, dozing, starting, drives, writeEnable, writeDisable, writeStatus, eraseStarts, sleep, readStatus, readConfig, readFrom, programPage, readId, wake, readMaker}
-use Rattle.operations.specs.Operations.{Extent, extent, unitOf, runs, runsAt, finishedBits, forgotten, finished, cutBits, tornChip}
+use Rattle.effects.specs.Effects.{Effect, latched, dozing, starting, drives, writeEnable, writeDisable, eraseStarts, sleep, readStatus, readConfig, readFrom, programPage, readId, wake, readMaker}
+use Rattle.operations.specs.Operations.{Extent, unitOf, runs, runsAt, finishedBits, forgotten, finished, cutBits, tornChip}
 use Rattle.time.specs.Time.{later, waited, cycled, cutOff, chipRefusal, powerRefusal, cutRefusal, waitOf, powerOf, powerCutOf}
 use Rattle.time.proofs.Time.{Fit, chip-fits, cuttable}
 use Rattle.chip.specs.Frames.{Sent, headFor, acceptedOf, frameOf}
