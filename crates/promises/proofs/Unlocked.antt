@@ -12,15 +12,15 @@ use Rattle.commands.specs.Commands.{decodeOf, traitsOf, lengthOk}
 use Rattle.states.specs.States.{inRange, halfOk, recordOk, longestSettle, configOk, idleOk, busyOk, stateOk, tbOf, usedPage, pageOk, benchKH25L512}
 use Rattle.ladder.specs.Ladder.{refusalOf}
 use Rattle.counts.specs.Counts.{covered, wornOut, counted}
-use Rattle.effects.specs.Effects.{latched, starting, writeEnable, writeStatus, eraseStarts}
+use Rattle.effects.specs.Effects.{latched, starting, refusalLeaves, writeEnable, writeStatus, eraseStarts}
 use Rattle.operations.specs.Operations.{configAfter, written, forgotten, finished}
 use Rattle.chip.specs.Frames.{headFor, acceptedOf, frameOf}
-use Rattle.time.specs.Time.{waited, chipRefusal, waitOf}
+use Rattle.time.specs.Time.{later, waited, chipRefusal, waitOf}
 use Rattle.calls.specs.Calls.{after}
 use Rattle.promises.specs.Unlocked.{guardedChip, writingChip, waitFor, statusCalls, LockSet, WriteRuns, WpHighOnce, SrwdClear, AreaErased, NeedsIdle, NeedsWpLow, NeedsSrwd}
 
 computed : LockSet × WriteRuns × WpHighOnce × SrwdClear × AreaErased
-unfolding isModel partOf addressOf rangeOf isProtected lay blockErased decodeOf traitsOf lengthOk inRange halfOk recordOk longestSettle configOk idleOk busyOk stateOk tbOf usedPage pageOk refusalOf covered wornOut counted latched starting writeEnable writeStatus eraseStarts configAfter written forgotten finished headFor acceptedOf frameOf waited chipRefusal waitOf after
+unfolding isModel partOf addressOf rangeOf isProtected lay blockErased decodeOf traitsOf lengthOk inRange halfOk recordOk longestSettle configOk idleOk busyOk stateOk tbOf usedPage pageOk refusalOf covered wornOut counted latched starting refusalLeaves writeEnable writeStatus eraseStarts configAfter written forgotten finished headFor acceptedOf frameOf later waited chipRefusal waitOf after
 computed = (refl, refl, refl, refl, (refl, refl))
 
 pub lock-set : LockSet
