@@ -34,6 +34,7 @@ waitFor us = onZeros (waits us)
 abbrev pub statusCalls : Bool → Bool → ℕ → List Lent
 statusCalls first second value = frameAt first (0x06 ∷ []) ∷ frameAt second (0x01 ∷ value ∷ []) ∷ waitFor 15000 ∷ []
 
+-- the chip after such calls, with the bench record of model 1
 abbrev pub benchAfter : List Lent → Chip → Chip
 benchAfter past x = history benchKH25L512 past x
 
@@ -50,10 +51,11 @@ WriteRuns = benchAfter (waitFor 1 ∷ []) writingChip .state .bp ≡ 0
 abbrev pub WpHighOnce : Type 0
 WpHighOnce = benchAfter (statusCalls false true 0x00) (guardedChip true) .state .bp ≡ 0
 
--- with WP# low, where SRWD is 0; and then an erase is taken that makes the first cell FF, which was protected and 0
+-- with WP# low, where SRWD is 0
 abbrev pub SrwdClear : Type 0
 SrwdClear = benchAfter (statusCalls false false 0x00) (guardedChip false) .state .bp ≡ 0
 
+-- and then an erase of block 0 is taken, also with WP# low: the first cell, which was protected and 0, is FF
 abbrev pub erasing : List Lent
 erasing = frameAt false (0x06 ∷ []) ∷ frameAt false (0xD8 ∷ 0x00 ∷ 0x00 ∷ 0x00 ∷ []) ∷ waitFor 2000000 ∷ []
 
