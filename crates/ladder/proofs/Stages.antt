@@ -1,6 +1,6 @@
 -- The stages, one after the other, are the one table. Assumes nothing.
-use mathlib.Core.Path.{_≡_, refl, ap, _∙_}
-use mathlib.Core.Bool.{Bool, true, false, not, _&&_, cond}
+use mathlib.Core.Path.{_≡_, refl, sym, ap, _∙_}
+use mathlib.Core.Bool.{Bool, true, false, not, _&&_, cond, true≢false}
 use mathlib.Core.List.{List, [], _∷_, _++_}
 use lib.ListN.{take, drop}
 use borrow.Author.Tests.{not-true}
@@ -60,6 +60,15 @@ module _ (rec : Record) (s : State) (h : Head) where
 
   pub goes-on : isDone (givenOf rec s h) ≡ true → isDone (saidOf rec s h) ≡ true → refusalOf rec s h ≡ lastRow rec s h
   goes-on e f = one-table rec s h ∙ rw (e, f)
+
+  -- and a frame that nothing refuses has passed both
+  pub both-pass : isDone (refusalOf rec s h) ≡ true → (isDone (givenOf rec s h) ≡ true) × (isDone (saidOf rec s h) ≡ true)
+  both-pass e = go (isDone (givenOf rec s h)) refl (isDone (saidOf rec s h)) refl
+    where
+      go : (a : Bool) → isDone (givenOf rec s h) ≡ a → (b : Bool) → isDone (saidOf rec s h) ≡ b → (a ≡ true) × (b ≡ true)
+      go true p true q = (refl, refl)
+      go true p false q = absurd (true≢false (sym e ∙ ap isDone (stops-said p q) ∙ q))
+      go false p b q = absurd (true≢false (sym e ∙ ap isDone (stops-given p) ∙ p))
 
   -- the last rows look at nothing but what the cells and the wear table say
   pub last-is : lastRow rec s h ≡ cond (h .over) NotErased (cond (h .worn) WornOut Done)
