@@ -19,7 +19,7 @@ use Rattle.answers.specs.declared.Answer.{Answer}
 use Rattle.answers.specs.declared.Answer.the-variants.{Done, Protected, WornOut, NotErased}
 use Rattle.ladder.specs.declared.Head.{Head}
 use Rattle.ladder.specs.Ladder.{Rung, firstOf, ladder, asks, guarded, refusalOf}
-use Rattle.ladder.specs.Stages.{givenOf, saidOf, lastRow}
+use Rattle.ladder.specs.Stages.{givenOf, saidOf, lastRows}
 use Rattle.ladder.proofs.Stages.{honest, one-table, last-is}
 
 -- no test of the table holds
@@ -187,7 +187,7 @@ erased-spares rec s h o e = eqb-false _ _ (ap saysNotErased (one-table rec s h) 
     last true = refl
     last false = refl
 
-    go : (a b : Bool) → saysNotErased (cond a (cond b (lastRow rec s h) (saidOf rec s h)) (givenOf rec s h)) ≡ false
+    go : (a b : Bool) → saysNotErased (cond a (cond b (lastRows rec s h) (saidOf rec s h)) (givenOf rec s h)) ≡ false
     go true true = rw (last-is rec s h, o) (last (h .worn))
     go true false = spared saysNotErased refl (take 9 (drop 6 (ladder rec s h (asks rec h)))) refl
     go false b = spared saysNotErased refl (take 6 (ladder rec s h (asks rec h))) refl

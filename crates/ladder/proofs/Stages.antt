@@ -14,7 +14,7 @@ use Rattle.answers.specs.declared.Answer.{Answer}
 use Rattle.answers.specs.declared.Answer.the-variants.{Done, WornOut, NotErased}
 use Rattle.ladder.specs.declared.Head.{Head}
 use Rattle.ladder.specs.Ladder.{Rung, firstOf, ladder, asks, refusalOf}
-use Rattle.ladder.specs.Stages.{givenOf, saidOf, heardOf, allowedOf, lastRow}
+use Rattle.ladder.specs.Stages.{givenOf, saidOf, heardOf, allowedOf, lastRows}
 
 -- no row of a table answers 0
 abbrev pub honest : List Rung → Bool
@@ -34,8 +34,8 @@ joined (r ∷ rs) ys h = go (r .bad) (joined rs ys (k .1))
     go false e = e
 
 pub one-table : (rec : Record) (s : State) (h : Head)
-    → refusalOf rec s h ≡ cond (isDone (givenOf rec s h)) (cond (isDone (saidOf rec s h)) (lastRow rec s h) (saidOf rec s h)) (givenOf rec s h)
-unfolding refusalOf givenOf saidOf lastRow
+    → refusalOf rec s h ≡ cond (isDone (givenOf rec s h)) (cond (isDone (saidOf rec s h)) (lastRows rec s h) (saidOf rec s h)) (givenOf rec s h)
+unfolding refusalOf givenOf saidOf lastRows
 one-table rec s h =
     let rows = ladder rec s h (asks rec h) in
     joined (take 6 rows) (drop 6 rows) refl
@@ -58,7 +58,7 @@ module _ (rec : Record) (s : State) (h : Head) where
   pub stops-said : isDone (givenOf rec s h) ≡ true → isDone (saidOf rec s h) ≡ false → refusalOf rec s h ≡ saidOf rec s h
   stops-said e f = one-table rec s h ∙ rw (e, f)
 
-  pub goes-on : isDone (givenOf rec s h) ≡ true → isDone (saidOf rec s h) ≡ true → refusalOf rec s h ≡ lastRow rec s h
+  pub goes-on : isDone (givenOf rec s h) ≡ true → isDone (saidOf rec s h) ≡ true → refusalOf rec s h ≡ lastRows rec s h
   goes-on e f = one-table rec s h ∙ rw (e, f)
 
   -- and a frame that nothing refuses has passed both
@@ -71,8 +71,8 @@ module _ (rec : Record) (s : State) (h : Head) where
       go false p b q = absurd (true≢false (sym e ∙ ap isDone (stops-given p) ∙ p))
 
   -- the last rows look at nothing but what the cells and the wear table say
-  pub last-is : lastRow rec s h ≡ cond (h .over) NotErased (cond (h .worn) WornOut Done)
-  unfolding lastRow
+  pub last-is : lastRows rec s h ≡ cond (h .over) NotErased (cond (h .worn) WornOut Done)
+  unfolding lastRows
   last-is = refl
 
   pub stops-heard : isDone (heardOf rec s h k) ≡ false → saidOf rec s h ≡ heardOf rec s h k

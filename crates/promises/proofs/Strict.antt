@@ -36,7 +36,7 @@ use Rattle.states.specs.declared.Record.{Record}
 use Rattle.states.specs.declared.State.{State}
 use Rattle.states.proofs.States.{blank-page, times}
 use Rattle.ladder.specs.Ladder.{refusalOf}
-use Rattle.ladder.specs.Stages.{givenOf, saidOf, lastRow}
+use Rattle.ladder.specs.Stages.{givenOf, saidOf, lastRows}
 use Rattle.ladder.specs.declared.Head.{Head}
 use Rattle.ladder.proofs.Stages.{stops-given, stops-said, goes-on, both-pass, last-is}
 use Rattle.ladder.proofs.Passed.{passed, erased-spares}
