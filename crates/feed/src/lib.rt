@@ -53,7 +53,18 @@ fn play_line(
     let chip = run.chip;
     let number = run.number;
     let filled = run.filled;
-    let done = stepper::log_line(number, line, rec, strict, chip, page, array, wear, log, filled);
+    let done = stepper::log_line(
+        number,
+        line,
+        rec,
+        strict,
+        chip,
+        page,
+        array,
+        wear,
+        log,
+        filled,
+    );
     line_done(done, number, to)
 }
 

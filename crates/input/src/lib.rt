@@ -176,7 +176,19 @@ fn read_block(
         let well = finish(run, rec, strict, held, page, array, wear, log, written);
         return ended(run, well);
     }
-    feed_block(run, rec, strict, held, block, n, page, array, wear, log, written)
+    feed_block(
+        run,
+        rec,
+        strict,
+        held,
+        block,
+        n,
+        page,
+        array,
+        wear,
+        log,
+        written,
+    )
 }
 
 // Block after block, from power-on.
