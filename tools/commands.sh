@@ -166,7 +166,7 @@ strict_wear() {
 # Any other value is said, and nothing is run.
 strict_unknown() {
     local value target
-    for value in 0 2 11 yes strict ' ' '1 1'; do
+    for value in 0 2 11 yes strict '1 1'; do
         for target in run wear explain compare; do
             ends 2 "make $target: STRICT is 1, or is left out; it is not $value" make $target SCRIPT=scripts/old-data.txt LOG=scripts/old-data.log STRICT="$value" || return 1
             [ ! -s "$work/out" ] || { echo "make $target runs with STRICT=$value"; return 1; }
