@@ -11,8 +11,8 @@ with its first sector, and the mean. A mark of a bar is one erase; where a secto
 the longest bar has 50 marks and the others are to scale.
 The script comes on standard input, the sheet goes to standard output. A script is what the runner
 takes: runner --help says its lines, docs/GUIDE.md has the rest.
-With the word strict a page program over old data is refused, as the runner does: it starts nothing,
-so that the chip is not busy when the next line comes.
+With the word strict it plays the script as the runner with that word: a page program over old data
+is refused.
 ",
     ) {
         return;
