@@ -174,15 +174,15 @@ fn long_frame(says: &[u8; 16]) -> [u8; 65600] {
 }
 
 fn send_long(
-    rec: Record,
-    strict: bool,
-    st: State,
+    setup: Setup,
     says: &[u8; 16],
     page: &mut [u8],
     array: &[u8],
     wear: &mut [u32],
     out: &mut [u8],
 ) -> Played {
+    let last = setup.last;
+    let st = last.state;
     let count = number(says[0], says[1], says[2]) as usize;
     let room = number(says[3], says[4], says[5]) as usize;
     if 65600 < count {
@@ -193,8 +193,8 @@ fn send_long(
     }
     let frame = long_frame(says);
     send(
-        rec,
-        strict,
+        record_of(setup.model),
+        setup.strict,
         st,
         page,
         array,
@@ -203,6 +203,21 @@ fn send_long(
         says[6],
         &mut out[0..room],
     )
+}
+
+// A line of a script.
+fn play_line(
+    setup: Setup,
+    line: &[u8],
+    page: &mut [u8],
+    array: &mut [u8],
+    wear: &mut [u32],
+    out: &mut [u8],
+) -> Played {
+    let rec = record_of(setup.model);
+    let last = setup.last;
+    let st = last.state;
+    play::play(line, rec, setup.strict, st, page, array, wear, out)
 }
 
 // The bytes that a line has in hex after its letter and tab, over others.
@@ -249,10 +264,6 @@ pub fn step(
     wear: &mut [u32],
     out: &mut [u8; 65600],
 ) -> Setup {
-    let rec = record_of(setup.model);
-    let strict = setup.strict;
-    let last = setup.last;
-    let st = last.state;
     let says = read(line);
     match letter(line) {
         b'S' => {
@@ -273,15 +284,7 @@ pub fn step(
         }
         b'O' => with_strict(setup, says[0] != 0),
         b'L' => with_look(setup, number(says[0], says[1], says[2])),
-        b'X' => with_last(
-            setup,
-            send_long(rec, strict, st, &says, page, array, wear, out),
-        ),
-        _ => with_last(
-            setup,
-            play::play(line, rec, strict, st, page, array, wear, out),
-        ),
+        b'X' => with_last(setup, send_long(setup, &says, page, array, wear, out)),
+        _ => with_last(setup, play_line(setup, line, page, array, wear, out)),
     }
 }
-
-// ---- lines
