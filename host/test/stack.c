@@ -15,7 +15,7 @@
 static const char *const names[KINDS] = {"gwo_frame", "gwo_wait", "gwo_power_cycle", "gwo_cut", "gwo_wear_report"};
 
 /* What the archive was measured to take, in bytes; it may take SPARE more. */
-static const size_t measured[KINDS] = {272, 160, 67, 94, 40};
+static const size_t measured[KINDS] = {304, 160, 67, 94, 40};
 enum { SPARE = 16 };
 
 static size_t limits[KINDS], most[KINDS];

@@ -26,7 +26,7 @@ use Rattle.counts.proofs.Laws.{in-table}
 use Rattle.states.specs.States.{pageOk, Chip}
 use Rattle.states.proofs.States.{sound, page-length}
 use Rattle.ladder.specs.Ladder.{refusalOf}
-use Rattle.ladder.specs.Stages.{givenOf, saidOf, lastRow}
+use Rattle.ladder.specs.Stages.{givenOf, saidOf, lastRows}
 use Rattle.ladder.proofs.Stages.{stops-given, stops-said, goes-on, last-is}
 use Rattle.ladder.specs.declared.Head.{Head}
 use Rattle.ladder.proofs.Passed.{Passed, passed, given-spares, given-page}
@@ -108,7 +108,7 @@ module _ (rec : Record) (x : Chip) (f : Sent) where
   unfolding saidOf headFor
   said-unworn = refl
 
-  spared-unworn : lastRow rec (x .state) unworn ≡ Done
+  spared-unworn : lastRows rec (x .state) unworn ≡ Done
   unfolding headFor
   spared-unworn = last-is rec (x .state) unworn
 

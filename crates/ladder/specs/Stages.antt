@@ -22,5 +22,5 @@ heardOf rec s h k = firstOf (take 6 (drop 6 (ladder rec s h k)))
 unfoldable pub allowedOf : Record → State → Head → Traits → Answer
 allowedOf rec s h k = firstOf (take 3 (drop 12 (ladder rec s h k)))
 
-unfoldable pub lastRow : Record → State → Head → Answer
-lastRow rec s h = firstOf (drop 15 (ladder rec s h (asks rec h)))
+unfoldable pub lastRows : Record → State → Head → Answer
+lastRows rec s h = firstOf (drop 15 (ladder rec s h (asks rec h)))
