@@ -8,6 +8,7 @@ help:
 	@echo 'make compare SCRIPT=FILE LOG=FILE  run a script and compare its log with a stored one'
 	@echo 'make explain SCRIPT=FILE           run a script and show each line beside its answer in words'
 	@echo 'make wear SCRIPT=FILE              run a script and write the wear sheet: how often it erased each sector'
+	@echo '     .. STRICT=1                   with the four above: a page program over old data is refused (19)'
 	@echo 'make example                       run the two programs of host/example: firmware with its mistake and mended, and a board pulled in mid-erase'
 	@echo 'make bench, make benchmark         count instructions against the independent C model'
 

@@ -37,7 +37,7 @@ class Chip:
         self.cells = bytearray(b"\xff" * (BLOCK * blocks))
         self.srwd, self.bp, self.wel, self.asleep, self.busy, self.settle = 0, 0, 0, 0, 0, 0
         self.forget()
-        self.folded = False
+        self.strict = self.folded = False
 
     def forget(self):
         """No operation runs, and no page data are kept."""
@@ -158,9 +158,18 @@ class Chip:
             return 17
         if command in PLACED and self.addressed(sent) // BLOCK in PROTECTED[self.model][self.bp]:
             return 17
+        if command == 0x02 and self.strict and self.misses(sent):
+            return 19
         if command in ERASES and any(self.wear[sector] == TOP for sector in self.covered(sent)):
             return 25
         return 0
+
+    def misses(self, sent):
+        """Whether some cell that the program reaches would not end up holding the last byte sent to it."""
+        a, counts = self.addressed(sent), {}
+        for i, byte in enumerate(sent[4:]):
+            counts[a // PAGE * PAGE + (a + i) % PAGE] = byte
+        return any(self.cells[place] & byte != byte for place, byte in counts.items())
 
     def addressed(self, sent):
         return int.from_bytes(sent[1:4], "big") % len(self.cells)
@@ -220,6 +229,7 @@ class Cases:
 
     def __init__(self):
         self.lines, self.rows, self.seen = [], [], {}
+        self.answer = None  # of the last row
 
     def say(self, letter, hexed):
         assert len(hexed) % 2 == 0 and len(hexed) <= 32
@@ -259,21 +269,26 @@ class Cases:
         self.chip.wear[sector] = count
         self.say("T", "%06x%08x" % (sector, count))
 
+    def strict(self, on):
+        self.chip.strict = on
+        self.say("O", "%02x" % on)
+
     def look(self, at):
         self.at = at
         self.say("L", "%06x" % at)
 
     def before(self):
-        """The note of a row: the model and the state before."""
+        """The note of a row: the model, the state before, and the strict setting where it is on."""
         c = self.chip
-        return "%d, %02X%s%s" % (self.model, c.status(), ", asleep" if c.asleep else "", ", settling" if c.settle else "")
+        more = (", asleep" if c.asleep else "") + (", settling" if c.settle else "") + (", strict" if c.strict else "")
+        return "%d, %02X%s" % (self.model, c.status(), more)
 
     def row(self, line, note, answer, first, driven):
         c = self.chip
         shown = driven if len(driven) <= 300 else driven[-16:]
         fields = ("%d\t%d\t%s" % (first, len(driven), shown.hex().upper())) if driven else "-\t-\t-"
         fields += "\tfold" if c.folded else "\t-"
-        c.folded = False
+        c.folded, self.answer = False, answer
         n = len(c.cells)
         eight = bytes(c.cells[(self.at + i) % n] for i in range(8)) if n else b""
         sector = self.at % n // SECTOR if n else len(c.wear)
@@ -603,6 +618,74 @@ def counts(b):
     b.frame(b"\x20\x00\x10\x00", tail=1)
 
 
+# Programs over the cells of over_old_data: the address, the data and what they are answered under the strict setting. All other cells are FF.
+OLD = bytes((0xF0, 0x0F, 0xFF, 0x3C, 0x91, 0x95, 0xB1, 0xF1))
+OVER = (
+    (0x100, b"\xF0", 0),  # the cell holds it
+    (0x100, b"\x30", 0),  # bits only fall
+    (0x100, b"\x00", 0),
+    (0x100, b"\xF1", 19),  # one bit would have to rise
+    (0x100, b"\xFF", 19),
+    (0x102, b"\x5A", 0),  # an erased cell between two that are not reached
+    (0x108, b"\xFF\xA5", 0),
+    (0x101, b"\x0F\x5A\x3C", 0),
+    (0x101, b"\x0F\x5A\x3D", 19),  # the last cell alone
+    (0x101, b"\x1F\x5A\x3C", 19),  # the first alone
+    (0x1FF, b"\x55\xF0", 0),  # on at the page's start
+    (0x1FF, b"\x55\xF1", 19),  # and not in the next page, which is erased
+    (0x0FF, b"\x55\xF1", 0),  # at the start of the page before, which is erased
+    (0x040100, b"\xF1", 19),  # modulo the array
+)
+# The same with four bytes and then one over and over: how many bytes, and the answer. 257 come to the first cell again, and the last counts.
+OVER_LONG = (
+    (b"\xF0\x0F\xFF\x3C", 0x01, 256, 0),
+    (b"\xF0\x0F\xFF\x3C", 0x01, 257, 19),
+    (b"\x0F\x0F\xFF\x3C", 0x10, 256, 19),
+    (b"\x0F\x0F\xFF\x3C", 0x10, 257, 0),
+)
+
+
+def over_old_data(b):
+    """Programs of cells that hold data, with the strict setting on and off."""
+    b.cells(0x100, OLD)
+    b.look(0x100)
+    for on in (1, 0):
+        b.strict(on)
+        for at, data, answer in OVER:
+            b.state(wel=1)
+            b.frame(b"\x02" + at.to_bytes(3, "big") + data)
+            assert b.answer == answer * on, (at, data)
+        for data, fill, count, answer in OVER_LONG:
+            b.state(wel=1)
+            b.long(b"\x02\x00\x01\x00" + data, fill, 4 + count)
+            assert b.answer == answer * on, (data, fill, count)
+        for extra in (dict(wel=0), dict(bp=3), dict(asleep=1), dict(settle=1)):
+            b.state(**dict(dict(wel=1), **extra))
+            b.frame(b"\x02\x00\x01\x00\xF1")
+
+
+def strict_chip(b):
+    """What 19 leaves, what an accepted program does under the strict setting, and the refused one again after the erase."""
+    b.cells(0x100, OLD)
+    b.look(0x100)
+    b.strict(1)
+    for data in (b"\xF1", b"\xF0\x0E\xA5"):
+        b.state(wel=1)
+        b.frame(b"\x02\x00\x01\x00" + data)
+        b.frame(b"\x05\0")
+        b.complete()
+    for count in (TOP, 0):  # an erase looks at no cell, and a program at no count
+        b.count(0, count)
+        b.state(wel=1)
+        b.frame(b"\x02\x00\x01\x00\x50")
+        b.state(wel=1)
+        b.frame(b"\x20\x00\x01\x00")
+    b.complete()
+    b.frame(b"\x06")
+    b.frame(b"\x02\x00\x01\x00\xF1")
+    b.complete()
+
+
 def history(b, rng, steps):
     """A long run from power-on, with frames near each other, so that they meet."""
     for _ in range(steps):
@@ -649,6 +732,10 @@ def main():
         tables(b, model)
         b.fresh(model)
         counts(b)
+        b.fresh(model)
+        over_old_data(b)
+        b.fresh(model)
+        strict_chip(b)
         b.fresh(model)
         history(b, random.Random(model), 500)
     wrong_setups(b)

@@ -1,6 +1,6 @@
 #!/usr/bin/env bash
-# Every script of this folder goes through the runner, and its log has to be the one stored beside it; one with a sheet goes through the
-# program wear too. Then what no stored log or sheet can show: empty input, lines that are typed, a line of 100 MB, an output that fails, an
+# Every script of this folder goes through the runner, and its log has to be the one stored beside it; one with a strict log goes through it
+# under the strict setting too, and one with a sheet through the program wear. Then what no stored log or sheet can show: empty input, lines that are typed, a line of 100 MB, an output that fails, an
 # input that fails; and the words that wear is started with.
 #   scripts/test.sh
 # GWO_RUNNER is the runner (target/bin/runner), GWO_WEAR the other program (target/bin/wear): a program, or a command that starts it, as seen
@@ -33,10 +33,18 @@ check() {
     fi
 }
 
-# same_log SCRIPT LOG
+# same_log SCRIPT LOG WORD..: the runner is started with those words.
 same_log() {
-    timeout "$patience" $runner <"$1" >"$work/log" || { echo "the runner ended with status $?"; return 1; }
-    diff -a "$2" "$work/log"
+    local script=$1 log=$2
+    shift 2
+    timeout "$patience" $runner "$@" <"$script" >"$work/log" || { echo "the runner ended with status $?"; return 1; }
+    diff -a "$log" "$work/log"
+}
+
+# strict_log NAME: the log under the strict setting is the one stored, and another than the one without it.
+strict_log() {
+    same_log "scripts/$1.txt" "scripts/$1.strict" strict || return 1
+    ! cmp -s "scripts/$1.strict" "scripts/$1.log" || { echo "the setting shows nothing in $1"; return 1; }
 }
 
 empty_input() {
@@ -165,22 +173,30 @@ sheet_failing_input() {
 # --help alone shows the use on standard output, and no sheet.
 sheet_help() {
     timeout "$patience" $wear --help <scripts/wear.txt >"$work/sheet" 2>"$work/error" &&
-        head -n 1 "$work/sheet" | grep -qx 'usage: wear <SCRIPT >SHEET' && ! grep -q '^total' "$work/sheet" && diff -a /dev/null "$work/error"
+        head -n 1 "$work/sheet" | grep -qx 'usage: wear \[strict\] <SCRIPT >SHEET' && ! grep -q '^total' "$work/sheet" && diff -a /dev/null "$work/error"
 }
 
 # sheet_refused WORD..: it shows its use on standard error and runs nothing.
 sheet_refused() {
     timeout "$patience" $wear "$@" <scripts/wear.txt >"$work/sheet" 2>"$work/error" &&
-        diff -a /dev/null "$work/sheet" && grep -qx 'wear: it knows no word but --help' "$work/error" && grep -q '^usage: wear' "$work/error" ||
+        diff -a /dev/null "$work/sheet" && grep -qx 'wear: it knows no words but --help and strict, and takes one of them' "$work/error" && grep -q '^usage: wear' "$work/error" ||
         { echo "started with ${1:0:40} it does not show its use"; return 1; }
 }
 
 sheet_words() {
     local word
-    for word in x -h --hel --helpp --HELP '' "$(printf '%05000d' 0)"; do
+    for word in x -h --hel --helpp --HELP stric strictt Strict --strict '' "$(printf '%05000d' 0)"; do
         sheet_refused "$word" || return 1
     done
-    sheet_help && sheet_refused --help x && sheet_refused x --help
+    sheet_help && sheet_refused --help x && sheet_refused x --help && sheet_refused strict strict && sheet_refused strict --help
+}
+
+# Strict, a program over old data is refused, and the erase that comes at once is done and counted.
+sheet_strict() {
+    printf 'F\t1\t0\t%s\nW\t5000\n' 06 0200000000 06 >"$work/over"
+    printf 'F\t1\t0\t%s\n' 0200000001 20000000 >>"$work/over"
+    timeout "$patience" $wear strict <"$work/over" | grep -qx 'total 1' || { echo 'strict, the erase is not counted'; return 1; }
+    timeout "$patience" $wear <"$work/over" | grep -qx 'total 0' || { echo 'an erase of a busy chip is counted'; return 1; }
 }
 
 no_script() {
@@ -193,6 +209,9 @@ for script in scripts/*.txt; do
 done
 for log in scripts/*.log; do
     [ -f "${log%.log}.txt" ] || check "$(basename "$log" .log)" no_script "$log"
+done
+for log in scripts/*.strict; do
+    check "$(basename "$log" .strict), strict" strict_log "$(basename "$log" .strict)"
 done
 for sheet in scripts/*.sheet; do
     check "sheet of $(basename "$sheet" .sheet)" same_sheet "${sheet%.sheet}.txt" "$sheet"
@@ -208,5 +227,6 @@ check 'sheet of no line, and of a last line without its newline' unworn
 check 'sheet, full output' sheet_full_output
 check 'sheet, failing input' sheet_failing_input
 check 'sheet, words' sheet_words
+check 'sheet, strict' sheet_strict
 echo "$passed passed, $failed failed"
 [ "$failed" -eq 0 ]

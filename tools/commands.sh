@@ -4,7 +4,7 @@
 # target/bin/runner, target/bin/wear and the archive are built; a stand-in for rt says what rt would, so that nothing is proved here.
 set -u
 cd "$(dirname "$0")/.." || exit
-unset MAKEFLAGS MFLAGS MAKELEVEL SCRIPT LOG
+unset MAKEFLAGS MFLAGS MAKELEVEL SCRIPT LOG STRICT
 # On Arm the runner's emulator stands beside the real rt, which the stand-in hides.
 real=$(command -v rt) && export RATTLE_HOME="${RATTLE_HOME:-$(dirname "$(dirname "$(readlink -f "$real")")")}"
 passed=0
@@ -136,6 +136,44 @@ explains() {
     gives host/explain/samples/windows.want make explain SCRIPT=host/explain/samples/windows.txt
 }
 
+# STRICT=1 turns the setting on; empty it is off.
+strict_run() {
+    gives scripts/old-data.strict make run SCRIPT=scripts/old-data.txt STRICT=1 &&
+        gives scripts/old-data.log make run SCRIPT=scripts/old-data.txt STRICT=
+}
+
+strict_compare() {
+    ends 0 '' make compare SCRIPT=scripts/old-data.txt LOG=scripts/old-data.strict STRICT=1 &&
+        ends 1 '' tools/compare.sh scripts/old-data.txt scripts/old-data.strict &&
+        ends 1 '' env STRICT=1 tools/compare.sh scripts/old-data.txt scripts/old-data.log
+}
+
+# The last line counts two refusals, and each is said in words.
+strict_explain() {
+    ends 0 '' make explain SCRIPT=scripts/old-data.txt STRICT=1 || return 1
+    [ "$(grep -c ' 19  strict: a cell would not hold the byte sent to it$' "$work/out")" -eq 2 ] &&
+        tail -n 1 "$work/out" | grep -qx '38 lines: 36 done, 2 refused, 0 not well formed'
+}
+
+# A program that is refused keeps no erase waiting.
+strict_wear() {
+    printf 'F\t1\t0\t%s\nW\t5000\n' 06 0200000000 06 >"$work/wear"
+    printf 'F\t1\t0\t%s\n' 0200000001 20000000 >>"$work/wear"
+    ends 0 '' make wear SCRIPT="$work/wear" STRICT=1 && grep -qx 'total 1' "$work/out" &&
+        ends 0 '' make wear SCRIPT="$work/wear" && grep -qx 'total 0' "$work/out"
+}
+
+# Any other value is said, and nothing is run.
+strict_unknown() {
+    local value target
+    for value in 0 2 11 yes strict '1 1'; do
+        for target in run wear explain compare; do
+            ends 2 "make $target: STRICT is 1, or is left out; it is not $value" make $target SCRIPT=scripts/old-data.txt LOG=scripts/old-data.log STRICT="$value" || return 1
+            [ ! -s "$work/out" ] || { echo "make $target runs with STRICT=$value"; return 1; }
+        done
+    done
+}
+
 stand_in 0
 check 'make alone lists the commands' helps
 check 'run: no file is named' ends 2 'make run: which file? SCRIPT=FILE is missing' make run
@@ -153,6 +191,11 @@ check 'explain' explains
 check 'wear: no file is named' ends 2 'make wear: which file? SCRIPT=FILE is missing' make wear
 check 'wear: a folder' ends 2 'make wear: scripts is a folder, not a file' make wear SCRIPT=scripts
 check 'wear' sheet
+check 'run: strict' strict_run
+check 'compare: strict' strict_compare
+check 'explain: strict' strict_explain
+check 'wear: strict' strict_wear
+check 'an unknown STRICT' strict_unknown
 check 'example' gives host/example/output.txt make example
 check 'run: what is proved is said' progress
 check 'run: it is said at once' at_once

@@ -1,6 +1,7 @@
 #!/usr/bin/env bash
 # Runs a script and compares its log with a stored one; the first differences go to standard output.
 #   tools/compare.sh SCRIPT LOG
+# With STRICT=1 in the environment it runs under the strict setting.
 # The status is 0 where the two are the same, 1 where they differ, 2 where they could not be compared.
 set -u
 script=${1:-}

@@ -7,7 +7,7 @@
 #   tools/host.sh cc ARG..             compile and link C for x86-64
 #   tools/host.sh cxx ARG..            the same for C++
 #   tools/host.sh run PROGRAM ARG..    run an x86-64 program that `cc` or `cxx` linked
-#   tools/host.sh program PROGRAM      run an x86-64 program that `rt` linked
+#   tools/host.sh program PROGRAM ..   run an x86-64 program that `rt` linked
 #   tools/host.sh python ARG..         run Python
 #   tools/host.sh count-flags          what the benchmark is compiled with, so that its rows can be counted
 #   tools/host.sh count DIR PROGRAM    run it, and print a line `ROW INSTRUCTIONS` for each stretch it

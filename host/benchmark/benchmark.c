@@ -30,8 +30,11 @@ enum { OURS, MODEL, MEMORY, EMPTY, EMPTY_MEMORY };
 enum kind { FRAME, WAIT, POWER_CYCLE, CUT, REPORT };
 enum memory { NONE, COPY, SET };
 
-/* SHORT rows have a limit of 300 instructions; FOLDED and AS_MODEL_2 are held against the row before. */
-enum { SHORT = 1, FOLDED = 2, AS_MODEL_2 = 4 };
+/*
+ * SHORT rows have a limit of 300 instructions; FOLDED and AS_MODEL_2 are held against the row before. STRICT rows have
+ * that setting, and where they are taken an erased page.
+ */
+enum { SHORT = 1, FOLDED = 2, AS_MODEL_2 = 4, STRICT = 8 };
 
 struct row {
     const char *name;
@@ -69,6 +72,10 @@ static const struct row rows[] = {
     {"program, 1 byte", 1, 2, 0, 0, FRAME, {0x02, 0, 0x12, 0x34}, 4 + 1, 0, 1, 0, NONE, 0, "-", SHORT},
     {"program, 256 bytes", 1, 2, 0, 0, FRAME, {0x02, 0, 0x12, 0x34}, 4 + 256, 0, 1, 0, COPY, 256, "-", 0},
     {"program, 65,537 bytes", 1, 2, 0, 0, FRAME, {0x02, 0, 0x12, 0x34}, 4 + 65537, 0, 1, 0, COPY, 256, "-", FOLDED},
+    {"program, 1 byte, strict", 1, 2, 0, 0, FRAME, {0x02, 0, 0x12, 0x34}, 4 + 1, 0, 1, 0, NONE, 0, "-", SHORT | STRICT},
+    {"program, 256 bytes, strict", 1, 2, 0, 0, FRAME, {0x02, 0, 0x12, 0x34}, 4 + 256, 0, 1, 0, COPY, 256, "-", STRICT},
+    {"program, 65,537 bytes, strict", 1, 2, 0, 0, FRAME, {0x02, 0, 0x12, 0x34}, 4 + 65537, 0, 1, 0, COPY, 256, "-",
+     FOLDED | STRICT},
     {"wait, idle", 1, 0, 0, 0, WAIT, {0}, 0, 0, 0, 0, NONE, 0, "-", SHORT},
     {"wait, busy", 1, 3, 0, 5000, WAIT, {0x20, 0, 0x12, 0x34}, 0, 0, 0, 0, NONE, 0, "-", SHORT},
     {"wait, end of a status write", 1, 3, 0, 4999, WAIT, {0x01, 0, 0, 1, 0x0C}, 0, 0, 0, 0, NONE, 0, "-", SHORT},
@@ -100,6 +107,8 @@ static const struct row rows[] = {
     {"refused 15, WEL 0", 1, 0, 0, 0, FRAME, {0x02}, 4 + 256, 0, 1, 15, NONE, 0, "-", SHORT},
     {"refused 16, SRWD", 1, 0x82, 0, 0, FRAME, {0x01, 0}, 2, 0, 0, 16, NONE, 0, "-", SHORT},
     {"refused 17, protected", 1, 6, 0, 0, FRAME, {0x20, 0, 0, 0}, 4, 0, 1, 17, NONE, 0, "-", SHORT},
+    {"refused 19, not erased", 1, 2, 0, 0, FRAME, {0x02, 0, 0x12, 0x34}, 4 + 256, 0, 1, 19, NONE, 0, "-",
+     SHORT | STRICT},
     {"refused 25, count", 1, 2, 0, 0, FRAME, {0x20, 0, 0x12, 0x34}, 4, 0, 1, 25, NONE, 0, "-", SHORT},
     {"status, model 2", 2, 0, 0, 0, FRAME, {0x05}, 2, 0, 1, 0, NONE, 0, "-", SHORT},
     {"status, model 3", 3, 0, 0, 0, FRAME, {0x05}, 2, 0, 1, 0, NONE, 0, "-", SHORT | AS_MODEL_2},
@@ -196,6 +205,8 @@ static void prepare(const struct row *r)
     prepare_wear(r);
     for (i = 0; i < GWO_MODEL_2_LENGTH; i++) /* all that the rows read or write, but for model 3's chip erase */
         array[i] = (uint8_t)(i * 7);
+    if ((r->marks & STRICT) != 0 && r->answer == 0)
+        memset(array + 0x1200, 0xFF, 256);
     memset(frame, 0x5A, sizeof frame);
     memcpy(frame, r->head, sizeof r->head);
 }
@@ -211,7 +222,8 @@ static STRETCH uint32_t count_frame(frame_call *f, const struct row *r, int stre
     MARK_START(stretch);
     answer = f(record.model, record.status_us, record.page_us, record.sector_us, record.block_us, record.chip_us,
                record.half_us, record.sleep_us, record.wake_us, record.sign_us, state, sizeof state, array, array_len,
-               wear, wear_len, frame, r->frame_len, r->tail, r->wp, out, r->frame_len, &from, &count, &fold);
+               wear, wear_len, frame, r->frame_len, r->tail, r->wp, (r->marks & STRICT) != 0, out, r->frame_len,
+               &from, &count, &fold);
     MARK_END(stretch, name);
     return answer;
 }

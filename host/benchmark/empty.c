@@ -7,13 +7,13 @@ uint32_t empty_frame(uint32_t model, uint32_t status_us, uint32_t page_us, uint3
                      uint32_t sleep_us, uint32_t wake_us, uint32_t sign_us,
                      uint8_t *state, size_t state_len, const uint8_t *array, size_t array_len,
                      uint32_t *wear, size_t wear_len,
-                     const uint8_t *frame, size_t frame_len, uint32_t tail, uint32_t wp,
+                     const uint8_t *frame, size_t frame_len, uint32_t tail, uint32_t wp, uint32_t strict,
                      uint8_t *out, size_t out_len, uint32_t *from, uint32_t *count, uint32_t *fold)
 {
     (void)model, (void)status_us, (void)page_us, (void)sector_us, (void)block_us, (void)chip_us, (void)half_us;
     (void)sleep_us, (void)wake_us, (void)sign_us, (void)state, (void)state_len, (void)array, (void)array_len;
-    (void)wear, (void)wear_len, (void)frame, (void)frame_len, (void)tail, (void)wp, (void)out, (void)out_len;
-    (void)from, (void)count, (void)fold;
+    (void)wear, (void)wear_len, (void)frame, (void)frame_len, (void)tail, (void)wp, (void)strict, (void)out;
+    (void)out_len, (void)from, (void)count, (void)fold;
     return 0;
 }
 

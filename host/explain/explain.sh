@@ -1,6 +1,7 @@
 #!/usr/bin/env bash
 # A script through the runner, each line beside its answer in words; of a line that is not well formed, what is wrong with it.
 #   host/explain/explain.sh SCRIPT
+# With STRICT=1 in the environment it runs under the strict setting.
 set -u
 script=${1:-}
 here=$(cd "$(dirname "$0")" && pwd)

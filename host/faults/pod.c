@@ -16,7 +16,7 @@ uint32_t right_frame(const struct call *c)
 
     return ref_frame(r->model, r->status_us, r->page_us, r->sector_us, r->block_us, r->chip_us, r->half_us,
                      r->sleep_us, r->wake_us, r->sign_us, c->state, c->state_len, c->array, c->array_len,
-                     c->wear, c->wear_len, c->frame, c->frame_len, c->tail, c->wp, c->out, c->out_len,
+                     c->wear, c->wear_len, c->frame, c->frame_len, c->tail, c->wp, c->strict, c->out, c->out_len,
                      c->from, c->count, c->fold);
 }
 
@@ -105,7 +105,8 @@ uint8_t *unit_cells(const struct call *c, const struct operation *o)
 /* The mistakes in the order of their numbers. */
 static const struct { const struct pod *pods; int n; } books[] = {
     {mistakes, MISTAKES}, {mistakes_of_model_3, MISTAKES_OF_MODEL_3}, {mistakes_of_fold, MISTAKES_OF_FOLD},
-    {mistakes_of_sleep, MISTAKES_OF_SLEEP}, {mistakes_of_cut, MISTAKES_OF_CUT}, {mistakes_of_wear, MISTAKES_OF_WEAR}};
+    {mistakes_of_sleep, MISTAKES_OF_SLEEP}, {mistakes_of_cut, MISTAKES_OF_CUT}, {mistakes_of_wear, MISTAKES_OF_WEAR},
+    {mistakes_of_strict, MISTAKES_OF_STRICT}};
 
 static const struct pod *choose_pod(void)
 {
@@ -139,14 +140,15 @@ uint32_t gwo_frame(uint32_t model, uint32_t status_us, uint32_t page_us, uint32_
                    uint32_t sleep_us, uint32_t wake_us, uint32_t sign_us,
                    uint8_t *state, size_t state_len, const uint8_t *array, size_t array_len,
                    uint32_t *wear, size_t wear_len,
-                   const uint8_t *frame, size_t frame_len, uint32_t tail, uint32_t wp,
+                   const uint8_t *frame, size_t frame_len, uint32_t tail, uint32_t wp, uint32_t strict,
                    uint8_t *out, size_t out_len, uint32_t *from, uint32_t *count, uint32_t *fold)
 {
     const struct call c = {.record = {model, status_us, page_us, sector_us, block_us, chip_us, half_us, sleep_us,
                                       wake_us, sign_us},
                            .state = state, .state_len = state_len, .array = (uint8_t *)array, .array_len = array_len,
                            .wear = wear, .wear_len = wear_len, .frame = frame, .frame_len = frame_len, .tail = tail,
-                           .wp = wp, .out = out, .out_len = out_len, .from = from, .count = count, .fold = fold};
+                           .wp = wp, .strict = strict, .out = out, .out_len = out_len, .from = from, .count = count,
+                           .fold = fold};
 
     return pod()->frame != NULL ? pod()->frame(&c) : right_frame(&c);
 }

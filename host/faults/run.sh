@@ -134,5 +134,14 @@ fault 43 "25 clears WEL on model 3" "rules:wear counts" "rules:refused in order"
 fault 44 "the report has the last sector with the largest count" "rules:wear reports" compare
 fault 45 "the total of a report has 32 bits" "rules:wear reports" compare
 fault 46 "a refused report writes its results" "rules:wear reports" compare
+fault 47 "strict looks at the first byte sent to an offset" "rules:strict programs" compare
+fault 48 "strict refuses where the cell holds the byte already" "rules:strict programs" compare thirteen
+fault 49 "strict looks at offsets that are not reached" "rules:strict programs" compare
+fault 50 "19 clears WEL on model 3" "rules:strict programs" "rules:refused in order" rules:folds compare
+fault 51 "strict looks at every byte that was sent" "rules:strict programs" compare
+fault 52 "strict looks into the next page" "rules:strict programs" compare
+fault 53 "19 comes before 17" "rules:strict programs" "rules:refused in order" compare
+fault 54 "only the number 1 is strict" "rules:strict programs" compare
+fault 55 "strict is never off" "rules:strict programs" rules:programming compare example
 echo "$passed passed, $failed failed"
 [ $failed -eq 0 ]

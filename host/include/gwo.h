@@ -86,6 +86,7 @@ enum gwo_number {
     GWO_STATUS_LOCKED = 16, /* status write with SRWD 1 and WP# low */
     GWO_PROTECTED = 17,     /* the addressed unit is protected by BP (on model 3 by BP and TB);
                                on model 3 the write enable latch clears, and nothing else changes */
+    GWO_NOT_ERASED = 19,    /* strict, and a program: a cell has a 0 where the byte that counts for it has a 1 */
     GWO_WEAR_FULL = 25,     /* an erase, and the count of a sector that it covers is 4,294,967,295 */
     GWO_BAD_PATTERN = 23,   /* a cut whose pattern isn't as long as what the running operation changes */
     GWO_BAD_LINE = 20       /* a script line that is not well formed (the runner only) */
@@ -111,6 +112,7 @@ static inline const char *gwo_text(uint32_t number)
     case GWO_NOT_ENABLED: return "write enable latch not set";
     case GWO_STATUS_LOCKED: return "status register locked by SRWD and WP#";
     case GWO_PROTECTED: return "unit protected";
+    case GWO_NOT_ERASED: return "strict: a cell would not hold the byte sent to it";
     case GWO_WEAR_FULL: return "erase count at its highest";
     case GWO_BAD_PATTERN: return "pattern length is not that of the running operation";
     case GWO_BAD_LINE: return "script line not well formed";
@@ -142,13 +144,18 @@ static inline void gwo_factory_state(uint8_t *state)
  * it covers is counted: 1 by 20; 16 by D8, and by 52 on models 1 and 2; 8 by 52 on model 3; all by 60 and C7. An
  * erase is refused (25), and nothing is counted, when one of these counts could not rise. No other frame looks at
  * the counts.
+ *
+ * strict 0 is off, any other number on. Off, a program clears bits of whatever the cells hold, as the chip does. On,
+ * it is refused (19) unless every cell that it reaches will hold the byte that counts for it, which is the last one
+ * sent to its place in the page: firmware that forgot to erase is told so. Cells that are not reached are not looked
+ * at, and a cell that holds the byte already is in order. Each frame has its own setting, which no other command heeds.
  */
 uint32_t gwo_frame(uint32_t model, uint32_t status_us, uint32_t page_us, uint32_t sector_us,
                    uint32_t block_us, uint32_t chip_us, uint32_t half_us,
                    uint32_t sleep_us, uint32_t wake_us, uint32_t sign_us,
                    uint8_t *state, size_t state_len, const uint8_t *array, size_t array_len,
                    uint32_t *wear, size_t wear_len,
-                   const uint8_t *frame, size_t frame_len, uint32_t tail, uint32_t wp,
+                   const uint8_t *frame, size_t frame_len, uint32_t tail, uint32_t wp, uint32_t strict,
                    uint8_t *out, size_t out_len, uint32_t *from, uint32_t *count, uint32_t *fold);
 
 /*
@@ -265,6 +272,23 @@ static inline struct gwo_record gwo_record_filled(const struct gwo_record *r)
 }
 
 /* gwo_frame under a record. */
+static inline uint32_t gwo_record_frame_strict(const struct gwo_record *r, uint8_t *state, size_t state_len,
+                                               const uint8_t *array, size_t array_len,
+                                               uint32_t *wear, size_t wear_len,
+                                               const uint8_t *frame, size_t frame_len,
+                                               uint32_t tail, uint32_t wp, uint32_t strict,
+                                               uint8_t *out, size_t out_len,
+                                               uint32_t *from, uint32_t *count, uint32_t *fold)
+{
+    const struct gwo_record f = gwo_record_filled(r);
+
+    return gwo_frame(f.model, f.status_us, f.page_us, f.sector_us, f.block_us, f.chip_us, f.half_us,
+                     f.sleep_us, f.wake_us, f.sign_us,
+                     state, state_len, array, array_len, wear, wear_len, frame, frame_len, tail, wp, strict,
+                     out, out_len, from, count, fold);
+}
+
+/* The same with strict off, so that 19 is never answered. */
 static inline uint32_t gwo_record_frame_wear(const struct gwo_record *r, uint8_t *state, size_t state_len,
                                              const uint8_t *array, size_t array_len,
                                              uint32_t *wear, size_t wear_len,
@@ -273,19 +297,15 @@ static inline uint32_t gwo_record_frame_wear(const struct gwo_record *r, uint8_t
                                              uint8_t *out, size_t out_len,
                                              uint32_t *from, uint32_t *count, uint32_t *fold)
 {
-    const struct gwo_record f = gwo_record_filled(r);
-
-    return gwo_frame(f.model, f.status_us, f.page_us, f.sector_us, f.block_us, f.chip_us, f.half_us,
-                     f.sleep_us, f.wake_us, f.sign_us,
-                     state, state_len, array, array_len, wear, wear_len, frame, frame_len, tail, wp,
-                     out, out_len, from, count, fold);
+    return gwo_record_frame_strict(r, state, state_len, array, array_len, wear, wear_len, frame, frame_len,
+                                   tail, wp, 0u, out, out_len, from, count, fold);
 }
 
 /*
- * The same for firmware that keeps no wear sheet: its erases are counted in a table that nobody reads, and that is
- * cleared when a count in it is full, so that 24 and 25 are never answered. The table takes 16 KiB in each source file
- * that calls this or gwo_record_frame. All chips share it: of several threads each lends a table of its own, to the
- * function above.
+ * The same for firmware that keeps no wear sheet either: its erases are counted in a table that nobody reads, and that
+ * is cleared when a count in it is full, so that 24 and 25 are never answered. The table takes 16 KiB in each source
+ * file that calls this or gwo_record_frame. All chips share it: of several threads each lends a table of its own, to
+ * the function above.
  */
 static inline uint32_t gwo_record_frame_fold(const struct gwo_record *r, uint8_t *state, size_t state_len,
                                              const uint8_t *array, size_t array_len,
@@ -308,7 +328,7 @@ static inline uint32_t gwo_record_frame_fold(const struct gwo_record *r, uint8_t
                                  out, out_len, from, count, fold);
 }
 
-/* The same for firmware that does not ask for the fold either. */
+/* And for firmware that does not ask for the fold. */
 static inline uint32_t gwo_record_frame(const struct gwo_record *r, uint8_t *state, size_t state_len,
                                         const uint8_t *array, size_t array_len,
                                         const uint8_t *frame, size_t frame_len,

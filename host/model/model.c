@@ -330,6 +330,30 @@ static bool count_sectors(struct sectors s, uint32_t *wear)
     return true;
 }
 
+/*
+ * Whether a program would leave a cell without the byte that counts for it: a bit of it is 1, and 0 in the cell. Of n
+ * bytes the last 256 count, each for a cell of its own.
+ */
+static bool loses_a_bit(const uint8_t *array, uint32_t at, const uint8_t *sent, size_t n)
+{
+    const uint8_t *page = array + at / PAGE * PAGE;
+    size_t i;
+
+    for (i = n > PAGE ? n - PAGE : 0; i < n; i++)
+        if ((sent[i] & ~page[(at + i) % PAGE]) != 0)
+            return true;
+    return false;
+}
+
+/* 02, the two numbers after 17; where neither is given, the sectors of an erase are counted. */
+static uint32_t last_refusal(const struct chip *chip, const uint8_t *array, uint32_t *wear, const uint8_t *frame,
+                             size_t len, uint32_t strict)
+{
+    if (strict != 0 && frame[0] == PROGRAM && loses_a_bit(array, address(frame, chip->size), frame + 4, len - 4))
+        return 19;
+    return count_sectors(covered_by(chip, frame), wear) ? 0 : 25;
+}
+
 /* The address rises by one, from the last to 0. */
 static void read_cells(const uint8_t *array, uint32_t size, uint32_t at, uint8_t *out, size_t n)
 {
@@ -581,7 +605,7 @@ uint32_t ref_frame(uint32_t model, uint32_t status_us, uint32_t page_us, uint32_
                    uint32_t sleep_us, uint32_t wake_us, uint32_t sign_us,
                    uint8_t *state, size_t state_len, const uint8_t *array, size_t array_len,
                    uint32_t *wear, size_t wear_len,
-                   const uint8_t *frame, size_t frame_len, uint32_t tail, uint32_t wp,
+                   const uint8_t *frame, size_t frame_len, uint32_t tail, uint32_t wp, uint32_t strict,
                    uint8_t *out, size_t out_len, uint32_t *from, uint32_t *count, uint32_t *fold)
 {
     const struct record r = {model, status_us, page_us, sector_us, block_us, chip_us, half_us, sleep_us, wake_us,
@@ -605,8 +629,8 @@ uint32_t ref_frame(uint32_t model, uint32_t status_us, uint32_t page_us, uint32_
         s.wel = 0;
         pack(&s, state);
     }
-    if (number == 0 && !count_sectors(covered_by(chip, frame), wear))
-        number = 25;
+    if (number == 0)
+        number = last_refusal(chip, array, wear, frame, frame_len, strict);
     if (number != 0)
         return number;
     driven(answer(chip, &s, array, frame, frame_len, out), frame_len, from, count);

@@ -15,7 +15,7 @@ typedef uint32_t frame_call(uint32_t model, uint32_t status_us, uint32_t page_us
                             uint32_t sleep_us, uint32_t wake_us, uint32_t sign_us,
                             uint8_t *state, size_t state_len, const uint8_t *array, size_t array_len,
                             uint32_t *wear, size_t wear_len,
-                            const uint8_t *frame, size_t frame_len, uint32_t tail, uint32_t wp,
+                            const uint8_t *frame, size_t frame_len, uint32_t tail, uint32_t wp, uint32_t strict,
                             uint8_t *out, size_t out_len, uint32_t *from, uint32_t *count, uint32_t *fold);
 
 typedef uint32_t wait_call(uint32_t model, uint32_t status_us, uint32_t page_us, uint32_t sector_us,

@@ -35,8 +35,8 @@ static void show(const struct call *c, const uint8_t *state, const char *what)
     printf("\n  array of %lu, %lu counts, %lu us, pattern of %lu", (unsigned long)c->array_len,
            (unsigned long)c->wear_len, (unsigned long)c->us, (unsigned long)c->pattern_len);
     if (c->kind == FRAME)
-        printf(", tail %lu, WP# %lu, output of %lu, frame of %lu:", (unsigned long)c->tail, (unsigned long)c->wp,
-               (unsigned long)c->out_len, (unsigned long)c->frame_len);
+        printf(", tail %lu, WP# %lu, strict %lu, output of %lu, frame of %lu:", (unsigned long)c->tail,
+               (unsigned long)c->wp, (unsigned long)c->strict, (unsigned long)c->out_len, (unsigned long)c->frame_len);
     for (i = 0; i < c->frame_len && i < 24; i++)
         printf(" %02X", frame[i]);
     printf("\n");
@@ -109,7 +109,7 @@ static uint32_t frame_on(frame_call *f, const struct side *s, const struct call 
              r->sleep_us, r->wake_us, r->sign_us, last_of(&s->state, c->state_len), c->state_len,
              last_of(&s->array, c->array_len), c->array_len,
              (uint32_t *)(void *)last_of(&s->wear, c->wear_len * sizeof(uint32_t)), c->wear_len,
-             last_of(&s->frame, c->frame_len), c->frame_len, c->tail, c->wp,
+             last_of(&s->frame, c->frame_len), c->frame_len, c->tail, c->wp, c->strict,
              last_of(&s->out, c->out_len), c->out_len, &numbers[0], &numbers[1], &numbers[2]);
 }
 

@@ -21,7 +21,7 @@ struct call {
     enum kind kind;
     struct gwo_record record;
     size_t state_len, array_len, wear_len, frame_len, out_len, pattern_len;
-    uint32_t tail, wp, us;
+    uint32_t tail, wp, strict, us;
 };
 
 /* What is lent to one of the two: each call takes the last bytes of them. */
@@ -63,6 +63,9 @@ uint32_t addressed(const struct call *c);
 /* New cells in both arrays, mostly in the page of an address, at times in three blocks around it. */
 void refresh_cells(const struct call *c, uint32_t address);
 
+/* Whether a frame is strict; the cells of a program that is are mostly such as hold its bytes, all or nearly all. */
+void choose_strict(struct call *c);
+
 /* The wear table of a frame or of a report; and all counts anew. */
 void choose_wear(struct call *c);
 void fresh_counts(void);
@@ -71,9 +74,11 @@ void fresh_counts(void);
 int has_counted(const struct call *c, uint32_t number);
 int same_counts(void);
 
-/* Counts what a call met of the tables; a failure unless all of it was met on a model. */
+/* Counts what a call met of the tables, and of the setting; a failure unless all of it was met on a model. */
 void note_wear(const struct call *c, uint32_t number);
+void note_strict(const struct call *c, uint32_t number);
 void wear_met(uint32_t chip);
+void strict_met(uint32_t chip);
 
 /* Counts a call, by the packed state before it and its answer. */
 void note(const struct call *c, const uint8_t *state, uint32_t number);
@@ -81,7 +86,7 @@ void note(const struct call *c, const uint8_t *state, uint32_t number);
 /*
  * A failure unless on each model every number was met, by each kind of call that can be answered so, every command
  * accepted, every operation completed and cut, programs ended on both sides of their page's end, and every kind of
- * wear table; and unless all
+ * wear table and of strict program; and unless all
  * that only model 3 has was met, and all that sleep takes.
  */
 void check_variety(void);

@@ -150,4 +150,5 @@ void choose_frame(struct call *c)
     choose_output(c);
     if (chance(&dice, 5))
         refresh_cells(c, addressed(c));
+    choose_strict(c);
 }

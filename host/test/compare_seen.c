@@ -102,6 +102,7 @@ void note(const struct call *c, const uint8_t *state, uint32_t number)
     note_sleep(c, state, number);
     note_operation(c, state, number);
     note_wear(c, number);
+    note_strict(c, number);
     if (c->kind != FRAME || (number != 0 && number != 17))
         return;
     if (number == 0)
@@ -127,7 +128,7 @@ static void numbers_met(uint32_t chip, enum kind kind, const uint8_t *numbers, s
 
 static void all_numbers_met(uint32_t chip)
 {
-    static const uint8_t frames[] = {0, 1, 2, 24, 3, 4, 5, 10, 22, 11, 12, 13, 14, 15, 16, 17, 25},
+    static const uint8_t frames[] = {0, 1, 2, 24, 3, 4, 5, 10, 22, 11, 12, 13, 14, 15, 16, 17, 19, 25},
                          waits[] = {0, 1, 2, 3}, power_cycles[] = {0, 1, 3, 11}, cuts[] = {0, 1, 2, 3, 23},
                          reports[] = {0, 24};
 
@@ -210,6 +211,7 @@ void check_variety(void)
         operations_met(chip);
         endings_met(chip);
         wear_met(chip);
+        strict_met(chip);
     }
     for (i = 0; i < RARE; i++) {
         printf("%s%s: %lu", i == 0 ? "  on model 3: " : ", ", names[i], met[i]);

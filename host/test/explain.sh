@@ -50,6 +50,9 @@ for row in '	20	-	-	-$' '	0	-	-	-$' '	0	-	-	fold$' '	22	-	-	-$' '	11	-	-	-$'; do
     grep -q "$row" "$work/log" || wrong "the random script has no bad line, no good one, no fold, or no chip that settles or is busy"
 done
 
+status 0 "$root/scripts/old-data.txt" "$root/scripts/old-data.strict"
+grep -q ' 19  strict: a cell would not hold the byte sent to it$' "$work/said" || wrong "19 is not said in words"
+
 script=$root/scripts/example.txt
 log_of "$script" >"$work/log"
 sed '3s/	0	/	20	/' "$work/log" >"$work/other"

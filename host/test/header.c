@@ -21,7 +21,8 @@ static void check(int ok, const char *what)
 /* Each number has a text of its own; any other has the one for no number. */
 static void texts(void)
 {
-    static const uint32_t numbers[] = {0, 1, 2, 24, 3, 4, 5, 10, 22, 11, 12, 13, 14, 15, 16, 17, 25, 23, 20, 6};
+    static const uint32_t numbers[] = {0, 1, 2, 24, 3, 4, 5, 10, 22, 11, 12, 13, 14, 15, 16, 17, 19, 25,
+                                       23, 20, 6};
     const size_t n = sizeof numbers / sizeof numbers[0];
     size_t i, k;
 
@@ -34,6 +35,7 @@ static void texts(void)
     check(GWO_SETTLING == 22, "the number of a chip that settles");
     check(GWO_BAD_PATTERN == 23, "the number of a pattern of another length");
     check(GWO_BAD_WEAR == 24 && GWO_WEAR_FULL == 25, "the numbers of a table and of a count");
+    check(GWO_NOT_ERASED == 19, "the number of a cell that is not erased");
 }
 
 static void lengths(void)
@@ -195,7 +197,7 @@ static uint32_t calls_give(const struct gwo_record *r, uint32_t sleep, uint32_t 
     check(gwo_power_cycle(r->model, r->status_us, r->page_us, r->sector_us, r->block_us, r->chip_us, r->half_us,
                           sleep, wake, sign, state, sizeof state) == number, "a power cycle is answered as a wait");
     check(gwo_frame(r->model, r->status_us, r->page_us, r->sector_us, r->block_us, r->chip_us, r->half_us,
-                    sleep, wake, sign, state, sizeof state, array, n, wear, n / 4096, write_enable, 1, 0, 1,
+                    sleep, wake, sign, state, sizeof state, array, n, wear, n / 4096, write_enable, 1, 0, 1, 0,
                     out, 1, &from, &count, &fold) == number, "a frame is answered as a wait");
     return number;
 }
@@ -276,6 +278,35 @@ static void wears(const struct gwo_record *r)
     check(mean == total / n && rest == 4, "its mean");
 }
 
+/* 02 of the byte A5 on a cell, strict or not, on an enabled chip. */
+static uint32_t program_over(const struct gwo_record *r, uint8_t cell, uint32_t strict)
+{
+    static const uint8_t program[] = {0x02, 0x00, 0x12, 0x34, 0xA5};
+    uint8_t out[5];
+    uint32_t from, count, fold;
+
+    gwo_factory_state(state);
+    state[0] = 2;
+    memset(array + 0x1200, 0, 256);
+    array[0x1234] = cell;
+    return gwo_record_frame_strict(r, state, sizeof state, array, gwo_array_length(r->model), wear,
+                                   gwo_sector_count(r->model), program, 5, 0, 1, strict, out, 5, &from, &count, &fold);
+}
+
+/* Any number but 0 is on; the functions without the setting have it off. */
+static void stricts(const struct gwo_record *r)
+{
+    static const uint8_t program[] = {0x02, 0x00, 0x12, 0x34, 0xA5};
+
+    check(program_over(r, 0xFF, 1) == GWO_DONE && program_over(r, 0xA5, 1) == GWO_DONE, "strict, on cells that fit");
+    check(program_over(r, 0xA4, 1) == GWO_NOT_ERASED && state[0] == 2, "strict, on a cell that does not");
+    check(program_over(r, 0x00, 256) == GWO_NOT_ERASED && program_over(r, 0x5A, 0x80000000u) == GWO_NOT_ERASED, "on");
+    check(program_over(r, 0xA4, 0) == GWO_DONE && program_over(r, 0x00, 0) == GWO_DONE, "not strict");
+    gwo_factory_state(state);
+    state[0] = 2;
+    check(frame_on(r, program, 5) == GWO_DONE, "without the setting");
+}
+
 /* A pointer with the length 0 may be null: the call is answered, and the other buffers stay. */
 static void nulls(const struct gwo_record *r)
 {
@@ -323,6 +354,9 @@ int main(int argc, char **argv)
     wears(&gwo_bench_model_1);
     wears(&gwo_bench_model_2);
     wears(&gwo_bench_model_3);
+    stricts(&gwo_bench_model_1);
+    stricts(&gwo_bench_model_2);
+    stricts(&gwo_bench_model_3);
     nulls(&gwo_bench_model_1);
     nulls(&gwo_bench_model_2);
     nulls(&gwo_bench_model_3);

@@ -90,6 +90,7 @@ static void empty_frame(void)
     given.out_len = 0;
     given.tail = 0;
     given.wp = 1;
+    given.strict = 0;
     given.pattern_len = 0;
 }
 
@@ -359,7 +360,7 @@ void frame_gives(uint32_t number, const char *label)
                     r->sleep_us, r->wake_us, r->sign_us, state, given.state_len,
                     lend_cells(cells_of(given.array_len), addressed(), 0), given.array_len,
                     wear_lent(given.wear_len, may_count), given.wear_len,
-                    frame, given.frame_len, given.tail, given.wp, out, given.out_len,
+                    frame, given.frame_len, given.tail, given.wp, given.strict, out, given.out_len,
                     &numbers[0], &numbers[1], &numbers[2]);
     same_number(got, number, "the answer", label);
     same_number(numbers[0], wanted_from, "the first driven position", label);

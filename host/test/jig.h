@@ -54,7 +54,7 @@ struct given {
     size_t array_len, wear_len;
     uint8_t frame[FRAME_ROOM];
     size_t frame_len;
-    uint32_t tail, wp;
+    uint32_t tail, wp, strict;
     size_t out_len, pattern_len;
 };
 extern struct given given;
@@ -68,11 +68,12 @@ uint32_t count_before(uint32_t place);
 uint32_t lent_count(uint32_t sector);
 
 /*
- * A fresh call: bench record, power-on state, every cell and count as above, an empty frame, WP# high, no pattern.
+ * A fresh call: bench record, power-on state, every cell and count as above, an empty frame, WP# high, not strict, no
+ * pattern.
  */
 void jig_model(uint32_t model);
 
-/* The next call of the same chip: state, cells and counts as the last one left them, an empty frame, no pattern. */
+/* The next call of the same chip: state, cells and counts as the last one left them, an empty frame as above. */
 void jig_next(void);
 
 /* A chip that is busy runs C7, if jig_runs does not say after it what it runs. */

@@ -6,8 +6,8 @@
 
 #include <stdio.h>
 
-/* What the call was lent, what it shall make of every count, and how often it was made. */
-static uint32_t *lent, becomes;
+/* What the call was lent, what it shall make of every count, its setting, and how often it was made. */
+static uint32_t *lent, becomes, was_strict;
 static size_t lent_len;
 static int calls, failed;
 
@@ -16,7 +16,7 @@ uint32_t gwo_frame(uint32_t model, uint32_t status_us, uint32_t page_us, uint32_
                    uint32_t sleep_us, uint32_t wake_us, uint32_t sign_us,
                    uint8_t *state, size_t state_len, const uint8_t *array, size_t array_len,
                    uint32_t *wear, size_t wear_len,
-                   const uint8_t *frame, size_t frame_len, uint32_t tail, uint32_t wp,
+                   const uint8_t *frame, size_t frame_len, uint32_t tail, uint32_t wp, uint32_t strict,
                    uint8_t *out, size_t out_len, uint32_t *from, uint32_t *count, uint32_t *fold)
 {
     size_t i;
@@ -25,6 +25,7 @@ uint32_t gwo_frame(uint32_t model, uint32_t status_us, uint32_t page_us, uint32_
     (void)sleep_us, (void)wake_us, (void)sign_us, (void)state, (void)state_len, (void)array, (void)array_len;
     (void)frame, (void)frame_len, (void)tail, (void)wp, (void)out, (void)out_len;
     calls++;
+    was_strict = strict;
     lent = wear;
     lent_len = wear_len;
     *from = *count = *fold = 0;
@@ -61,7 +62,7 @@ static void use(const struct gwo_record *r, size_t sectors)
     size_t i;
 
     becomes = 41;
-    check(erase(r) == GWO_DONE && calls == 1 && lent_len == sectors, "an erase");
+    check(erase(r) == GWO_DONE && calls == 1 && lent_len == sectors && was_strict == 0, "an erase");
     before = lent[sectors - 1];
     becomes = GWO_WEAR_TOP;
     check(before == 41 && erase(r) == GWO_DONE && calls == 1, "a count that becomes full");

@@ -27,6 +27,7 @@ static const struct {
     {"protected areas", protected_areas},
     {"programming", programming},
     {"folds", folds},
+    {"strict programs", strict_programs},
     {"time and power", time_and_power},
     {"operations", operations},
     {"cuts", cuts},

@@ -16,6 +16,7 @@ void reading_commands(void);           /* 03, 0B, 9F, AB, 90 */
 void erasing(void);                    /* 20, 52, D8, 60, C7 */
 void protected_areas(void);            /* what BP and TB protect */
 void programming(void);                /* 02: fold, AND, the last byte counts */
+void strict_programs(void);            /* 02 of cells that would not hold the bytes, where that is refused: 19 */
 void folds(void);                      /* a program that ran past its page's end is said so */
 void time_and_power(void);             /* wait and power cycle */
 void operations(void);                 /* 01, 02, 20, 52, D8, 60, C7: remembered, and done when the time has run out */

@@ -70,13 +70,14 @@ static void spoil(uint32_t model, uint32_t number)
     case 14: given.tail = 1; break;
     case 15: jig_state(power_on); break;
     case 17: jig_state(bp_3); want_state(after_17(model, bp_3)); break;
+    case 19: given.strict = 1; given.frame[4] = given.frame[given.frame_len - 1] = 0xFF; break;
     }
 }
 
 /* Programs that would fold. */
 static void refused_programs(uint32_t model, size_t n)
 {
-    static const uint32_t numbers[] = {1, 2, 24, 3, 4, 5, 22, 11, 12, 14, 15, 17};
+    static const uint32_t numbers[] = {1, 2, 24, 3, 4, 5, 22, 11, 12, 14, 15, 17, 19};
     size_t i;
 
     for (i = 0; i < sizeof numbers / sizeof numbers[0]; i++) {

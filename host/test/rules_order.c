@@ -7,16 +7,16 @@
 /* What makes a number apply, one bit each; a call is refused by the first that applies. */
 enum {
     RECORD = 1, ARRAY = 2, WEAR = 4, STATE = 8, FRAME = 16, OUTPUT = 32, EMPTY = 64, SETTLING = 128, BUSY = 256,
-    ASLEEP = 512, UNKNOWN = 1024, LENGTH = 2048, NOT_ENABLED = 4096, LOCKED = 8192, FULL = 16384, EVERY = 32767
+    ASLEEP = 512, UNKNOWN = 1024, LENGTH = 2048, NOT_ENABLED = 4096, LOCKED = 8192, LAST = 16384, EVERY = 32767
 };
 
 /* What a cut looks at besides: its pattern's length. */
 enum { PATTERN = 32768 };
 
-/* LOCKED and FULL have the command's own numbers. */
+/* LOCKED and LAST have the command's own numbers: 19 and 25 come last, and no command can be answered both. */
 static const struct rung { unsigned fault; uint32_t number; } ladder[] = {
     {RECORD, 1}, {ARRAY, 2}, {WEAR, 24}, {STATE, 3}, {FRAME, 4}, {OUTPUT, 5}, {EMPTY, 10}, {SETTLING, 22},
-    {BUSY, 11}, {ASLEEP, 12}, {UNKNOWN, 13}, {LENGTH, 14}, {NOT_ENABLED, 15}, {LOCKED, 0}, {FULL, 0}, {0, 0}};
+    {BUSY, 11}, {ASLEEP, 12}, {UNKNOWN, 13}, {LENGTH, 14}, {NOT_ENABLED, 15}, {LOCKED, 0}, {LAST, 0}, {0, 0}};
 
 /* The same for the calls without a frame. */
 static const struct rung of_waits[] = {{RECORD, 1}, {ARRAY, 2}, {STATE, 3}, {0, 0}},
@@ -29,21 +29,21 @@ static int together(unsigned faults)
     return !((faults & BUSY) && (faults & (SETTLING | ASLEEP | NOT_ENABLED)));
 }
 
-/* The commands that can be refused by all of them; a full count is a fault of an erase alone. */
+/* The commands that can be locked: last of all a program may find cells that are not erased, an erase a full count. */
 struct lockable {
     const char *frame;
-    uint32_t when_locked, when_full;
+    uint32_t when_locked, at_last;
 };
-static const struct lockable lockable[] = {{"0100", 16, 0}, {"0200000000", 17, 0}, {"20000000", 17, 25},
+static const struct lockable lockable[] = {{"0100", 16, 0}, {"02000000FF", 17, 19}, {"20000000", 17, 25},
                                            {"52000000", 17, 25}, {"D8000000", 17, 25}, {"60", 17, 25}, {"C7", 17, 25}};
 
-/* The number: of the first fault; 16, 17 or 25, by the command, when there is none before LOCKED and FULL. */
+/* The number: of the first fault; 16, 17, 19 or 25, by the command, when there is none before LOCKED and LAST. */
 static uint32_t first_of(const struct rung *rung, unsigned faults, const struct lockable *command)
 {
     for (; rung->fault != 0; rung++)
         if (faults & rung->fault)
             return rung->fault == LOCKED ? command->when_locked
-                   : rung->fault == FULL ? command->when_full : rung->number;
+                   : rung->fault == LAST ? command->at_last : rung->number;
     return 0;
 }
 
@@ -95,8 +95,11 @@ static void spoil_lent(uint32_t model, unsigned faults, unsigned variant)
         *(variant % 2 ? &given.record.chip_us : &given.record.half_us) = variant % 2 ? 0 : 1000000001;
     if (faults & ARRAY)
         given.array_len = variant % 2 ? 65537 : 4096;
-    if (faults & FULL)
+    if (faults & LAST) {
+        given.strict = 1;
+        jig_cells(0, 1, 0x7F);
         jig_wear(0, 1, GWO_WEAR_TOP);
+    }
     if (faults & WEAR)
         given.wear_len = variant % 2 ? given.wear_len + 1 : given.wear_len / 2;
     if (faults & LOCKED)
@@ -201,8 +204,8 @@ void refused_in_order(void)
                 refused(1 + (faults / 4 + (uint32_t)i / 2) % MODELS, i, faults, (unsigned)i % 2);
         for (model = 1; model <= MODELS; model++) {
             refused(model, i, LOCKED, 0);
-            refused(model, i, FULL, 0);
-            refused(model, i, LOCKED | FULL, 0);
+            refused(model, i, LAST, 0);
+            refused(model, i, LOCKED | LAST, 0);
         }
     }
 }

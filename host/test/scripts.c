@@ -3,6 +3,7 @@
  *   scripts gen SEED N    a script of N lines, good and bad of every kind
  *   scripts bad SEED N    N lines that are bad, or nearly
  *   scripts expect        the log of the script on standard input, by the independent model
+ *   scripts expect strict the same under the strict setting
  * The reading of a line is written from 01, Script and log. An F line has always four fields:
  * an empty frame ends in a tab.
  */
@@ -114,7 +115,7 @@ struct reply {
     uint32_t answer, from, count, fold;
 };
 
-static struct reply take_step(const struct step *s)
+static struct reply take_step(const struct step *s, uint32_t strict)
 {
     const struct gwo_record *r = record;
     struct reply to = {20, 0, 0, 0};
@@ -123,8 +124,8 @@ static struct reply take_step(const struct step *s)
     case FRAME:
         to.answer = ref_frame(r->model, r->status_us, r->page_us, r->sector_us, r->block_us, r->chip_us, r->half_us,
                               r->sleep_us, r->wake_us, r->sign_us, packed, sizeof packed, cells, CELLS, wear,
-                              sizeof wear / sizeof wear[0], s->frame, s->frame_len, s->tail, s->wp, out, sizeof out,
-                              &to.from, &to.count, &to.fold);
+                              sizeof wear / sizeof wear[0], s->frame, s->frame_len, s->tail, s->wp, strict, out,
+                              sizeof out, &to.from, &to.count, &to.fold);
         break;
     case WAIT:
         to.answer = ref_wait(r->model, r->status_us, r->page_us, r->sector_us, r->block_us, r->chip_us, r->half_us,
@@ -154,7 +155,7 @@ static void write_row(unsigned long number, struct reply r)
     printf("\t%s\n", r.fold ? "fold" : "-");
 }
 
-static void expect(void)
+static void expect(uint32_t strict)
 {
     static struct line l;
     static struct step s;
@@ -165,7 +166,7 @@ static void expect(void)
     printf("line\tanswer\tfrom\tbytes\tnote\n");
     while (next_line(&l)) {
         read_step(&l, &s);
-        write_row(++number, take_step(&s));
+        write_row(++number, take_step(&s, strict));
     }
 }
 
@@ -176,9 +177,11 @@ int main(int argc, char **argv)
     } else if (argc == 4 && strcmp(argv[1], "bad") == 0) {
         generate_bad(strtoull(argv[2], NULL, 10), strtoul(argv[3], NULL, 10));
     } else if (argc == 2 && strcmp(argv[1], "expect") == 0) {
-        expect();
+        expect(0);
+    } else if (argc == 3 && strcmp(argv[1], "expect") == 0 && strcmp(argv[2], "strict") == 0) {
+        expect(1);
     } else {
-        fprintf(stderr, "usage: scripts gen SEED LINES, scripts bad SEED LINES, or scripts expect\n");
+        fprintf(stderr, "usage: scripts gen SEED LINES, scripts bad SEED LINES, or scripts expect [strict]\n");
         return 2;
     }
     return fflush(stdout) == 0 && !ferror(stdout) ? 0 : 1;

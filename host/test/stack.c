@@ -15,7 +15,7 @@
 static const char *const names[KINDS] = {"gwo_frame", "gwo_wait", "gwo_power_cycle", "gwo_cut", "gwo_wear_report"};
 
 /* What the archive was measured to take, in bytes; it may take SPARE more. */
-static const size_t measured[KINDS] = {272, 160, 67, 94, 40};
+static const size_t measured[KINDS] = {304, 160, 67, 94, 40};
 enum { SPARE = 16 };
 
 static size_t limits[KINDS], most[KINDS];
@@ -64,6 +64,7 @@ static void spoil(struct call *c, uint32_t number)
     case 15: c->state[0] = 0; break;
     case 16: c->state[0] = 0x82, c->wp = 0; break;
     case 17: c->state[0] = 0x0E; break; /* BP 3 protects the last block */
+    case 19: c->strict = 1; frame[c->frame_len - 1] = 0x01; break; /* every cell is 00 */
     case 25: c->wear[1] = GWO_WEAR_TOP; break; /* the sector that holds 001234 */
     }
 }
@@ -109,6 +110,7 @@ static const struct {
     {{0x02}, 261, 11, 1},
     {{0x02}, 261, 12, 1}, {{0xFF}, 261, 13, 1}, {{0x02}, 261, 14, 1}, {{0x02}, 261, 15, 1}, {{0x01}, 2, 16, 1},
     {{0x02, 0xFF, 0xFF, 0xFF}, 261, 17, 1},
+    {{0x02, 0, 0x12, 0x34}, 5, 19, 1}, {{0x02, 0, 0x12, 0x34}, 261, 19, 1}, {{0x02, 0, 0x12, 0x34}, 65541, 19, 1},
     {{0x20, 0xFF, 0xFF, 0xFF}, 4, 17, 1}, {{0xC7}, 1, 17, 1}, {{0x20, 0, 0x12, 0x34}, 4, 25, 1},
     {{0x52, 0, 0x12, 0x34}, 4, 25, 1}, {{0xD8, 0, 0x12, 0x34}, 4, 25, 1}, {{0xC7}, 1, 25, 1},
 };
@@ -126,6 +128,9 @@ static void frames(uint32_t model)
         c.frame_len = c.out_len = rows[i].n;
         spoil(&c, rows[i].answer);
         measure(&c, rows[i].answer);
+        c.strict = 1;
+        measure(&c, rows[i].answer);
+        memset(frame, 0, sizeof frame);
     }
 }
 

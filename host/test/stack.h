@@ -15,7 +15,7 @@ struct call {
     const uint8_t *frame, *pattern;
     uint32_t *wear;
     size_t array_len, wear_len, frame_len, out_len, pattern_len;
-    uint32_t tail, wp, us;
+    uint32_t tail, wp, strict, us;
 };
 
 /* Makes the call: how many bytes of stack it takes below its arguments and return address, and what it is answered. */

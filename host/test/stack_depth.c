@@ -37,7 +37,7 @@ static void make_frame(void)
 
     answered = called_frame(r->model, r->status_us, r->page_us, r->sector_us, r->block_us, r->chip_us, r->half_us,
                             r->sleep_us, r->wake_us, r->sign_us, state, sizeof state, now->array, now->array_len,
-                            now->wear, now->wear_len, now->frame, now->frame_len, now->tail, now->wp,
+                            now->wear, now->wear_len, now->frame, now->frame_len, now->tail, now->wp, now->strict,
                             now->out, now->out_len, &from, &count, &fold);
 }
 

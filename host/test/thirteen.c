@@ -2,9 +2,9 @@
  * 01, "The twelve calls", and the wait after AB: on the three models, from every kind of valid state, with every
  * operation running, at the ends of pages, sectors, blocks and arrays. Every call is answered 0, the last drives the
  * data, the rest of the sector is FF and the rest of the array as it was after the first wait; the count of the sector
- * rises by one, and no other moves. Then each of the five waits is one microsecond shorter; the count is at its
- * highest, and the erase is refused; and at last the power is cut before the calls. With the argument `first` it stops
- * at a failure.
+ * rises by one, and no other moves. Each frame is strict or not. Then each of the five waits is one microsecond
+ * shorter; the count is at its highest, and the erase is refused; and at last the power is cut before the calls. With
+ * the argument `first` it stops at a failure.
  */
 #include "thirteen.h"
 

@@ -6,7 +6,7 @@ set -u
 
 : "${GWO_RUNNER:?the runner, a program or a command that starts it}"
 header=$'line\tanswer\tfrom\tbytes\tnote'
-usage='usage: runner <SCRIPT >LOG'
+usage='usage: runner [strict] <SCRIPT >LOG'
 failed=0
 work=$(mktemp -d)
 trap 'rm -rf "$work"' EXIT
@@ -28,13 +28,27 @@ said() {
 refused() {
     timeout 30 $GWO_RUNNER "$@" <"$work/script" >"$work/out" 2>"$work/err" || wrong "started with $* it does not end well"
     [ ! -s "$work/out" ] || wrong "started with $* it writes to standard output"
-    grep -q 'knows no word but --help' "$work/err" && grep -qF "$usage" "$work/err" || wrong "started with $* it does not show its use"
+    grep -q 'knows no words but --help and strict' "$work/err" && grep -qF "$usage" "$work/err" || wrong "started with $* it does not show its use"
 }
 
 help() {
     timeout 30 $GWO_RUNNER --help <"$work/script" >"$work/out" 2>"$work/err" || wrong "with --help it does not end well"
     grep -qF "$usage" "$work/out" && ! grep -qF "$header" "$work/out" || wrong "with --help it does not show its use alone"
     [ ! -s "$work/err" ] || wrong "with --help it writes to standard error"
+}
+
+# rows WORD..: the answers of the script `over`; nothing is said on standard error.
+rows() {
+    timeout 30 $GWO_RUNNER "$@" <"$work/over" >"$work/out" 2>"$work/err" || wrong "started with $* it does not end well"
+    [ ! -s "$work/err" ] || wrong "started with $* it writes to standard error"
+    tail -n +2 "$work/out" | cut -f 2 | tr '\n' ' '
+}
+
+# A cell is programmed to 00, and then to 01, which it cannot hold.
+strict() {
+    printf 'F\t1\t0\t06\nF\t1\t0\t0200000000\nW\t5000\nF\t1\t0\t06\nF\t1\t0\t0200000001\n' >"$work/over"
+    [ "$(rows)" = '0 0 0 0 0 ' ] || wrong "without a word the setting is on"
+    [ "$(rows strict)" = '0 0 0 0 19 ' ] || wrong "with the word strict the setting is off"
 }
 
 full() {
@@ -65,13 +79,16 @@ gone() {
 }
 
 help
-for word in x -h --hel --helpp --HELP '' "$(printf '%05000d' 0)"; do refused "$word"; done
+for word in x -h --hel --helpp --HELP stric strictt Strict --strict '' "$(printf '%05000d' 0)"; do refused "$word"; done
 refused --help x
 refused x --help
+refused strict strict
+refused strict --help
+strict
 full
 closed
 folder
 gone 'in a block' $'P\nP\n'
 gone 'at the last line' P
-[ $failed -eq 0 ] && echo "words: failing outputs and inputs are said, and unknown words are answered with the runner's use"
+[ $failed -eq 0 ] && echo "words: failing outputs and inputs are said, unknown words are answered with the runner's use, and strict turns the setting on"
 exit $failed

@@ -12,11 +12,11 @@ LINE = SimpleNamespace(
     state=('states', 'State'),
     res=('play', 'Played'), res_at=3, res_fields=5,             # the state is field 3 of 5
     # the parameters after the state, and the order in which the callee takes them
-    params=[P('rec', 'struct', ('states', 'Record')), P('line', '&'), P('page', '&mut'), P('array', '&mut'), P('wear', '&mut [u32]'), P('shown', '&mut')],
-    order=['line', 'rec', 'st', 'page', 'array', 'wear', 'shown'],
+    params=[P('rec', 'struct', ('states', 'Record')), P('strict', 'bool'), P('line', '&'), P('page', '&mut'), P('array', '&mut'), P('wear', '&mut [u32]'), P('shown', '&mut')],
+    order=['line', 'rec', 'strict', 'st', 'page', 'array', 'wear', 'shown'],
     uses=['use Rattle.states.specs.States.{chipOf}', 'use Rattle.play.specs.Play.{Turn, Plays, playOf}', 'use Rattle.stepper.specs.Steps.{Steps}'],
     # what is done, what the callee and the step promise of it, and how each follows from the other
-    does_type='Turn', does='playOf {rec} (chipOf {st} {page} {array}) {wear} {shown} {line}',
+    does_type='Turn', does='playOf {rec} {strict} (chipOf {st} {page} {array}) {wear} {shown} {line}',
     gives='Plays {d} {r} {l_page} {l_array} {l_wear} {l_shown}', steps='Steps {d} {r} {z} {l_page} {l_array} {l_wear} {l_shown}',
     steps_from='record { played = e .played; state = ap (λ (y : Played). y .state) (e .played); page = e .page; cells = e .cells; wear = e .wear; shown = e .shown }',
     last_is='e .state ∙ sym (ap (λ (y : Played). y .state) (e .played))',

@@ -22,6 +22,7 @@ pub enum Answer {
     Protected,
     BadTable,
     WornOut,
+    NotErased,
 }
 
 // The answer's number in the table of refusals.
@@ -47,6 +48,7 @@ pub fn number_of(a: Answer) -> u32
         Answer::BadPattern => 23,
         Answer::BadTable => 24,
         Answer::WornOut => 25,
+        Answer::NotErased => 19,
     }
 }
 

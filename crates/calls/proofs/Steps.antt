@@ -30,7 +30,7 @@ use Rattle.ladder.specs.declared.Head.{Head}
 use Rattle.ladder.proofs.Passed.{Clear, unrefused}
 use Rattle.commands.specs.declared.Operation.the-variants.{ErasesSector, ErasesHalf, ErasesBlock, ErasesChip}
 use Rattle.counts.specs.Counts.{covered, wornOut, counted}
-use Rattle.effects.specs.Effects.{Effect, stateOnly, turned, started, shown, drives, latched, dozing, writeEnable, writeStatus, eraseStarts, programPage, readFrom, wake, wakingTime, sleep}
+use Rattle.effects.specs.Effects.{Effect, stateOnly, turned, started, shown, drives, latched, dozing, writeEnable, writeStatus, eraseStarts, programPage, programsOver, goesOver, readFrom, wake, wakingTime, sleep}
 use Rattle.chip.specs.Frames.{Sent, headFor, headOf, acceptedOf, refusedOf, frameOf}
 use Rattle.time.specs.Time.{Aftermath, later, waited, waitOf}
 use Rattle.time.proofs.Time.{Fit, fit-taken}
@@ -100,20 +100,20 @@ pub refused-frame : (rec : Record) (x : Chip) (f : Sent) (a : Answer) → refusa
 unfolding frameOf
 refused-frame rec x f a e d = rw (e, d)
 
-pub while-busy : (rec : Record) (x : Chip) (b : Bench rec x) (bytes wear out : List ℕ) → 0 < x .state .busy
-    → 0 < length bytes → length bytes ≤ 65541 → Roomy (frame bytes wear out) → Tabled rec (frame bytes wear out) → traitsOf (modelOf (rec .model) .register) (decodeOf (rec .model) (getD bytes 0 0)) .«while_busy» ≡ false
-    → answer ours rec [] (sends (frame bytes wear out)) x ≡ Busy
+pub while-busy : (rec : Record) (x : Chip) (b : Bench rec x) (bytes : List ℕ) (strict : Bool) (wear out : List ℕ) → 0 < x .state .busy
+    → 0 < length bytes → length bytes ≤ 65541 → Roomy (frame bytes strict wear out) → Tabled rec (frame bytes strict wear out) → traitsOf (modelOf (rec .model) .register) (decodeOf (rec .model) (getD bytes 0 0)) .«while_busy» ≡ false
+    → answer ours rec [] (sends (frame bytes strict wear out)) x ≡ Busy
 unfolding answer
-while-busy rec x b bytes wear out busy some l r k w =
+while-busy rec x b bytes strict wear out busy some l r k w =
     ap (λ (e : Effect). e .reply .answer)
-    (refused-frame rec x (frame bytes wear out) Busy (busy-refusal rec x b (frame bytes wear out) busy some l (lit≤ tt) r k w) refl)
+    (refused-frame rec x (frame bytes strict wear out) Busy (busy-refusal rec x b (frame bytes strict wear out) busy some l (lit≤ tt) r k w) refl)
 
-pub while-settling : (rec : Record) (x : Chip) (b : Bench rec x) (bytes wear out : List ℕ) → 0 < x .state .settle
-    → 0 < length bytes → length bytes ≤ 65541 → Roomy (frame bytes wear out) → Tabled rec (frame bytes wear out) → answer ours rec [] (sends (frame bytes wear out)) x ≡ Settling
+pub while-settling : (rec : Record) (x : Chip) (b : Bench rec x) (bytes : List ℕ) (strict : Bool) (wear out : List ℕ) → 0 < x .state .settle
+    → 0 < length bytes → length bytes ≤ 65541 → Roomy (frame bytes strict wear out) → Tabled rec (frame bytes strict wear out) → answer ours rec [] (sends (frame bytes strict wear out)) x ≡ Settling
 unfolding answer
-while-settling rec x b bytes wear out settling some l r k =
+while-settling rec x b bytes strict wear out settling some l r k =
     ap (λ (e : Effect). e .reply .answer)
-    (refused-frame rec x (frame bytes wear out) Settling (settling-refusal rec x b (frame bytes wear out) settling some l (lit≤ tt) r k) refl)
+    (refused-frame rec x (frame bytes strict wear out) Settling (settling-refusal rec x b (frame bytes strict wear out) settling some l (lit≤ tt) r k) refl)
 
 -- at BP 0 no block is protected
 pub unprotected : (n : ℕ) (tb : Bool) (b : Block) → isProtected n tb 0 b ≡ false
@@ -129,103 +129,104 @@ decodes-half : (n : ℕ) → n ≡ 3 → decodeOf n 0x52 ≡ EraseHalf
 unfolding decodeOf
 decodes-half n e = rw e
 
--- the last ten tests of the table, by name
-pub tests : {a q b c d e f g h w : Bool} → a ≡ false → q ≡ false → b ≡ false → c ≡ false → d ≡ false → e ≡ false → f ≡ false → g ≡ false → h ≡ false → w ≡ false
-    → (a ≡ false) × ((q ≡ false) × ((b ≡ false) × ((c ≡ false) × ((d ≡ false) × ((e ≡ false) × ((f ≡ false) × ((g ≡ false) × ((h ≡ false) × ((w ≡ false) × Unit {0})))))))))
-tests a q b c d e f g h w = (a, (q, (b, (c, (d, (e, (f, (g, (h, (w, tt))))))))))
+-- the last eleven tests of the table, by name
+pub tests : {a q b c d e f g h o w : Bool} → a ≡ false → q ≡ false → b ≡ false → c ≡ false → d ≡ false → e ≡ false → f ≡ false → g ≡ false → h ≡ false → o ≡ false → w ≡ false
+    → (a ≡ false) × ((q ≡ false) × ((b ≡ false) × ((c ≡ false) × ((d ≡ false) × ((e ≡ false) × ((f ≡ false) × ((g ≡ false) × ((h ≡ false) × ((o ≡ false) × ((w ≡ false) × Unit {0}))))))))))
+tests a q b c d e f g h o w = (a, (q, (b, (c, (d, (e, (f, (g, (h, (o, (w, tt)))))))))))
 
 -- ---- the frames of the list
-module _ (rec : Record) (x : Chip) (b : Bench rec x) (z : x .state .busy ≡ 0) (q : x .state .settle ≡ 0) (wear out : List ℕ) (k : length wear ≡ modelOf (rec .model) .sectors) where
-  pub wake-taken : 1 ≤ length out → frameOf rec x (frame (0xAB ∷ []) wear out) ≡ stateOnly Done (dozing (x .state) false (cond (x .state .asleep) (rec .wake) 0)) (x .page) wear out
+module _ (rec : Record) (x : Chip) (b : Bench rec x) (z : x .state .busy ≡ 0) (q : x .state .settle ≡ 0) (strict : Bool) (wear out : List ℕ) (k : length wear ≡ modelOf (rec .model) .sectors) where
+  pub wake-taken : 1 ≤ length out → frameOf rec x (frame (0xAB ∷ []) strict wear out) ≡ stateOnly Done (dozing (x .state) false (cond (x .state .asleep) (rec .wake) 0)) (x .page) wear out
   unfolding acceptedOf decodeOf traitsOf headFor lengthOk wake wakingTime drives covered wornOut
   wake-taken r =
-      taken rec x b (frame (0xAB ∷ []) wear out) (lit≤ tt) (lit≤ tt) r k
-      (tests refl (rw (eq-eqb (x .state .settle) 0 q)) (rw (eq-eqb (x .state .busy) 0 z)) (and-false (x .state .asleep)) refl refl refl refl refl refl)
+      taken rec x b (frame (0xAB ∷ []) strict wear out) (lit≤ tt) (lit≤ tt) r k
+      (tests refl (rw (eq-eqb (x .state .settle) 0 q)) (rw (eq-eqb (x .state .busy) 0 z)) (and-false (x .state .asleep)) refl refl refl refl refl refl refl)
       ∙ rw (lay-none out 4)
 
-  pub sign-taken : 5 ≤ length out → frameOf rec x (frame (0xAB ∷ 0 ∷ 0 ∷ 0 ∷ 0 ∷ []) wear out)
+  pub sign-taken : 5 ≤ length out → frameOf rec x (frame (0xAB ∷ 0 ∷ 0 ∷ 0 ∷ 0 ∷ []) strict wear out)
       ≡ shown (x .page) wear (wake rec (x .state) (0xAB ∷ 0 ∷ 0 ∷ 0 ∷ 0 ∷ []) out)
   unfolding acceptedOf decodeOf traitsOf headFor lengthOk covered wornOut
   sign-taken r =
-      taken rec x b (frame (0xAB ∷ 0 ∷ 0 ∷ 0 ∷ 0 ∷ []) wear out) (lit≤ tt) (lit≤ tt) r k
-      (tests refl (rw (eq-eqb (x .state .settle) 0 q)) (rw (eq-eqb (x .state .busy) 0 z)) (and-false (x .state .asleep)) refl refl refl refl refl refl)
+      taken rec x b (frame (0xAB ∷ 0 ∷ 0 ∷ 0 ∷ 0 ∷ []) strict wear out) (lit≤ tt) (lit≤ tt) r k
+      (tests refl (rw (eq-eqb (x .state .settle) 0 q)) (rw (eq-eqb (x .state .busy) 0 z)) (and-false (x .state .asleep)) refl refl refl refl refl refl refl)
 
   pub sleep-taken : x .state .asleep ≡ false → 1 ≤ length out
-      → frameOf rec x (frame (0xB9 ∷ []) wear out) ≡ stateOnly Done (dozing (x .state) true (rec .sleep)) (x .page) wear out
+      → frameOf rec x (frame (0xB9 ∷ []) strict wear out) ≡ stateOnly Done (dozing (x .state) true (rec .sleep)) (x .page) wear out
   unfolding acceptedOf sleep decodeOf traitsOf headFor lengthOk covered wornOut
   sleep-taken a r =
-      taken rec x b (frame (0xB9 ∷ []) wear out) (lit≤ tt) (lit≤ tt) r k
-      (tests refl (rw (eq-eqb (x .state .settle) 0 q)) (rw (eq-eqb (x .state .busy) 0 z)) (rw a) refl refl refl refl refl refl)
+      taken rec x b (frame (0xB9 ∷ []) strict wear out) (lit≤ tt) (lit≤ tt) r k
+      (tests refl (rw (eq-eqb (x .state .settle) 0 q)) (rw (eq-eqb (x .state .busy) 0 z)) (rw a) refl refl refl refl refl refl refl)
 
   pub enable-taken : x .state .asleep ≡ false → 1 ≤ length out
-      → frameOf rec x (frame (0x06 ∷ []) wear out) ≡ stateOnly Done (latched (x .state) true) (x .page) wear out
+      → frameOf rec x (frame (0x06 ∷ []) strict wear out) ≡ stateOnly Done (latched (x .state) true) (x .page) wear out
   unfolding acceptedOf writeEnable decodeOf traitsOf headFor lengthOk covered wornOut
   enable-taken a r =
-      taken rec x b (frame (0x06 ∷ []) wear out) (lit≤ tt) (lit≤ tt) r k
-      (tests refl (rw (eq-eqb (x .state .settle) 0 q)) (rw (eq-eqb (x .state .busy) 0 z)) (rw a) refl refl refl refl refl refl)
+      taken rec x b (frame (0x06 ∷ []) strict wear out) (lit≤ tt) (lit≤ tt) r k
+      (tests refl (rw (eq-eqb (x .state .settle) 0 q)) (rw (eq-eqb (x .state .busy) 0 z)) (rw a) refl refl refl refl refl refl refl)
 
   pub write-taken : (v : ℕ) → x .state .asleep ≡ false → x .state .wel ≡ true → 2 ≤ length out
-      → frameOf rec x (frame (0x01 ∷ v ∷ []) wear out) ≡ started wear out (writeStatus rec (x .state) (x .page) (0x01 ∷ v ∷ []))
+      → frameOf rec x (frame (0x01 ∷ v ∷ []) strict wear out) ≡ started wear out (writeStatus rec (x .state) (x .page) (0x01 ∷ v ∷ []))
   unfolding acceptedOf decodeOf traitsOf headFor covered wornOut
   write-taken v a w r =
       let has = modelOf (rec .model) .register in
-      taken rec x b (frame (0x01 ∷ v ∷ []) wear out) (lit≤ tt) (lit≤ tt) r k
-      (tests refl (rw (eq-eqb (x .state .settle) 0 q)) (rw (eq-eqb (x .state .busy) 0 z)) (rw a) refl (ap not (between (traitsOf has WriteStatus) 2 (lit≤ tt) (one-byte-write has))) (rw w) (and-false (x .state .srwd)) refl refl)
+      taken rec x b (frame (0x01 ∷ v ∷ []) strict wear out) (lit≤ tt) (lit≤ tt) r k
+      (tests refl (rw (eq-eqb (x .state .settle) 0 q)) (rw (eq-eqb (x .state .busy) 0 z)) (rw a) refl (ap not (between (traitsOf has WriteStatus) 2 (lit≤ tt) (one-byte-write has))) (rw w) (and-false (x .state .srwd)) refl refl refl)
 
   module _ (high middle low : ℕ) where
     abbrev pub to : Address
     to = addressOf (rec .model) high middle low
 
     pub erase-taken : x .state .asleep ≡ false → x .state .wel ≡ true → x .state .bp ≡ 0 → 4 ≤ length out → wornOut ErasesSector (to .0) wear ≡ false
-        → frameOf rec x (frame (0x20 ∷ high ∷ middle ∷ low ∷ []) wear out) ≡ turned (x .page) (counted ErasesSector (to .0) wear) out (eraseStarts rec (x .state) ErasesSector (to .0) (0x20 ∷ high ∷ middle ∷ low ∷ []))
+        → frameOf rec x (frame (0x20 ∷ high ∷ middle ∷ low ∷ []) strict wear out) ≡ turned (x .page) (counted ErasesSector (to .0) wear) out (eraseStarts rec (x .state) ErasesSector (to .0) (0x20 ∷ high ∷ middle ∷ low ∷ []))
     unfolding acceptedOf decodeOf traitsOf headFor lengthOk tbOf covered wornOut
     erase-taken a w p r n =
-        taken rec x b (frame (0x20 ∷ high ∷ middle ∷ low ∷ []) wear out) (lit≤ tt) (lit≤ tt) r k
-        (tests refl (rw (eq-eqb (x .state .settle) 0 q)) (rw (eq-eqb (x .state .busy) 0 z)) (rw a) refl refl (rw w) refl (rw (p, unprotected (rec .model) (tbOf (x .state)) (blockOf to))) n)
+        taken rec x b (frame (0x20 ∷ high ∷ middle ∷ low ∷ []) strict wear out) (lit≤ tt) (lit≤ tt) r k
+        (tests refl (rw (eq-eqb (x .state .settle) 0 q)) (rw (eq-eqb (x .state .busy) 0 z)) (rw a) refl refl (rw w) refl (rw (p, unprotected (rec .model) (tbOf (x .state)) (blockOf to))) refl n)
 
     pub program-taken : (sent : List ℕ) → x .state .asleep ≡ false → x .state .wel ≡ true → x .state .bp ≡ 0
-        → 1 ≤ length sent → 4 + length sent ≤ 65541 → Roomy (frame (0x02 ∷ high ∷ middle ∷ low ∷ sent) wear out)
-        → frameOf rec x (frame (0x02 ∷ high ∷ middle ∷ low ∷ sent) wear out)
+        → 1 ≤ length sent → 4 + length sent ≤ 65541 → Roomy (frame (0x02 ∷ high ∷ middle ∷ low ∷ sent) strict wear out)
+        → programsOver strict to (x .cells) (0x02 ∷ high ∷ middle ∷ low ∷ sent) ≡ false
+        → frameOf rec x (frame (0x02 ∷ high ∷ middle ∷ low ∷ sent) strict wear out)
         ≡ started wear out (programPage rec (x .state) (x .page) to (0x02 ∷ high ∷ middle ∷ low ∷ sent))
     unfolding acceptedOf decodeOf traitsOf headFor lengthOk tbOf covered wornOut
-    program-taken sent a w p n l r =
-        taken rec x b (frame (0x02 ∷ high ∷ middle ∷ low ∷ sent) wear out) (omega arith) (lit≤ tt) r k
+    program-taken sent a w p n l r v =
+        taken rec x b (frame (0x02 ∷ high ∷ middle ∷ low ∷ sent) strict wear out) (omega arith) (lit≤ tt) r k
         (tests (eqb·suc-zero (suc (suc (suc (length sent))))) (rw (eq-eqb (x .state .settle) 0 q)) (rw (eq-eqb (x .state .busy) 0 z)) (rw a) refl (ap not (between (traitsOf (modelOf (rec .model) .register) Program) (suc (suc (suc (suc (length sent))))) (omega arith) (omega arith))) (rw w) refl
-        (rw (p, unprotected (rec .model) (tbOf (x .state)) (blockOf to))) refl)
+        (rw (p, unprotected (rec .model) (tbOf (x .state)) (blockOf to))) v refl)
 
-    pub read-taken : (more : List ℕ) → x .state .asleep ≡ false → 4 + length more ≤ 65541 → Roomy (frame (0x03 ∷ high ∷ middle ∷ low ∷ more) wear out)
-        → frameOf rec x (frame (0x03 ∷ high ∷ middle ∷ low ∷ more) wear out)
+    pub read-taken : (more : List ℕ) → x .state .asleep ≡ false → 4 + length more ≤ 65541 → Roomy (frame (0x03 ∷ high ∷ middle ∷ low ∷ more) strict wear out)
+        → frameOf rec x (frame (0x03 ∷ high ∷ middle ∷ low ∷ more) strict wear out)
         ≡ shown (x .page) wear (readFrom 4 (x .state) (x .cells) to (0x03 ∷ high ∷ middle ∷ low ∷ more) out)
     unfolding acceptedOf decodeOf traitsOf headFor lengthOk covered wornOut
     read-taken more a l r =
-        taken rec x b (frame (0x03 ∷ high ∷ middle ∷ low ∷ more) wear out) (omega arith) (lit≤ tt) r k
-        (tests (eqb·suc-zero (suc (suc (suc (length more))))) (rw (eq-eqb (x .state .settle) 0 q)) (rw (eq-eqb (x .state .busy) 0 z)) (rw a) refl (ap not (least-on (traitsOf (modelOf (rec .model) .register) Read) (suc (suc (suc (suc (length more))))) 0 (omega arith))) refl refl refl refl)
+        taken rec x b (frame (0x03 ∷ high ∷ middle ∷ low ∷ more) strict wear out) (omega arith) (lit≤ tt) r k
+        (tests (eqb·suc-zero (suc (suc (suc (length more))))) (rw (eq-eqb (x .state .settle) 0 q)) (rw (eq-eqb (x .state .busy) 0 z)) (rw a) refl (ap not (least-on (traitsOf (modelOf (rec .model) .register) Read) (suc (suc (suc (suc (length more))))) 0 (omega arith))) refl refl refl refl refl)
 
     -- the other operations, for a chip that waits too short a time after them
     pub half-taken : modelOf (rec .model) .«half_erase» ≡ true → x .state .asleep ≡ false → x .state .wel ≡ true → x .state .bp ≡ 0 → 4 ≤ length out → wornOut ErasesHalf (to .0) wear ≡ false
-        → frameOf rec x (frame (0x52 ∷ high ∷ middle ∷ low ∷ []) wear out) ≡ turned (x .page) (counted ErasesHalf (to .0) wear) out (eraseStarts rec (x .state) ErasesHalf (to .0) (0x52 ∷ high ∷ middle ∷ low ∷ []))
+        → frameOf rec x (frame (0x52 ∷ high ∷ middle ∷ low ∷ []) strict wear out) ≡ turned (x .page) (counted ErasesHalf (to .0) wear) out (eraseStarts rec (x .state) ErasesHalf (to .0) (0x52 ∷ high ∷ middle ∷ low ∷ []))
     unfolding acceptedOf traitsOf headFor lengthOk tbOf covered wornOut
     half-taken m a w p r n =
-        let sent : Sent = frame (0x52 ∷ high ∷ middle ∷ low ∷ []) wear out in
+        let sent : Sent = frame (0x52 ∷ high ∷ middle ∷ low ∷ []) strict wear out in
         let d : decodeOf (rec .model) 0x52 ≡ EraseHalf = decodes-half (rec .model) (half-erase-model (rec .model) m) in
         taken rec x b sent (lit≤ tt) (lit≤ tt) r k
         (subst (λ (c : Command). Clear (drop 6 (ladder rec (x .state) (headOf rec x sent) (traitsOf (modelOf (rec .model) .register) c)))) (sym d)
-        (tests refl (rw (eq-eqb (x .state .settle) 0 q)) (rw (eq-eqb (x .state .busy) 0 z)) (rw a) refl refl (rw w) refl (rw (p, unprotected (rec .model) (tbOf (x .state)) (blockOf to))) (ap (λ (c : Command). wornOut (operationOf c) (to .0) wear) d ∙ n)))
+        (tests refl (rw (eq-eqb (x .state .settle) 0 q)) (rw (eq-eqb (x .state .busy) 0 z)) (rw a) refl refl (rw w) refl (rw (p, unprotected (rec .model) (tbOf (x .state)) (blockOf to))) (ap (λ (c : Command). goesOver (operationOf c) strict to (x .cells) (sent .bytes)) d) (ap (λ (c : Command). wornOut (operationOf c) (to .0) wear) d ∙ n)))
         ∙ ap (λ (c : Command). acceptedOf rec x c to (sent .bytes) wear out) d
 
     pub block-taken : x .state .asleep ≡ false → x .state .wel ≡ true → x .state .bp ≡ 0 → 4 ≤ length out → wornOut ErasesBlock (to .0) wear ≡ false
-        → frameOf rec x (frame (0xD8 ∷ high ∷ middle ∷ low ∷ []) wear out) ≡ turned (x .page) (counted ErasesBlock (to .0) wear) out (eraseStarts rec (x .state) ErasesBlock (to .0) (0xD8 ∷ high ∷ middle ∷ low ∷ []))
+        → frameOf rec x (frame (0xD8 ∷ high ∷ middle ∷ low ∷ []) strict wear out) ≡ turned (x .page) (counted ErasesBlock (to .0) wear) out (eraseStarts rec (x .state) ErasesBlock (to .0) (0xD8 ∷ high ∷ middle ∷ low ∷ []))
     unfolding acceptedOf decodeOf traitsOf headFor lengthOk tbOf covered wornOut
     block-taken a w p r n =
-        taken rec x b (frame (0xD8 ∷ high ∷ middle ∷ low ∷ []) wear out) (lit≤ tt) (lit≤ tt) r k
-        (tests refl (rw (eq-eqb (x .state .settle) 0 q)) (rw (eq-eqb (x .state .busy) 0 z)) (rw a) refl refl (rw w) refl (rw (p, unprotected (rec .model) (tbOf (x .state)) (blockOf to))) n)
+        taken rec x b (frame (0xD8 ∷ high ∷ middle ∷ low ∷ []) strict wear out) (lit≤ tt) (lit≤ tt) r k
+        (tests refl (rw (eq-eqb (x .state .settle) 0 q)) (rw (eq-eqb (x .state .busy) 0 z)) (rw a) refl refl (rw w) refl (rw (p, unprotected (rec .model) (tbOf (x .state)) (blockOf to))) refl n)
 
   pub chip-taken : x .state .asleep ≡ false → x .state .wel ≡ true → x .state .bp ≡ 0 → 1 ≤ length out → wornOut ErasesChip noAddress wear ≡ false
-      → frameOf rec x (frame (0xC7 ∷ []) wear out) ≡ turned (x .page) (counted ErasesChip noAddress wear) out (eraseStarts rec (x .state) ErasesChip noAddress (0xC7 ∷ []))
+      → frameOf rec x (frame (0xC7 ∷ []) strict wear out) ≡ turned (x .page) (counted ErasesChip noAddress wear) out (eraseStarts rec (x .state) ErasesChip noAddress (0xC7 ∷ []))
   unfolding acceptedOf decodeOf traitsOf headFor lengthOk covered wornOut
   chip-taken a w p r n =
-      taken rec x b (frame (0xC7 ∷ []) wear out) (lit≤ tt) (lit≤ tt) r k
-      (tests refl (rw (eq-eqb (x .state .settle) 0 q)) (rw (eq-eqb (x .state .busy) 0 z)) (rw a) refl refl (rw w) refl (rw p) n)
+      taken rec x b (frame (0xC7 ∷ []) strict wear out) (lit≤ tt) (lit≤ tt) r k
+      (tests refl (rw (eq-eqb (x .state .settle) 0 q)) (rw (eq-eqb (x .state .busy) 0 z)) (rw a) refl refl (rw w) refl (rw p) refl n)
 
 -- ---- one call
 -- our model does not look at the calls seen

@@ -1,6 +1,6 @@
 -- Calls, pods, and what a list of calls does. Assumes nothing.
 use mathlib.Core.Path.{_≡_}
-use mathlib.Core.Bool.{true}
+use mathlib.Core.Bool.{Bool, true}
 use mathlib.Core.List.{List, [], _∷_}
 use Prim.Native.Nat.{ℕ, _≤_}
 use lib.ListN.{length}
@@ -77,9 +77,9 @@ module _ (p : Pod) (rec : Record) where
   effectAfter cs x f = p .frame (saw [] cs) rec (run [] cs x) f
 
 -- ---- the calls of a bench
--- a frame with WP# high and no tail bits
-abbrev pub frame : List ℕ → List ℕ → List ℕ → Sent
-frame bytes wear out = sentOf bytes 0 true wear out
+-- a frame with WP# high and no tail bits, under either setting
+abbrev pub frame : List ℕ → Bool → List ℕ → List ℕ → Sent
+frame bytes strict wear out = sentOf bytes 0 true strict wear out
 
 -- an output at least as long as its frame
 abbrev pub Roomy : Sent → Type 0

@@ -9,6 +9,7 @@
 //   D  offset, bytes: the page data from the offset on, as far as they go
 //   C  address, eight bytes: eight cells from the address on
 //   T  sector, count of four bytes: a sector's count
+//   O  0 or 1: the strict setting is off, as on a fresh chip, or on
 //   L  address: from now on rows show the eight cells from there on
 //   X  count, room, tail, byte, eight bytes: a frame of count bytes, the eight and then the byte over and over, with room bytes of output
 //      and WP# high

@@ -1,15 +1,15 @@
--- Laws of one cell: AND and FF. They know nothing of how a chip is spoken to. Assumes nothing.
+-- Laws of one cell: AND and FF, and what it misses of a byte. They know nothing of how a chip is spoken to. Assumes nothing.
 -- `lib.Bits` has more: and-self (x AND x is x), and-le-l and and-le-r (the result is at most each operand), and-comm.
 use mathlib.Core.Path.{_≡_, refl, sym, ap, ap₂, _∙_}
-use mathlib.Core.Bool.{Bool, true, false, cond}
-use Prim.Native.Nat.{ℕ, zero, suc, _+_, _*_, _/_, _%_, _^_, _≤_, _<_, min}
-use native.Mathlib.Nat.{mod-eq-of-lt}
+use mathlib.Core.Bool.{Bool, true, false, cond, not, _||_}
+use Prim.Native.Nat.{ℕ, zero, suc, suc-le-suc, _+_, _*_, _/_, _%_, _^_, _≤_, _<_, min}
+use native.Mathlib.Nat.{mod-eq-of-lt, div-div-eq-div-mul, pow-succ'}
 use native.Mathlib.Omega.{arith}
 use lib.Arith.{bin-ind}
 use lib.Dec.{eqb}
-use borrow.Author.Tests.{eqb-true, eqb-false}
-use lib.Bits.{bitAnd, bitOr, bitXor, or-shr, xor-shr, or-mod, xor-mod, and-zero-l, and-zero-r, or-lt, xor-lt, and-lt, and-step, and-mask, and-comm, and-self, and-le-l, and-shr, and-mod}
-use Rattle.cells.specs.Cell.{FF, bit, torn}
+use borrow.Author.Tests.{eqb-true, eqb-false, eq-eqb, ne-eqb, not-true}
+use lib.Bits.{bitAnd, bitOr, bitXor, or-shr, xor-shr, or-mod, xor-mod, and-zero-l, and-zero-r, or-lt, xor-lt, and-lt, and-step, and-mask, and-comm, and-self, and-le-l, and-le-r, and-shr, and-mod, or-add-and, xor-add-and, xor-self}
+use Rattle.cells.specs.Cell.{FF, bit, misses, torn}
 
 -- FF clears no bit
 pub and-ff : (x : ℕ) → x < 256 → bitAnd x FF ≡ x
@@ -45,6 +45,57 @@ and-byte x y l = omega (arith, and-le-l x y)
 -- a bit that was 0 stays 0
 pub and-falls : (b x y : ℕ) → bit b (bitAnd x y) ≤ bit b x
 and-falls b x y = rw (and-shr x y b, and-mod (x / 2 ^ b) (y / 2 ^ b) 1) (and-le-l _ _)
+
+-- ---- whether a cell would hold a byte
+-- an OR is 0 where both are
+or-some : (x y : ℕ) → not (eqb (bitOr x y) 0) ≡ (not (eqb x 0) || not (eqb y 0))
+or-some x y = go (eqb x 0) refl (eqb y 0) refl
+  where
+    go : (t : Bool) → eqb x 0 ≡ t → (u : Bool) → eqb y 0 ≡ u → not (eqb (bitOr x y) 0) ≡ (not t || not u)
+    go true p true q = ap not (eq-eqb (bitOr x y) 0 (omega (arith, eqb-true x 0 p, eqb-true y 0 q, or-add-and x y)))
+    go true p false q = ap not (ne-eqb (bitOr x y) 0 (λ e. omega (arith, eqb-false y 0 q, or-add-and x y, and-le-l x y, and-le-r x y)))
+    go false p u q = ap not (ne-eqb (bitOr x y) 0 (λ e. omega (arith, eqb-false x 0 p, or-add-and x y, and-le-l x y, and-le-r x y)))
+
+-- an XOR is 0 where both are the same
+xor-some : (x y : ℕ) → not (eqb (bitXor x y) 0) ≡ not (eqb x y)
+xor-some x y = go (eqb x y) refl
+  where
+    go : (t : Bool) → eqb x y ≡ t → not (eqb (bitXor x y) 0) ≡ not t
+    go true p = ap not (eq-eqb (bitXor x y) 0 (ap (bitXor x) (sym (eqb-true x y p)) ∙ xor-self x))
+    go false p = ap not (ne-eqb (bitXor x y) 0 (λ e. omega (arith, eqb-false x y p, xor-add-and x y, and-le-l x y, and-le-r x y)))
+
+-- the bits that were missing, and those that this cell misses of its byte
+pub missing-more : (missing old byte : ℕ) → not (eqb (bitOr missing (bitXor (bitAnd old byte) byte)) 0) ≡ (not (eqb missing 0) || misses old byte)
+missing-more missing old byte =
+    or-some missing (bitXor (bitAnd old byte) byte) ∙ ap (λ (t : Bool). not (eqb missing 0) || t) (xor-some (bitAnd old byte) byte)
+
+-- a bit that is 0 in the cell and 1 in the byte is missing
+pub misses-bit : (b old byte : ℕ) → bit b old ≡ 0 → bit b byte ≡ 1 → misses old byte ≡ true
+misses-bit b old byte low high = ap not (ne-eqb (bitAnd old byte) byte (λ e. omega (arith, and-falls b old byte, ap (bit b) e)))
+
+-- and where a byte is missed such a bit can be named
+next-bit : (b x : ℕ) → bit (suc b) x ≡ bit b (x / 2)
+next-bit b x = ap (λ (n : ℕ). x / n % 2) (pow-succ' 2 b) ∙ ap (λ (n : ℕ). n % 2) (sym (div-div-eq-div-mul x 2 (2 ^ b)))
+
+bit-of : (n old byte : ℕ) → byte < 2 ^ n → (bitAnd old byte ≡ byte → ⊥) → (b : ℕ) × (b < n) × (bit b old ≡ 0) × (bit b byte ≡ 1)
+bit-of zero old byte l ne = let none : byte ≡ 0 = omega arith in absurd (ne (rw none (and-zero-r old)))
+bit-of (suc n) old byte l ne =
+    go (bit-of n (old / 2) (byte / 2) (omega (arith, pow-succ' 2 n))) (eqb (old % 2) 0) refl (eqb (byte % 2) 1) refl
+  where
+    Found : ℕ → ℕ → ℕ → Type 0
+    Found m x y = (b : ℕ) × (b < m) × (bit b x ≡ 0) × (bit b y ≡ 1)
+
+    later : Found n (old / 2) (byte / 2) → Found (suc n) old byte
+    later r = (suc (r .0), suc-le-suc (r .1), next-bit (r .0) old ∙ r .2, next-bit (r .0) byte ∙ r .3)
+
+    go : ((bitAnd (old / 2) (byte / 2) ≡ byte / 2 → ⊥) → Found n (old / 2) (byte / 2)) → (t : Bool) → eqb (old % 2) 0 ≡ t → (u : Bool) → eqb (byte % 2) 1 ≡ u
+        → Found (suc n) old byte
+    go rest true p true q = (0, omega arith, omega (arith, eqb-true (old % 2) 0 p), omega (arith, eqb-true (byte % 2) 1 q))
+    go rest true p false q = later (rest (λ e. ne (omega (arith, and-step old byte, eqb-false (byte % 2) 1 q))))
+    go rest false p u q = later (rest (λ e. ne (omega (arith, and-step old byte, eqb-false (old % 2) 0 p))))
+
+pub missed-bit : (old byte : ℕ) → byte < 256 → misses old byte ≡ true → (b : ℕ) × (b < 8) × (bit b old ≡ 0) × (bit b byte ≡ 1)
+missed-bit old byte l e = bit-of 8 old byte l (eqb-false (bitAnd old byte) byte (not-true (eqb (bitAnd old byte) byte) e))
 
 -- ---- a byte that was cut
 -- bit by bit

@@ -1,10 +1,12 @@
 -- One cell of a flash array. It holds a byte; erased it is FF, all bits 1 (000 L315, L548); a program can only make bits 0 (000 L343).
 -- Nothing here knows how a chip is spoken to. Assumes nothing.
+use mathlib.Core.Bool.{Bool, not}
 use mathlib.Core.List.{List}
 use Prim.Native.Nat.{ℕ, _/_, _%_, _^_}
 use lib.Bits.{bitAnd, bitOr, bitXor}
+use lib.Dec.{eqb}
 use lib.ListN.{getD, replicate}
-use Rattle.parts.specs.Parts.{byIndex}
+use Rattle.parts.specs.Parts.{byIndex, someByIndex}
 
 -- what an erased cell holds
 abbrev pub FF : ℕ
@@ -21,6 +23,14 @@ programmedCell old byte = bitAnd old byte
 -- cells after each had the byte at its index programmed into it
 unfoldable pub anded : List ℕ → List ℕ → List ℕ
 anded bytes cells = byIndex (λ (k old : ℕ). programmedCell old (getD bytes k 0)) cells
+
+-- whether a cell that held old would not hold byte after it was programmed into it
+abbrev pub misses : ℕ → ℕ → Bool
+misses old byte = not (eqb (programmedCell old byte) byte)
+
+-- whether each cell, with the byte at its index programmed into it, holds that byte
+unfoldable pub allHold : List ℕ → List ℕ → Bool
+allHold bytes cells = not (someByIndex (λ (k old : ℕ). misses old (getD bytes k 0)) cells)
 
 -- a byte on its way from old to new when the power was cut: each bit that was to change has its pattern bit, and every other bit is as it was
 abbrev pub torn : ℕ → ℕ → ℕ → ℕ

@@ -1,7 +1,7 @@
 // The cells of a flash array, whatever chip they are in: a program can only clear bits.
 ghost use mathlib.Core.Path.{_≡_};
 ghost use lib.ListN.{length};
-ghost use Rattle.cells.specs.Cell.{anded, torn as Cell·torn, tornCells};
+ghost use Rattle.cells.specs.Cell.{allHold, anded, torn as Cell·torn, tornCells};
 
 // Clears in each cell the bits that are clear in the byte at its index. There are as many bytes as cells.
 pub fn and_into(cells: &mut [u8], bytes: &[u8])
@@ -13,6 +13,21 @@ pub fn and_into(cells: &mut [u8], bytes: &[u8])
         let byte = bytes[k];
         cells[k] = old & byte;
     }
+}
+
+// Whether each cell, with the byte at its index programmed into it, would hold that byte. Nothing is changed; all are looked at, whatever comes. There are
+// as many bytes as cells.
+pub fn holds(cells: &[u8], bytes: &[u8]) -> bool
+    requires { ⌜ length (now cells) ≡ length (now bytes) ⌝ }
+    ensures { λ r. ⌜ r ≡ allHold (now (bytes .entry)) (now (cells .entry)) ⌝ }
+{
+    let mut missing: u8 = 0;
+    for k in 0..cells.len() {
+        let old = cells[k];
+        let byte = bytes[k];
+        missing = missing | ((old & byte) ^ byte);
+    }
+    missing == 0
 }
 
 // A byte on its way from old to new when the power was cut.

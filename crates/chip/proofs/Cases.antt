@@ -11,7 +11,7 @@ use Rattle.ladder.specs.Ladder.{refusalOf}
 use Rattle.ladder.specs.declared.Head.{Head}
 use Rattle.ladder.proofs.Passed.{passed, stopped}
 use Rattle.effects.specs.Effects.{Effect, refusalLeaves}
-use Rattle.chip.specs.Frames.{Sent, Ready, headFor, headOf, acceptedOf, refusedOf, frameOf, wornBy}
+use Rattle.chip.specs.Frames.{Sent, Ready, headFor, headOf, acceptedOf, refusedOf, frameOf, wornBy, overBy}
 use Rattle.chip.specs.Driven.{drivenBytes, foldOf}
 use Rattle.models.specs.Models.{modelOf}
 use Rattle.commands.specs.Commands.{traitsOf, lengthOk, operationOf}
@@ -46,7 +46,7 @@ module _ (rec : Record) (x : Chip) (f : Sent) where
   sort = kind rec x (head .address) (f .bytes) (f .wear) (f .out) (head .command)
 
   pub shown-ready : isDone refusal ≡ true → Ready rec x (head .command) (head .address) (f .bytes) (f .out)
-  shown-ready e = arrived rec x f (wornBy (rec .model) (f .bytes) (f .wear)) (passed rec (x .state) head e)
+  shown-ready e = arrived rec x f (overBy (rec .model) (x .cells) f) (wornBy (rec .model) (f .bytes) (f .wear)) (passed rec (x .state) head e)
 
   pub shown-asked : isDone refusal ≡ true → Asked rec (x .state) (head .command) (head .address) (f .bytes)
   unfolding headFor

@@ -2,34 +2,36 @@
 use mathlib.Core.Path.{_≡_, refl, sym, ap, subst, _∙_}
 use mathlib.Core.Bool.{Bool, true, false, cond, not}
 use mathlib.Core.List.{List, []}
-use Prim.Native.Nat.{ℕ, _≤_, _<_}
+use Prim.Native.Nat.{ℕ, _+_, _≤_, _<_}
 use native.Mathlib.Nat.{mod-lt}
 use native.Mathlib.Omega.{arith}
 use lib.ListN.{length, getD}
 use Rattle.units.specs.declared.Address.{Address}
+use Rattle.units.specs.Kinds.{pageStart}
 use Rattle.models.specs.Models.{modelOf, addressOf}
-use Rattle.models.proofs.Rules.{row-rules, highest-bp}
+use Rattle.models.proofs.Rules.{row-rules, highest-bp, units-inside}
 use Rattle.answers.specs.Answers.{isDone, saysProtected}
 use Rattle.commands.specs.Commands.{traitsOf, lengthOk, fewest, mostWritten, operationOf}
-use Rattle.commands.proofs.Rows.{long-enough, write-length}
+use Rattle.commands.proofs.Rows.{long-enough, write-length, program-length}
 use Rattle.states.specs.declared.Record.{Record}
 use Rattle.commands.specs.declared.Command.{Command}
 use Rattle.commands.specs.declared.Command.the-variants.{Unknown, WriteEnable, WriteDisable, ReadStatus, ReadConfig, WriteStatus, Read, FastRead, EraseSector, EraseHalf, EraseBlock, EraseChip, Program, ReadId, Wake, ReadMaker, Sleep}
 use Rattle.answers.specs.declared.Answer.{Answer}
-use Rattle.answers.specs.declared.Answer.the-variants.{Done, WornOut}
+use Rattle.answers.specs.declared.Answer.the-variants.{Done, WornOut, NotErased}
 use Rattle.commands.specs.declared.Operation.{Operation}
+use Rattle.commands.specs.declared.Operation.the-variants.{Programs}
 use Rattle.states.specs.declared.State.{State}
 use Rattle.counts.specs.Counts.{wornOut, counted, InTable}
 use Rattle.counts.proofs.Laws.{in-table}
 use Rattle.states.specs.States.{pageOk, Chip}
 use Rattle.states.proofs.States.{sound, page-length}
 use Rattle.ladder.specs.Ladder.{refusalOf}
-use Rattle.ladder.specs.Stages.{givenOf, saidOf, lastRow}
+use Rattle.ladder.specs.Stages.{givenOf, saidOf, lastRows}
 use Rattle.ladder.proofs.Stages.{stops-given, stops-said, goes-on, last-is}
 use Rattle.ladder.specs.declared.Head.{Head}
 use Rattle.ladder.proofs.Passed.{Passed, passed, given-spares, given-page}
 use Rattle.effects.specs.declared.Reply.{Reply}
-use Rattle.effects.specs.Effects.{Effect, Gives, Room, quiet, stateOnly, refusalLeaves}
+use Rattle.effects.specs.Effects.{Effect, Gives, Room, quiet, stateOnly, refusalLeaves, goesOver}
 use Rattle.effects.proofs.Replies.{leaves-all}
 use Rattle.chip.specs.Frames.{Sent, Does, Ready, Heard, headFor, headOf, acceptedOf, takenOf, refusedOf, frameOf}
 use borrow.Author.Tests.{not-true, not-false}
@@ -77,13 +79,13 @@ module _ (rec : Record) (x : Chip) (f : Sent) where
   abbrev H : Head
   H = headOf rec x f
 
-  -- with whatever is said of the counts
-  abbrev headWith : Bool → Head
-  headWith w = headFor (rec .model) (length (x .cells)) (length (f .wear)) (pageOk (rec .model) (x .state) (x .page)) (f .bytes) (f .tail) (f .wp) (length (f .out)) w
+  -- with whatever is said of the cells and of the counts
+  abbrev headWith : Bool → Bool → Head
+  headWith o w = headFor (rec .model) (length (x .cells)) (length (f .wear)) (pageOk (rec .model) (x .state) (x .page)) (f .bytes) (f .tail) (f .wp) (length (f .out)) o w
 
-  pub arrived : (w : Bool) → Passed rec (x .state) (headWith w) → Ready rec x (H .command) (H .address) (f .bytes) (f .out)
+  pub arrived : (o w : Bool) → Passed rec (x .state) (headWith o w) → Ready rec x (H .command) (H .address) (f .bytes) (f .out)
   unfolding headFor addressOf
-  arrived w p =
+  arrived o w p =
       let b : List ℕ = f .bytes in
       record {
         level = omega (arith, sound rec (x .state) (p .valid) .level, highest-bp (rec .model));
@@ -94,9 +96,9 @@ module _ (rec : Record) (x : Chip) (f : Sent) where
         fits = record { long = long-enough _ _ _ (p .fits); short = p .short; room = p .roomy };
       }
 
-  -- the head that the code reads: it has not looked at the counts yet
+  -- the head that the code reads: it has looked at neither yet
   abbrev unworn : Head
-  unworn = headWith false
+  unworn = headWith false false
 
   given-unworn : givenOf rec (x .state) unworn ≡ givenOf rec (x .state) H
   unfolding givenOf headFor
@@ -106,7 +108,7 @@ module _ (rec : Record) (x : Chip) (f : Sent) where
   unfolding saidOf headFor
   said-unworn = refl
 
-  spared-unworn : lastRow rec (x .state) unworn ≡ Done
+  spared-unworn : lastRows rec (x .state) unworn ≡ Done
   unfolding headFor
   spared-unworn = last-is rec (x .state) unworn
 
@@ -114,65 +116,92 @@ module _ (rec : Record) (x : Chip) (f : Sent) where
   said : {h : Head} {a : Answer} → h ≡ unworn → a ≡ saidOf rec (x .state) h → a ≡ saidOf rec (x .state) H
   said e g = g ∙ ap (saidOf rec (x .state)) e ∙ said-unworn
 
-  -- every row but the last has let it pass
-  all-but-last : {h : Head} {a : Answer} → isDone (givenOf rec (x .state) H) ≡ true → h ≡ unworn → a ≡ saidOf rec (x .state) h → isDone a ≡ true → Passed rec (x .state) unworn
-  all-but-last {h} {a} p e g d =
-      let q : isDone (saidOf rec (x .state) unworn) ≡ true = ap isDone (said-unworn ∙ sym (said e g)) ∙ d in
-      passed rec (x .state) unworn (ap isDone (goes-on rec (x .state) unworn (ap isDone given-unworn ∙ p) q ∙ spared-unworn))
+  -- what the code has found where the rows before 19 let the frame pass: the head that it read, what they said, and the operation
+  pub record Found (h : Head) (a : Answer) (op : Operation) : Type 0 where
+    pub first : isDone (givenOf rec (x .state) H) ≡ true
+    pub read : h ≡ unworn
+    pub answer : a ≡ saidOf rec (x .state) h
+    pub done : isDone a ≡ true
+    pub op-is : op ≡ operationOf (h .command)
 
-  pub ready : {h : Head} {a : Answer} → isDone (givenOf rec (x .state) H) ≡ true → h ≡ unworn → a ≡ saidOf rec (x .state) h
-      → isDone a ≡ true → Ready rec x (h .command) (h .address) (f .bytes) (f .out)
+  all-said : {h : Head} {a : Answer} {op : Operation} → Found h a op → isDone (saidOf rec (x .state) H) ≡ true
+  all-said k = sym (ap isDone (said (k .read) (k .answer))) ∙ k .done
+
+  -- every row but the last two has let it pass
+  all-but-last : {h : Head} {a : Answer} {op : Operation} → Found h a op → Passed rec (x .state) unworn
+  all-but-last k =
+      let q : isDone (saidOf rec (x .state) unworn) ≡ true = ap isDone said-unworn ∙ all-said k in
+      passed rec (x .state) unworn (ap isDone (goes-on rec (x .state) unworn (ap isDone given-unworn ∙ k .first) q ∙ spared-unworn))
+
+  pub ready : {h : Head} {a : Answer} {op : Operation} → Found h a op → Ready rec x (h .command) (h .address) (f .bytes) (f .out)
   unfolding headFor
-  ready {h} {a} p e g d = subst (λ (k : Head). Ready rec x (k .command) (k .address) (f .bytes) (f .out)) (sym e) (arrived false (all-but-last p e g d))
+  ready k = subst (λ (h : Head). Ready rec x (h .command) (h .address) (f .bytes) (f .out)) (sym (k .read)) (arrived false false (all-but-last k))
+
+  -- a program has data bytes, and its page lies in the array
+  pub lookable : {h : Head} {a : Answer} {op : Operation} → Found h a op → (op ≡ Programs → 5 ≤ length (f .bytes)) × (pageStart (h .address) + 256 ≤ length (x .cells))
+  lookable {h} k =
+      let r = ready k in (
+        λ e. omega (arith, program-length (modelOf (rec .model) .register) (h .command) (sym (k .op-is) ∙ e), r .fits .long),
+        omega (arith, units-inside (rec .model) (h .address) (omega (arith, r .inside, r .whole)) .page, r .whole),
+      )
 
   -- the sectors that it covers lie in the table
-  pub countable : {h : Head} {a : Answer} {op : Operation} → isDone (givenOf rec (x .state) H) ≡ true → h ≡ unworn → a ≡ saidOf rec (x .state) h
-      → isDone a ≡ true → op ≡ operationOf (h .command) → InTable op (h .address .0) (f .wear)
+  pub countable : {h : Head} {a : Answer} {op : Operation} → Found h a op → InTable op (h .address .0) (f .wear)
   unfolding headFor
-  countable {h} {a} {op} p e g d o =
-      let k = all-but-last p e g d in
-      let r = arrived false k in
-      subst (λ (q : Operation). InTable q (h .address .0) (f .wear)) (sym o)
-      (subst (λ (q : Head). InTable (operationOf (q .command)) (q .address .0) (f .wear)) (sym e)
-      (in-table (rec .model) (operationOf (unworn .command)) (unworn .address .0) (f .wear) (k .table) (omega (arith, r .inside, r .whole))))
+  countable {h} k =
+      let p = all-but-last k in
+      let r = arrived false false p in
+      subst (λ (q : Operation). InTable q (h .address .0) (f .wear)) (sym (k .op-is))
+      (subst (λ (q : Head). InTable (operationOf (q .command)) (q .address .0) (f .wear)) (sym (k .read))
+      (in-table (rec .model) (operationOf (unworn .command)) (unworn .address .0) (f .wear) (p .table) (omega (arith, r .inside, r .whole))))
 
-  -- the last row is left: the frame is what its command does, or refused by its counts
+  -- the last two rows are left: the frame is refused for the cells or for its counts, or it is what its command does
   taken-is : isDone (givenOf rec (x .state) H) ≡ true → isDone (saidOf rec (x .state) H) ≡ true
-      → takenOf rec x (unworn .command) (unworn .address) (f .bytes) (f .wear) (f .out) ≡ frameOf rec x f
+      → takenOf rec x (unworn .command) (unworn .address) (f .strict) (f .bytes) (f .wear) (f .out) ≡ frameOf rec x f
   unfolding frameOf headFor
-  taken-is p q = go (H .worn) (goes-on rec (x .state) H p q ∙ last-is rec (x .state) H)
+  taken-is p q = go (H .over) (H .worn) (goes-on rec (x .state) H p q ∙ last-is rec (x .state) H)
     where
-      go : (b : Bool) → refusalOf rec (x .state) H ≡ cond b WornOut Done
-          → cond b (stateOnly WornOut (x .state) (x .page) (f .wear) (f .out)) (acceptedOf rec x (H .command) (H .address) (f .bytes) (f .wear) (f .out))
+      refused-as : (a : Answer) → saysProtected a ≡ false → stateOnly a (x .state) (x .page) (f .wear) (f .out) ≡ refusedOf rec a x f
+      refused-as a e = ap (λ (s : State). stateOnly a s (x .page) (f .wear) (f .out)) (sym (leaves-all (rec .model) a (x .state) e))
+
+      go : (o b : Bool) → refusalOf rec (x .state) H ≡ cond o NotErased (cond b WornOut Done)
+          → cond o (stateOnly NotErased (x .state) (x .page) (f .wear) (f .out)) (cond b (stateOnly WornOut (x .state) (x .page) (f .wear) (f .out)) (acceptedOf rec x (H .command) (H .address) (f .bytes) (f .wear) (f .out)))
           ≡ cond (isDone (refusalOf rec (x .state) H)) (acceptedOf rec x (H .command) (H .address) (f .bytes) (f .wear) (f .out)) (refusedOf rec (refusalOf rec (x .state) H) x f)
-      go true e = rw e (ap (λ (s : State). stateOnly WornOut s (x .page) (f .wear) (f .out)) (sym (leaves-all (rec .model) WornOut (x .state) refl)))
-      go false e = rw e
+      go true b e = rw e (refused-as NotErased refl)
+      go false true e = rw e (refused-as WornOut refl)
+      go false false e = rw e
 
-  -- counted and done
-  pub accept : {h : Head} {a : Answer} {op : Operation} {done : Bool} {ws : List ℕ} {r : Reply} {xs os : List ℕ} → isDone (givenOf rec (x .state) H) ≡ true → h ≡ unworn
-      → a ≡ saidOf rec (x .state) h → isDone a ≡ true → op ≡ operationOf (h .command)
-      → done ≡ not (wornOut op (h .address .0) (f .wear)) → ws ≡ cond done (counted op (h .address .0) (f .wear)) (f .wear) → done ≡ true
-      → Does (acceptedOf rec x (h .command) (h .address) (f .bytes) [] (f .out)) r xs os
-      → Gives (frameOf rec x f) r xs ws os
-  accept {h} {a} {op} {done} {ws} {r} {xs} {os} p e g d o n w y q =
-      let spare : wornOut (operationOf (h .command)) (h .address .0) (f .wear) ≡ false = ap (λ (k : Operation). wornOut k (h .address .0) (f .wear)) (sym o) ∙ not-true _ (sym n ∙ y) in
-      let table : acceptedOf rec x (h .command) (h .address) (f .bytes) (f .wear) (f .out) .wear ≡ ws = table-after rec x (h .address) (f .bytes) (f .wear) (f .out) (h .command) ∙ ap (λ (k : Operation). counted k (h .address .0) (f .wear)) (sym o) ∙ sym (w ∙ rw y) in
-      let taken : takenOf rec x (h .command) (h .address) (f .bytes) (f .wear) (f .out) ≡ acceptedOf rec x (h .command) (h .address) (f .bytes) (f .wear) (f .out) = rw spare in
-      subst (λ (k : Effect). Gives k r xs ws os)
-      (sym taken ∙ ap (λ (k : Head). takenOf rec x (k .command) (k .address) (f .bytes) (f .wear) (f .out)) e ∙ taken-is p (sym (ap isDone (said e g)) ∙ d))
-      (subst (λ (k : List ℕ). Gives (acceptedOf rec x (h .command) (h .address) (f .bytes) (f .wear) (f .out)) r xs k os) table (with-table rec x (h .address) (f .bytes) (f .wear) (f .out) (h .command) q))
+  -- the same of the operation that the code has found
+  abbrev takenAs : Head → Operation → Effect
+  takenAs h op =
+      cond (goesOver op (f .strict) (h .address) (x .cells) (f .bytes)) (stateOnly NotErased (x .state) (x .page) (f .wear) (f .out))
+      (cond (wornOut op (h .address .0) (f .wear)) (stateOnly WornOut (x .state) (x .page) (f .wear) (f .out)) (acceptedOf rec x (h .command) (h .address) (f .bytes) (f .wear) (f .out)))
 
-  -- refused by its counts
-  pub worn-out : {h : Head} {a : Answer} {op : Operation} {done : Bool} {ws : List ℕ} {r : Reply} → isDone (givenOf rec (x .state) H) ≡ true → h ≡ unworn
-      → a ≡ saidOf rec (x .state) h → isDone a ≡ true → op ≡ operationOf (h .command)
-      → done ≡ not (wornOut op (h .address .0) (f .wear)) → ws ≡ cond done (counted op (h .address .0) (f .wear)) (f .wear) → done ≡ false
-      → r ≡ quiet WornOut (x .state) → Gives (frameOf rec x f) r (x .page) ws (f .out)
-  worn-out {h} {a} {op} {done} {ws} {r} p e g d o n w y q =
-      let full : wornOut (operationOf (h .command)) (h .address .0) (f .wear) ≡ true = ap (λ (k : Operation). wornOut k (h .address .0) (f .wear)) (sym o) ∙ not-false _ (sym n ∙ y) in
-      let turned-away : takenOf rec x (h .command) (h .address) (f .bytes) (f .wear) (f .out) ≡ stateOnly WornOut (x .state) (x .page) (f .wear) (f .out) = rw full in
-      subst (λ (k : Effect). Gives k r (x .page) ws (f .out))
-      (sym turned-away ∙ ap (λ (k : Head). takenOf rec x (k .command) (k .address) (f .bytes) (f .wear) (f .out)) e ∙ taken-is p (sym (ap isDone (said e g)) ∙ d))
-      (record { reply = q; page-is = refl; wear-is = w ∙ rw y; out = refl })
+  frame-is : {h : Head} {a : Answer} {op : Operation} → Found h a op → takenAs h op ≡ frameOf rec x f
+  frame-is {h} k = ap (takenAs h) (k .op-is) ∙ ap (λ (q : Head). takenOf rec x (q .command) (q .address) (f .strict) (f .bytes) (f .wear) (f .out)) (k .read) ∙ taken-is (k .first) (all-said k)
+
+  module _ {h : Head} {a : Answer} {op : Operation} {over : Bool} (k : Found h a op) (o : over ≡ goesOver op (f .strict) (h .address) (x .cells) (f .bytes)) where
+    -- refused for the cells
+    pub not-erased : {r : Reply} → over ≡ true → r ≡ quiet NotErased (x .state) → Gives (frameOf rec x f) r (x .page) (f .wear) (f .out)
+    not-erased {r} t q =
+        let turned-away : takenAs h op ≡ stateOnly NotErased (x .state) (x .page) (f .wear) (f .out) = rw (sym o ∙ t) in
+        subst (λ (e : Effect). Gives e r (x .page) (f .wear) (f .out)) (sym turned-away ∙ frame-is k) (record { reply = q; page-is = refl; wear-is = refl; out = refl })
+
+    module _ {done : Bool} {ws : List ℕ} {r : Reply} (t : over ≡ false)
+        (n : done ≡ not (wornOut op (h .address .0) (f .wear))) (w : ws ≡ cond done (counted op (h .address .0) (f .wear)) (f .wear)) where
+      -- refused for its counts
+      pub worn-out : done ≡ false → r ≡ quiet WornOut (x .state) → Gives (frameOf rec x f) r (x .page) ws (f .out)
+      worn-out y q =
+          let turned-away : takenAs h op ≡ stateOnly WornOut (x .state) (x .page) (f .wear) (f .out) = rw (sym o ∙ t, not-false (wornOut op (h .address .0) (f .wear)) (sym n ∙ y)) in
+          subst (λ (e : Effect). Gives e r (x .page) ws (f .out)) (sym turned-away ∙ frame-is k) (record { reply = q; page-is = refl; wear-is = w ∙ rw y; out = refl })
+
+      -- counted and done
+      pub accept : {xs os : List ℕ} → done ≡ true → Does (acceptedOf rec x (h .command) (h .address) (f .bytes) [] (f .out)) r xs os → Gives (frameOf rec x f) r xs ws os
+      accept {xs} {os} y q =
+          let table : acceptedOf rec x (h .command) (h .address) (f .bytes) (f .wear) (f .out) .wear ≡ ws = table-after rec x (h .address) (f .bytes) (f .wear) (f .out) (h .command) ∙ ap (λ (p : Operation). counted p (h .address .0) (f .wear)) (sym (k .op-is)) ∙ sym (w ∙ rw y) in
+          let taken : takenAs h op ≡ acceptedOf rec x (h .command) (h .address) (f .bytes) (f .wear) (f .out) = rw (sym o ∙ t, not-true (wornOut op (h .address .0) (f .wear)) (sym n ∙ y)) in
+          subst (λ (e : Effect). Gives e r xs ws os) (sym taken ∙ frame-is k)
+          (subst (λ (us : List ℕ). Gives (acceptedOf rec x (h .command) (h .address) (f .bytes) (f .wear) (f .out)) r xs us os) table (with-table rec x (h .address) (f .bytes) (f .wear) (f .out) (h .command) q))
 
   -- what a frame comes to, by whether it is refused
   abbrev either-way : Bool → Effect
@@ -205,6 +234,7 @@ module _ (rec : Record) (x : Chip) (f : Sent) where
         room = length (f .out);
         command = Unknown;
         address = record { 0 = 0 };
+        over = false;
         worn = false;
       }
 
@@ -221,10 +251,11 @@ module _ (rec : Record) (x : Chip) (f : Sent) where
         room = length (f .out);
         command = Unknown;
         address = record { 0 = 0 };
+        over = false;
         worn = false;
       })
       → b ≡ pageOk (rec .model) (x .state) (x .page) → a ≡ givenOf rec (x .state) unread
-  first-rows g e = g ∙ ap (λ (b : Bool). givenOf rec (x .state) (record { cells = length (x .cells); sectors = length (f .wear); page = b; count = length (f .bytes); tail = f .tail; wp = f .wp; room = length (f .out); command = Unknown; address = record { 0 = 0 }; worn = false })) e
+  first-rows g e = g ∙ ap (λ (b : Bool). givenOf rec (x .state) (record { cells = length (x .cells); sectors = length (f .wear); page = b; count = length (f .bytes); tail = f .tail; wp = f .wp; room = length (f .out); command = Unknown; address = record { 0 = 0 }; over = false; worn = false })) e
 
   as-given : givenOf rec (x .state) unread ≡ givenOf rec (x .state) H
   unfolding givenOf headFor
@@ -235,8 +266,8 @@ module _ (rec : Record) (x : Chip) (f : Sent) where
   let-pass e d = let g = sym (ap isDone (e ∙ as-given)) ∙ d in record { given = g; fits = given-page rec (x .state) H g }
 
   -- the head that is read after them: the page data fit
-  pub read-head : {h : Head} → Heard rec x f → h ≡ headFor (rec .model) (length (x .cells)) (length (f .wear)) true (f .bytes) (f .tail) (f .wp) (length (f .out)) false → h ≡ unworn
-  read-head p e = e ∙ ap (λ (b : Bool). headFor (rec .model) (length (x .cells)) (length (f .wear)) b (f .bytes) (f .tail) (f .wp) (length (f .out)) false) (sym (p .fits))
+  pub read-head : {h : Head} → Heard rec x f → h ≡ headFor (rec .model) (length (x .cells)) (length (f .wear)) true (f .bytes) (f .tail) (f .wp) (length (f .out)) false false → h ≡ unworn
+  read-head p e = e ∙ ap (λ (b : Bool). headFor (rec .model) (length (x .cells)) (length (f .wear)) b (f .bytes) (f .tail) (f .wp) (length (f .out)) false false) (sym (p .fits))
 
   pub refuse-given : {a : Answer} {r : Reply} → a ≡ givenOf rec (x .state) unread → isDone a ≡ false → r ≡ quiet a (x .state) → Gives (frameOf rec x f) r (x .page) (f .wear) (f .out)
   refuse-given e d q =

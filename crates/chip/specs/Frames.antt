@@ -15,28 +15,29 @@ use Rattle.states.specs.declared.State.{State}
 use Rattle.commands.specs.declared.Command.{Command}
 use Rattle.commands.specs.declared.Command.the-variants.{WriteEnable, WriteDisable, ReadStatus, ReadConfig, WriteStatus, Read, FastRead, EraseSector, EraseHalf, EraseBlock, EraseChip, Program, ReadId, Wake, ReadMaker, Sleep, Unknown}
 use Rattle.answers.specs.declared.Answer.{Answer}
-use Rattle.answers.specs.declared.Answer.the-variants.{Done, WornOut}
+use Rattle.answers.specs.declared.Answer.the-variants.{Done, WornOut, NotErased}
 use Rattle.ladder.specs.Ladder.{refusalOf}
 use Rattle.ladder.specs.Stages.{givenOf}
 use Rattle.ladder.specs.declared.Head.{Head}
 use Rattle.effects.specs.declared.Reply.{Reply}
 use Rattle.counts.specs.Counts.{wornOut, counted}
-use Rattle.effects.specs.Effects.{Effect, shown, started, turned, stateOnly, writeEnable, writeDisable, writeStatus, eraseStarts, sleep, refusalLeaves, readStatus, readConfig, readFrom, programPage, readId, wake, readMaker, Room}
+use Rattle.effects.specs.Effects.{Effect, shown, started, turned, stateOnly, writeEnable, writeDisable, writeStatus, eraseStarts, sleep, refusalLeaves, readStatus, readConfig, readFrom, programPage, goesOver, readId, wake, readMaker, Room}
 
--- what a frame sends: its whole bytes, the tail bits after them and the WP# level; and the wear table and the output lent to it
+-- what a frame sends: its whole bytes, the tail bits after them, the WP# level and the strict setting; and the wear table and the output lent to it
 pub record Sent : Type 0 where
   pub bytes : List ℕ
   pub tail : ℕ
   pub wp : Bool
+  pub strict : Bool
   pub wear : List ℕ
   pub out : List ℕ
 
-abbrev pub sentOf : List ℕ → ℕ → Bool → List ℕ → List ℕ → Sent
-sentOf bytes tail wp wear out = record { bytes = bytes; tail = tail; wp = wp; wear = wear; out = out }
+abbrev pub sentOf : List ℕ → ℕ → Bool → Bool → List ℕ → List ℕ → Sent
+sentOf bytes tail wp strict wear out = record { bytes = bytes; tail = tail; wp = wp; strict = strict; wear = wear; out = out }
 
 -- what the refusals look at: the command is the first byte, the address the next three; whether the page data fit, and whether a count is at its top
-unfoldable pub headFor : ℕ → ℕ → ℕ → Bool → List ℕ → ℕ → Bool → ℕ → Bool → Head
-headFor model cells sectors page bytes tail wp room worn =
+unfoldable pub headFor : ℕ → ℕ → ℕ → Bool → List ℕ → ℕ → Bool → ℕ → Bool → Bool → Head
+headFor model cells sectors page bytes tail wp room over worn =
     record {
       cells = cells;
       sectors = sectors;
@@ -47,8 +48,14 @@ headFor model cells sectors page bytes tail wp room worn =
       room = room;
       command = decodeOf model (getD bytes 0 0);
       address = addressOf model (getD bytes 1 0) (getD bytes 2 0) (getD bytes 3 0);
+      over = over;
       worn = worn;
     }
+
+-- whether the frame programs over old data
+abbrev pub overBy : ℕ → List ℕ → Sent → Bool
+overBy model cells f =
+    goesOver (startedBy model (getD (f .bytes) 0 0)) (f .strict) (addressOf model (getD (f .bytes) 1 0) (getD (f .bytes) 2 0) (getD (f .bytes) 3 0)) cells (f .bytes)
 
 -- whether the frame of those bytes covers a sector whose count would pass its top
 abbrev pub wornBy : ℕ → List ℕ → List ℕ → Bool
@@ -57,7 +64,7 @@ wornBy model bytes wear = wornOut (startedBy model (getD bytes 0 0)) (addressOf 
 abbrev pub headOf : Record → Chip → Sent → Head
 headOf rec x f =
     headFor (rec .model) (length (x .cells)) (length (f .wear)) (pageOk (rec .model) (x .state) (x .page)) (f .bytes) (f .tail) (f .wp) (length (f .out))
-    (wornBy (rec .model) (f .bytes) (f .wear))
+    (overBy (rec .model) (x .cells) f) (wornBy (rec .model) (f .bytes) (f .wear))
 
 -- an accepted frame, by its command; each sector that an erase covers counts one more (house). No command looks at the tail bits, nor but for the refusals at the WP# level, and none changes a cell
 unfoldable pub acceptedOf : Record → Chip → Command → Address → List ℕ → List ℕ → List ℕ → Effect
@@ -90,10 +97,11 @@ frameOf rec x f =
     let a : Answer = refusalOf rec (x .state) h in
     cond (isDone a) (acceptedOf rec x (h .command) (h .address) (f .bytes) (f .wear) (f .out)) (refusedOf rec a x f)
 
--- a frame that every row but the last lets pass: it is accepted, unless it erases a sector whose count is at its top
-abbrev pub takenOf : Record → Chip → Command → Address → List ℕ → List ℕ → List ℕ → Effect
-takenOf rec x c at bytes wear out =
-    cond (wornOut (operationOf c) (at .0) wear) (stateOnly WornOut (x .state) (x .page) wear out) (acceptedOf rec x c at bytes wear out)
+-- a frame that every row but the last two lets pass: it is accepted, unless it programs over old data or erases a sector whose count is at its top
+abbrev pub takenOf : Record → Chip → Command → Address → Bool → List ℕ → List ℕ → List ℕ → Effect
+takenOf rec x c at strict bytes wear out =
+    cond (goesOver (operationOf c) strict at (x .cells) bytes) (stateOnly NotErased (x .state) (x .page) wear out)
+    (cond (wornOut (operationOf c) (at .0) wear) (stateOnly WornOut (x .state) (x .page) wear out) (acceptedOf rec x c at bytes wear out))
 
 -- the reply, the page data and the output of an effect: what the code of the commands gives; the wear table is not lent to it
 pub record Does (e : Effect) (r : Reply) (page os : List ℕ) : Type 0 where

@@ -14,7 +14,7 @@ use states::Record;
 use states::State;
 use units::Address;
 
-// What the refusals look at but for the wear table's counts.
+// What the refusals look at but for the cells and the wear table's counts.
 fn head(
     model: u32,
     cells: usize,
@@ -25,7 +25,7 @@ fn head(
     wp: bool,
     room: usize,
 ) -> Head
-    ensures { λ r. ⌜ r ≡ headFor model cells sectors page (now (bytes .entry)) tail wp room false ⌝ }
+    ensures { λ r. ⌜ r ≡ headFor model cells sectors page (now (bytes .entry)) tail wp room false false ⌝ }
 {
     let address = models::address_of(
         model,
@@ -44,6 +44,7 @@ fn head(
         room,
         command,
         address,
+        over: false,
         worn: false,
     }
 }
@@ -93,10 +94,11 @@ fn spoken(
     bytes: &[u8],
     tail: u32,
     wp: bool,
+    strict: bool,
     out: &mut [u8],
 ) -> Reply
-    requires { ⌜ Heard rec (chipOf st (now page) (now array)) (sentOf (now bytes) tail wp (now wear) (now out)) ⌝ }
-    ensures { λ r. ⌜ Gives (frameOf rec (chipOf st (now (page .entry)) (now (array .entry))) (sentOf (now (bytes .entry)) tail wp (now (wear .entry)) (now (out .entry)))) r (now (page .exit)) (now (wear .exit)) (now (out .exit)) ⌝ }
+    requires { ⌜ Heard rec (chipOf st (now page) (now array)) (sentOf (now bytes) tail wp strict (now wear) (now out)) ⌝ }
+    ensures { λ r. ⌜ Gives (frameOf rec (chipOf st (now (page .entry)) (now (array .entry))) (sentOf (now (bytes .entry)) tail wp strict (now (wear .entry)) (now (out .entry)))) r (now (page .exit)) (now (wear .exit)) (now (out .exit)) ⌝ }
 {
     let h = head(
         rec.model,
@@ -112,7 +114,11 @@ fn spoken(
     if answers::is_done(answer) {
         let c = h.command;
         let at = h.address;
-        if !counts::count(wear, commands::operation_of(c), at.0) {
+        let op = commands::operation_of(c);
+        if starts::is_over(op, strict, array, at, bytes) {
+            return effects::quiet(Answer::NotErased, st);
+        }
+        if !counts::count(wear, op, at.0) {
             return effects::quiet(Answer::WornOut, st);
         }
         accepted(rec, st, c, page, array, at, bytes, out)
@@ -131,9 +137,10 @@ pub fn frame(
     bytes: &[u8],
     tail: u32,
     wp: bool,
+    strict: bool,
     out: &mut [u8],
 ) -> Reply
-    ensures { λ r. ⌜ Gives (frameOf rec (chipOf st (now (page .entry)) (now (array .entry))) (sentOf (now (bytes .entry)) tail wp (now (wear .entry)) (now (out .entry)))) r (now (page .exit)) (now (wear .exit)) (now (out .exit)) ⌝ }
+    ensures { λ r. ⌜ Gives (frameOf rec (chipOf st (now (page .entry)) (now (array .entry))) (sentOf (now (bytes .entry)) tail wp strict (now (wear .entry)) (now (out .entry)))) r (now (page .exit)) (now (wear .exit)) (now (out .exit)) ⌝ }
 {
     let unread = Head {
         cells: array.len(),
@@ -145,11 +152,12 @@ pub fn frame(
         room: out.len(),
         command: Command::Unknown,
         address: Address(0),
+        over: false,
         worn: false,
     };
     let first = ladder::given(rec, st, unread);
     if answers::is_done(first) {
-        spoken(rec, st, page, array, wear, bytes, tail, wp, out)
+        spoken(rec, st, page, array, wear, bytes, tail, wp, strict, out)
     } else {
         effects::quiet(first, st)
     }

@@ -6,11 +6,12 @@ use Prim.Native.Nat.{ℕ, _≤_, _<_}
 use native.Mathlib.Omega.{arith}
 use lib.Dec.{eqb, leb, lit≤}
 use borrow.Author.Tests.{eqb-true, leb-true, leb-false, le-leb, lt-leb, not-true}
-use Rattle.commands.specs.declared.Operation.the-variants.{Idle}
+use Rattle.commands.specs.declared.Operation.{Operation}
+use Rattle.commands.specs.declared.Operation.the-variants.{Idle, WritesStatus, Programs, ErasesSector, ErasesHalf, ErasesBlock, ErasesChip}
 use Rattle.commands.specs.declared.Traits.{Traits}
 use Rattle.commands.specs.declared.Command.{Command}
 use Rattle.commands.specs.declared.Command.the-variants.{WriteEnable, WriteDisable, ReadStatus, ReadConfig, WriteStatus, Read, FastRead, EraseSector, EraseHalf, EraseBlock, EraseChip, Program, ReadId, Wake, ReadMaker, Sleep, Unknown}
-use Rattle.commands.specs.Commands.{Byte, _is_, common, own, lookUp, traitsOf, lengthOk, fewest, decodeOf, startedBy, mostWritten}
+use Rattle.commands.specs.Commands.{Byte, _is_, common, own, lookUp, traitsOf, lengthOk, fewest, operationOf, decodeOf, startedBy, mostWritten}
 
 -- ---- which lengths are allowed
 module _ (k : Traits) (n : ℕ) where
@@ -112,6 +113,40 @@ write-length r n tail s e = go (leb 65542 n) refl
         let k = sym (or-false ((leb 2 n && leb n (mostWritten r)) && eqb tail 0)) ∙ (rw t at e) in
         let q = and-eq-true-iff (leb 2 n) (leb n (mostWritten r)) .0 (and-eq-true-iff (leb 2 n && leb n (mostWritten r)) (eqb tail 0) .0 k .0) in
         (leb-true 2 n (q .0), leb-true n (mostWritten r) (q .1))
+
+-- ---- a program has at least five bytes
+isProgram : Operation → Bool
+isProgram Idle = false
+isProgram WritesStatus = false
+isProgram Programs = true
+isProgram ErasesSector = false
+isProgram ErasesHalf = false
+isProgram ErasesBlock = false
+isProgram ErasesChip = false
+
+program-row : (r : Bool) (c : Command) → isProgram (operationOf c) ≡ true → 5 ≤ fewest (traitsOf r c)
+unfolding isProgram traitsOf
+program-row r WriteEnable e = absurd (false≢true e)
+program-row r WriteDisable e = absurd (false≢true e)
+program-row r ReadStatus e = absurd (false≢true e)
+program-row r ReadConfig e = absurd (false≢true e)
+program-row r WriteStatus e = absurd (false≢true e)
+program-row r Read e = absurd (false≢true e)
+program-row r FastRead e = absurd (false≢true e)
+program-row r EraseSector e = absurd (false≢true e)
+program-row r EraseHalf e = absurd (false≢true e)
+program-row r EraseBlock e = absurd (false≢true e)
+program-row r EraseChip e = absurd (false≢true e)
+program-row r Program e = lit≤ tt
+program-row r ReadId e = absurd (false≢true e)
+program-row r Wake e = absurd (false≢true e)
+program-row r ReadMaker e = absurd (false≢true e)
+program-row r Sleep e = absurd (false≢true e)
+program-row r Unknown e = absurd (false≢true e)
+
+pub program-length : (r : Bool) (c : Command) → operationOf c ≡ Programs → 5 ≤ fewest (traitsOf r c)
+unfolding isProgram
+program-length r c e = program-row r c (ap isProgram e)
 
 -- ---- only model 3 has the erase of a half block
 isHalf : Command → Bool

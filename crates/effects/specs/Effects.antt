@@ -7,13 +7,14 @@ use lib.Dec.{eqb, ltb, leb}
 use lib.ListN.{length, getD, drop, replicate}
 use Rattle.units.specs.declared.Address.{Address}
 use Rattle.models.specs.declared.Model.{Model}
-use Rattle.units.specs.Kinds.{pageOffset}
+use Rattle.units.specs.Kinds.{pageOffset, pageStart}
 use Rattle.models.specs.Models.{modelOf}
-use Rattle.parts.specs.Parts.{lay}
+use Rattle.parts.specs.Parts.{part, lay}
 use Rattle.rings.specs.Ring.{ring}
 use Rattle.fold.specs.Fold.{folds, pageAfter}
+use Rattle.fold.specs.Strict.{overOld}
 use Rattle.commands.specs.declared.Operation.{Operation}
-use Rattle.commands.specs.declared.Operation.the-variants.{WritesStatus, Programs}
+use Rattle.commands.specs.declared.Operation.the-variants.{Idle, WritesStatus, Programs, ErasesSector, ErasesHalf, ErasesBlock, ErasesChip}
 use Rattle.states.specs.States.{statusOf, operationTime}
 use Rattle.states.specs.declared.Record.{Record}
 use Rattle.states.specs.declared.State.{State}
@@ -140,6 +141,20 @@ programPage rec s page at bytes =
       reply = folding (starting s (getD bytes 0 0) (at .0) (operationTime rec Programs)) (folds (pageOffset at) (length (drop 4 bytes)));
       page = pageAfter (pageOffset at) (drop 4 bytes) page;
     }
+
+-- under the strict setting it is refused where some addressed cell would not end up holding the byte that counts for it (Req 08, house)
+unfoldable pub programsOver : Bool → Address → List ℕ → List ℕ → Bool
+programsOver strict at cells bytes = strict && overOld (pageOffset at) (drop 4 bytes) (part cells (pageStart at) 256)
+
+-- whether an operation is refused so: only a program can be
+abbrev pub goesOver : Operation → Bool → Address → List ℕ → List ℕ → Bool
+goesOver Idle strict at cells bytes = false
+goesOver WritesStatus strict at cells bytes = false
+goesOver Programs strict at cells bytes = programsOver strict at cells bytes
+goesOver ErasesSector strict at cells bytes = false
+goesOver ErasesHalf strict at cells bytes = false
+goesOver ErasesBlock strict at cells bytes = false
+goesOver ErasesChip strict at cells bytes = false
 
 -- 9F: from position 1 the three identification bytes, repeated (000 L383-391, 002 L522-526)
 abbrev pub idBytes : Model → List ℕ

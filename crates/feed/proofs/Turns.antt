@@ -33,19 +33,19 @@ use Rattle.feed.specs.Feed.{TurnStart, Stand, standing, chipNow, goesOn,
 use Rattle.feed.specs.Fed.{Did}
 
 -- ---- a line over 640 bytes is played as its first 641 are
-clip-turn : (rec : Record) (x : Chip) (wear shown : List ℕ) (m : ℕ) (line : List ℕ) → longestLine < m → playOf rec x wear shown (take m line) ≡ playOf rec x wear shown line
+clip-turn : (rec : Record) (strict : Bool) (x : Chip) (wear shown : List ℕ) (m : ℕ) (line : List ℕ) → longestLine < m → playOf rec strict x wear shown (take m line) ≡ playOf rec strict x wear shown line
 unfolding turnOf
-clip-turn rec x wear shown m line l = go (leb (length line) m) refl
+clip-turn rec strict x wear shown m line l = go (leb (length line) m) refl
   where
-    go : (b : Bool) → leb (length line) m ≡ b → playOf rec x wear shown (take m line) ≡ playOf rec x wear shown line
-    go true e = ap (playOf rec x wear shown) (take-all m line (leb-true (length line) m e))
+    go : (b : Bool) → leb (length line) m ≡ b → playOf rec strict x wear shown (take m line) ≡ playOf rec strict x wear shown line
+    go true e = ap (playOf rec strict x wear shown) (take-all m line (leb-true (length line) m e))
     go false e =
         let bad : lineOf line ≡ Bad = sym (too-long line (omega (arith, leb-false (length line) m e))) in
-        ap (turnOf rec x wear shown (take m line)) (clipped m line l ∙ bad) ∙ ap (turnOf rec x wear shown line) (sym bad)
+        ap (turnOf rec strict x wear shown (take m line)) (clipped m line l ∙ bad) ∙ ap (turnOf rec strict x wear shown line) (sym bad)
 
-pub clip-row : (rec : Record) (x : Chip) (wear : List ℕ) (number m : ℕ) (line : List ℕ) → longestLine < m → rowText rec x wear number (take m line) ≡ rowText rec x wear number line
+pub clip-row : (rec : Record) (strict : Bool) (x : Chip) (wear : List ℕ) (number m : ℕ) (line : List ℕ) → longestLine < m → rowText rec strict x wear number (take m line) ≡ rowText rec strict x wear number line
 unfolding rowText
-clip-row rec x wear number m line l = rw (clip-turn rec x wear (replicate 300 0) m line l)
+clip-row rec strict x wear number m line l = rw (clip-turn rec strict x wear (replicate 300 0) m line l)
 
 -- ---- the line in hand
 -- the first n bytes, as a part of a slice
@@ -55,17 +55,17 @@ front n xs =
     ap (λ (k : ℕ). take k xs) e
 
 -- the line handed over is the line `whole`, or as much of it as tells what it says
-pub record Same (rec : Record) (x : Chip) (wear : List ℕ) (number : ℕ) (handed whole : List ℕ) : Type 0 where
-  pub row : rowText rec x wear number handed ≡ rowText rec x wear number whole
-  pub turn : lineTurn rec x wear handed ≡ lineTurn rec x wear whole
+pub record Same (rec : Record) (strict : Bool) (x : Chip) (wear : List ℕ) (number : ℕ) (handed whole : List ℕ) : Type 0 where
+  pub row : rowText rec strict x wear number handed ≡ rowText rec strict x wear number whole
+  pub turn : lineTurn rec strict x wear handed ≡ lineTurn rec strict x wear whole
 
-pub same-line : (rec : Record) (x : Chip) (wear : List ℕ) (number : ℕ) (line : List ℕ) → Same rec x wear number line line
-same-line rec x wear number line = record { row = refl; turn = refl }
+pub same-line : (rec : Record) (strict : Bool) (x : Chip) (wear : List ℕ) (number : ℕ) (line : List ℕ) → Same rec strict x wear number line line
+same-line rec strict x wear number line = record { row = refl; turn = refl }
 
-pub same-clip : (rec : Record) (x : Chip) (wear : List ℕ) (number m : ℕ) {handed : List ℕ} (whole : List ℕ) → longestLine < m → handed ≡ take m whole → Same rec x wear number handed whole
-same-clip rec x wear number m {handed} whole l e =
-    subst (λ (z : List ℕ). Same rec x wear number z whole) (sym e)
-    (record { row = clip-row rec x wear number m whole l; turn = clip-turn rec x wear (replicate 300 0) m whole l })
+pub same-clip : (rec : Record) (strict : Bool) (x : Chip) (wear : List ℕ) (number m : ℕ) {handed : List ℕ} (whole : List ℕ) → longestLine < m → handed ≡ take m whole → Same rec strict x wear number handed whole
+same-clip rec strict x wear number m {handed} whole l e =
+    subst (λ (z : List ℕ). Same rec strict x wear number z whole) (sym e)
+    (record { row = clip-row rec strict x wear number m whole l; turn = clip-turn rec strict x wear (replicate 300 0) m whole l })
 
 -- ---- what the code does is the turn
 pub stands : {t : Stand} {r : Run} {held page cells wear log : List ℕ} → Stands t r held page cells wear log → standing r held page cells wear log ≡ t
@@ -76,15 +76,15 @@ stands {t} {r} {held} {page} {cells} {wear} {log} e =
     ∙ ap (λ (z : List ℕ). standing (t .run) (t .held) (t .page) (t .cells) (t .wear) z) (e .log′)
 
 -- a line was logged
-pub line-done : (rec : Record) (s : Stand) {line : List ℕ} {to : ℕ} {done : Logged} {r : Run} {page′ cells′ wear′ log′ : List ℕ}
-    → Logs rec (chipNow s) (s .wear) (s .run .number) line (s .log) (s .run .filled) done page′ cells′ wear′ log′ → r ≡ goesOn done (s .run .number) to
-    → Stands (lineDone rec s (s .held) line to) r (s .held) page′ cells′ wear′ log′
+pub line-done : (rec : Record) (strict : Bool) (s : Stand) {line : List ℕ} {to : ℕ} {done : Logged} {r : Run} {page′ cells′ wear′ log′ : List ℕ}
+    → Logs rec strict (chipNow s) (s .wear) (s .run .number) line (s .log) (s .run .filled) done page′ cells′ wear′ log′ → r ≡ goesOn done (s .run .number) to
+    → Stands (lineDone rec strict s (s .held) line to) r (s .held) page′ cells′ wear′ log′
 unfolding lineDone
-line-done rec s {line} {to} {done} l g =
+line-done rec strict s {line} {to} {done} l g =
     record {
       run′ =
           g ∙ ap (λ (z : State). goesOn (record { next = done .next; state = z }) (s .run .number) to) (l .state)
-          ∙ ap (λ (z : ℕ). goesOn (record { next = z; state = lineTurn rec (chipNow s) (s .wear) line .played .state }) (s .run .number) to) (l .row .next);
+          ∙ ap (λ (z : ℕ). goesOn (record { next = z; state = lineTurn rec strict (chipNow s) (s .wear) line .played .state }) (s .run .number) to) (l .row .next);
       held′ = refl;
       page′ = l .page′;
       cells′ = l .cells′;
@@ -93,32 +93,32 @@ line-done rec s {line} {to} {done} l g =
     }
 
 -- it goes on with what is kept for the next line
-pub line-kept : (rec : Record) (s : Stand) (to : ℕ) {handed line held held′ kept : List ℕ} {r : Run} {page′ cells′ wear′ log′ : List ℕ} → handed ≡ line → held′ ≡ kept
-    → Stands (lineDone rec (standing (s .run) held (s .page) (s .cells) (s .wear) (s .log)) held handed to) r held page′ cells′ wear′ log′
-    → Stands (lineDone rec s kept line to) r held′ page′ cells′ wear′ log′
+pub line-kept : (rec : Record) (strict : Bool) (s : Stand) (to : ℕ) {handed line held held′ kept : List ℕ} {r : Run} {page′ cells′ wear′ log′ : List ℕ} → handed ≡ line → held′ ≡ kept
+    → Stands (lineDone rec strict (standing (s .run) held (s .page) (s .cells) (s .wear) (s .log)) held handed to) r held page′ cells′ wear′ log′
+    → Stands (lineDone rec strict s kept line to) r held′ page′ cells′ wear′ log′
 unfolding lineDone
-line-kept rec s to {held = held} {r = r} {page′ = page′} {cells′ = cells′} {wear′ = wear′} {log′ = log′} e k d =
-    let w = subst (λ (z : List ℕ). Stands (lineDone rec (standing (s .run) held (s .page) (s .cells) (s .wear) (s .log)) held z to) r held page′ cells′ wear′ log′) e d in
+line-kept rec strict s to {held = held} {r = r} {page′ = page′} {cells′ = cells′} {wear′ = wear′} {log′ = log′} e k d =
+    let w = subst (λ (z : List ℕ). Stands (lineDone rec strict (standing (s .run) held (s .page) (s .cells) (s .wear) (s .log)) held z to) r held page′ cells′ wear′ log′) e d in
     record { run′ = w .run′; held′ = k; page′ = w .page′; cells′ = w .cells′; wear′ = w .wear′; log′ = w .log′ }
 
 -- the cut in hand
-pub at-cut : (rec : Record) (block : List ℕ) (s : Stand) {cut k : Cut} {held′ page′ cells′ wear′ log′ : List ℕ} {r : Run} → Cuts (s .held) (s .run .used) block (s .run .at) cut held′ → cut ≡ k
-    → Stands (cutTurn rec block s (heldOf (s .held) (s .run .used) block (s .run .at)) k) r held′ page′ cells′ wear′ log′
-    → Stands (feedTurn rec block s) r held′ page′ cells′ wear′ log′
+pub at-cut : (rec : Record) (strict : Bool) (block : List ℕ) (s : Stand) {cut k : Cut} {held′ page′ cells′ wear′ log′ : List ℕ} {r : Run} → Cuts (s .held) (s .run .used) block (s .run .at) cut held′ → cut ≡ k
+    → Stands (cutTurn rec strict block s (heldOf (s .held) (s .run .used) block (s .run .at)) k) r held′ page′ cells′ wear′ log′
+    → Stands (feedTurn rec strict block s) r held′ page′ cells′ wear′ log′
 unfolding feedTurn
-at-cut rec block s {cut} {k} {held′} {page′} {cells′} {wear′} {log′} {r} c q e =
-    subst (λ (z : Cut). Stands (cutTurn rec block s (heldOf (s .held) (s .run .used) block (s .run .at)) z) r held′ page′ cells′ wear′ log′) (sym q ∙ c .is) e
+at-cut rec strict block s {cut} {k} {held′} {page′} {cells′} {wear′} {log′} {r} c q e =
+    subst (λ (z : Cut). Stands (cutTurn rec strict block s (heldOf (s .held) (s .run .used) block (s .run .at)) z) r held′ page′ cells′ wear′ log′) (sym q ∙ c .is) e
 
 -- ---- what follows from a turn
 -- one turn goes on in the block, by a row at most
-pub record Turned (rec : Record) (block : List ℕ) (s t : Stand) : Type 0 where
+pub record Turned (rec : Record) (strict : Bool) (block : List ℕ) (s t : Stand) : Type 0 where
   pub on : s .run .at < t .run .at
   pub inside : t .run .at ≤ length block
   pub hold : length (t .held) ≡ length (s .held)
   pub used : t .run .used ≤ heldRoom
   pub row : t .run .filled ≤ s .run .filled + longestRow
   pub same : length (t .log) ≡ length (s .log)
-  pub did : (line : List ℕ) → Holds line (s .held) (s .run .used) → Did rec block s t line
+  pub did : (line : List ℕ) → Holds line (s .held) (s .run .used) → Did rec strict block s t line
 
 holds-front : (held : List ℕ) (used : ℕ) → used ≤ length held → Holds (take used held) held used
 holds-front held used l =
@@ -126,7 +126,7 @@ holds-front held used l =
     let all : take (length held) (take used held) ≡ take used held = take-all (length held) (take used held) (omega arith) in
     record { is = sym all; count = sym (ap length all ∙ n) }
 
-module _ (rec : Record) (block : List ℕ) (s : Stand) (p : TurnStart (s .run) (s .held) block (s .log)) where
+module _ (rec : Record) (strict : Bool) (block : List ℕ) (s : Stand) (p : TurnStart (s .run) (s .held) block (s .log)) where
   abbrev at : ℕ
   at = s .run .at
 
@@ -142,38 +142,38 @@ module _ (rec : Record) (block : List ℕ) (s : Stand) (p : TurnStart (s .run) (
   same-held : length kept ≡ length (s .held)
   same-held = length-held (take used (s .held)) (s .held) used block at (holds-front (s .held) used (omega (arith, p .used, p .hold)))
 
-  did-line : {handed : List ℕ} (whole line : List ℕ) (to : ℕ) → Same rec (chipNow s) (s .wear) number handed whole
+  did-line : {handed : List ℕ} (whole line : List ℕ) (to : ℕ) → Same rec strict (chipNow s) (s .wear) number handed whole
       → ((later : List ℕ) → linesFrom line (drop at block ++ later) ≡ whole ∷ linesFrom [] (drop to block ++ later))
-      → Did rec block s (lineDone rec s kept handed to) line
+      → Did rec strict block s (lineDone rec strict s kept handed to) line
   unfolding lineDone
   did-line {handed} whole line to e ended =
       record {
-        text = rowText rec (chipNow s) (s .wear) number whole;
+        text = rowText rec strict (chipNow s) (s .wear) number whole;
         rest = [];
-        put = put-as (record { room = omega (arith, p .room, row-short rec (chipNow s) (s .wear) number handed); is = refl; next = refl }) (e .row);
+        put = put-as (record { room = omega (arith, p .room, row-short rec strict (chipNow s) (s .wear) number handed); is = refl; next = refl }) (e .row);
         holds = holds-none kept;
         same = λ later.
-            ap (logFrom rec (chipNow s) (s .wear) number) (ended later)
-            ∙ ap (λ (t : Turn). rowText rec (chipNow s) (s .wear) number whole ++ logFrom rec (chipAfter t) (t .wear) (next number) (linesFrom [] (drop to block ++ later))) (sym (e .turn));
+            ap (logFrom rec strict (chipNow s) (s .wear) number) (ended later)
+            ∙ ap (λ (t : Turn). rowText rec strict (chipNow s) (s .wear) number whole ++ logFrom rec strict (chipAfter t) (t .wear) (next number) (linesFrom [] (drop to block ++ later))) (sym (e .turn));
         device = λ later.
-            ap (deviceFrom rec (chipNow s) (s .wear)) (ended later)
-            ∙ ap (λ (t : Turn). deviceFrom rec (chipAfter t) (t .wear) (linesFrom [] (drop to block ++ later))) (sym (e .turn));
+            ap (deviceFrom rec strict (chipNow s) (s .wear)) (ended later)
+            ∙ ap (λ (t : Turn). deviceFrom rec strict (chipAfter t) (t .wear) (linesFrom [] (drop to block ++ later))) (sym (e .turn));
       }
 
   turned-line : (handed : List ℕ) (to : ℕ) → at < to → to ≤ length block
-      → ((line : List ℕ) → Holds line (s .held) used → Did rec block s (lineDone rec s kept handed to) line)
-      → Turned rec block s (lineDone rec s kept handed to)
+      → ((line : List ℕ) → Holds line (s .held) used → Did rec strict block s (lineDone rec strict s kept handed to) line)
+      → Turned rec strict block s (lineDone rec strict s kept handed to)
   unfolding lineDone
   turned-line handed to a b d =
-      let row : List ℕ = rowText rec (chipNow s) (s .wear) number handed in
-      let short : length row ≤ longestRow = row-short rec (chipNow s) (s .wear) number handed in
+      let row : List ℕ = rowText rec strict (chipNow s) (s .wear) number handed in
+      let short : length row ≤ longestRow = row-short rec strict (chipNow s) (s .wear) number handed in
       record { on = a; inside = b; hold = same-held; used = omega arith; row = omega (arith, short); same = length-lay (s .log) (s .run .filled) row (omega (arith, p .room, short)); did = d }
 
-  by-cut : (k : Cut) → cutOf (s .held) used block at ≡ k → Turned rec block s (cutTurn rec block s kept k)
+  by-cut : (k : Cut) → cutOf (s .held) used block at ≡ k → Turned rec strict block s (cutTurn rec strict block s kept k)
   by-cut (Here e) q =
       let i = here-in (s .held) used block at e q in
       turned-line (take (e - at) (drop at block)) (e + 1) (omega (arith, i)) (omega (arith, i))
-      (λ line h. did-line (take (e - at) (drop at block)) line (e + 1) (same-line rec (chipNow s) (s .wear) number _)
+      (λ line h. did-line (take (e - at) (drop at block)) line (e + 1) (same-line rec strict (chipNow s) (s .wear) number _)
       (says-here line (s .held) used block at e (omega (arith, p .hold)) h q .ended))
   by-cut (Joined n e) q =
       let i = joined-in (s .held) used block at n e q in
@@ -182,7 +182,7 @@ module _ (rec : Record) (block : List ℕ) (s : Stand) (p : TurnStart (s .run) (
       let o = says-joined line (s .held) used block at n e h q in
       let whole : List ℕ = line ++ firstLine (drop at block) in
       let same : take n kept ≡ take heldRoom whole = o .holds .is ∙ ap (λ (z : ℕ). take z whole) (same-held ∙ p .hold) in
-      did-line whole line (e + 1) (same-clip rec (chipNow s) (s .wear) number heldRoom whole (lit< tt) same) (o .ended))
+      did-line whole line (e + 1) (same-clip rec strict (chipNow s) (s .wear) number heldRoom whole (lit< tt) same) (o .ended))
   by-cut (Open n) q =
       record {
         on = p .inside;
@@ -199,14 +199,14 @@ module _ (rec : Record) (block : List ℕ) (s : Stand) (p : TurnStart (s .run) (
               put = put-none (s .log) (s .run .filled) (omega (arith, p .room));
               holds = o .holds;
               same = λ later.
-                  ap (logFrom rec (chipNow s) (s .wear) number) (o .goes-on later)
-                  ∙ ap (λ (z : List ℕ). logFrom rec (chipNow s) (s .wear) number (linesFrom (line ++ drop at block) (z ++ later))) (sym (drop-length block));
+                  ap (logFrom rec strict (chipNow s) (s .wear) number) (o .goes-on later)
+                  ∙ ap (λ (z : List ℕ). logFrom rec strict (chipNow s) (s .wear) number (linesFrom (line ++ drop at block) (z ++ later))) (sym (drop-length block));
               device = λ later.
-                  ap (deviceFrom rec (chipNow s) (s .wear)) (o .goes-on later)
-                  ∙ ap (λ (z : List ℕ). deviceFrom rec (chipNow s) (s .wear) (linesFrom (line ++ drop at block) (z ++ later))) (sym (drop-length block));
+                  ap (deviceFrom rec strict (chipNow s) (s .wear)) (o .goes-on later)
+                  ∙ ap (λ (z : List ℕ). deviceFrom rec strict (chipNow s) (s .wear) (linesFrom (line ++ drop at block) (z ++ later))) (sym (drop-length block));
             };
       }
 
-  pub turned : Turned rec block s (feedTurn rec block s)
+  pub turned : Turned rec strict block s (feedTurn rec strict block s)
   unfolding feedTurn
   turned = by-cut (cutOf (s .held) used block at) refl

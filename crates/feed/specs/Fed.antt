@@ -1,5 +1,6 @@
 -- What follows from a feed, whatever was held of its first line and whatever comes after the block. Assumes nothing.
 use mathlib.Core.Path.{_≡_}
+use mathlib.Core.Bool.{Bool}
 use mathlib.Core.List.{List, _++_}
 use Prim.Native.Nat.{ℕ, _+_, _≤_, _<_}
 use lib.ListN.{length, drop}
@@ -13,36 +14,36 @@ use Rattle.feed.specs.Feed.{Start, Stand, chipNow, deviceNow, feedOf, la
 
 -- From s to t some text was put into the log, and the log of the lines to come is that text and the log of the lines still to come; what those
 -- leave of chip and table is the same. `line` is what there is of the line that is held, `later` the input after the block.
-pub record Did (rec : Record) (block : List ℕ) (s t : Stand) (line : List ℕ) : Type 0 where
+pub record Did (rec : Record) (strict : Bool) (block : List ℕ) (s t : Stand) (line : List ℕ) : Type 0 where
   pub text : List ℕ
   pub rest : List ℕ
   pub put : Put text (s .log) (s .run .filled) (t .log) (t .run .filled)
   pub holds : Holds rest (t .held) (t .run .used)
   pub same : (later : List ℕ)
-      → logFrom rec (chipNow s) (s .wear) (s .run .number) (linesFrom line (drop (s .run .at) block ++ later))
-      ≡ text ++ logFrom rec (chipNow t) (t .wear) (t .run .number) (linesFrom rest (drop (t .run .at) block ++ later))
+      → logFrom rec strict (chipNow s) (s .wear) (s .run .number) (linesFrom line (drop (s .run .at) block ++ later))
+      ≡ text ++ logFrom rec strict (chipNow t) (t .wear) (t .run .number) (linesFrom rest (drop (t .run .at) block ++ later))
   pub device : (later : List ℕ)
-      → deviceFrom rec (chipNow s) (s .wear) (linesFrom line (drop (s .run .at) block ++ later))
-      ≡ deviceFrom rec (chipNow t) (t .wear) (linesFrom rest (drop (t .run .at) block ++ later))
+      → deviceFrom rec strict (chipNow s) (s .wear) (linesFrom line (drop (s .run .at) block ++ later))
+      ≡ deviceFrom rec strict (chipNow t) (t .wear) (linesFrom rest (drop (t .run .at) block ++ later))
 
 -- a feed goes on to the block's end, or until the log lacks room for a row
-pub record Fed (rec : Record) (block : List ℕ) (s t : Stand) : Type 0 where
+pub record Fed (rec : Record) (strict : Bool) (block : List ℕ) (s t : Stand) : Type 0 where
   pub inside : t .run .at ≤ length block
   pub on : s .run .at < length block → s .run .filled + longestRow ≤ length (s .log) → s .run .at < t .run .at
   pub hold : length (t .held) ≡ length (s .held)
   pub used : t .run .used ≤ heldRoom
   pub within : t .run .filled ≤ length (s .log)
   pub long : length (t .log) ≡ length (s .log)
-  pub did : (line : List ℕ) → Holds line (s .held) (s .run .used) → Did rec block s t line
+  pub did : (line : List ℕ) → Holds line (s .held) (s .run .used) → Did rec strict block s t line
 
 -- at the input's end a line that is held is the last one
-pub record Finished (rec : Record) (s t : Stand) : Type 0 where
+pub record Finished (rec : Record) (strict : Bool) (s t : Stand) : Type 0 where
   pub within : t .run .filled ≤ length (s .log)
-  pub did : (line : List ℕ) → Holds line (s .held) (s .run .used) → Put (logFrom rec (chipNow s) (s .wear) (s .run .number) (lastLine line)) (s .log) (s .run .filled) (t .log) (t .run .filled)
-  pub device : (line : List ℕ) → Holds line (s .held) (s .run .used) → deviceNow t ≡ deviceFrom rec (chipNow s) (s .wear) (lastLine line)
+  pub did : (line : List ℕ) → Holds line (s .held) (s .run .used) → Put (logFrom rec strict (chipNow s) (s .wear) (s .run .number) (lastLine line)) (s .log) (s .run .filled) (t .log) (t .run .filled)
+  pub device : (line : List ℕ) → Holds line (s .held) (s .run .used) → deviceNow t ≡ deviceFrom rec strict (chipNow s) (s .wear) (lastLine line)
 
 abbrev pub FeedFeeds : Type 0
-FeedFeeds = (rec : Record) (block : List ℕ) (s : Stand) → Start (s .run) (s .held) block (s .log) → Fed rec block s (feedOf rec block s)
+FeedFeeds = (rec : Record) (strict : Bool) (block : List ℕ) (s : Stand) → Start (s .run) (s .held) block (s .log) → Fed rec strict block s (feedOf rec strict block s)
 
 abbrev pub LastFinishes : Type 0
-LastFinishes = (rec : Record) (s : Stand) → length (s .held) ≡ heldRoom → s .run .filled + longestRow ≤ length (s .log) → Finished rec s (lastOf rec s)
+LastFinishes = (rec : Record) (strict : Bool) (s : Stand) → length (s .held) ≡ heldRoom → s .run .filled + longestRow ≤ length (s .log) → Finished rec strict s (lastOf rec strict s)

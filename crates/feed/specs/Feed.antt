@@ -1,6 +1,6 @@
 -- What feeding a block does: one turn after the other, each one line or the rest of the block. Assumes nothing.
 use mathlib.Core.Path.{_≡_}
-use mathlib.Core.Bool.{cond, _&&_}
+use mathlib.Core.Bool.{Bool, cond, _&&_}
 use mathlib.Core.List.{List}
 use Prim.Native.Nat.{ℕ, zero, suc, _+_, _-_, _≤_, _<_}
 use lib.Dec.{eqb, leb, ltb}
@@ -59,10 +59,10 @@ abbrev pub deviceNow : Stand → Device
 deviceNow s = record { chip = chipNow s; wear = s .wear }
 
 -- a line is played, and its row put into the log; the next line starts at `to`
-unfoldable pub lineDone : Record → Stand → List ℕ → List ℕ → ℕ → Stand
-lineDone rec s held line to =
-    let t : Turn = lineTurn rec (chipNow s) (s .wear) line in
-    let row : List ℕ = rowText rec (chipNow s) (s .wear) (s .run .number) line in
+unfoldable pub lineDone : Record → Bool → Stand → List ℕ → List ℕ → ℕ → Stand
+lineDone rec strict s held line to =
+    let t : Turn = lineTurn rec strict (chipNow s) (s .wear) line in
+    let row : List ℕ = rowText rec strict (chipNow s) (s .wear) (s .run .number) line in
     record {
       run = goesOn (record { next = s .run .filled + length row; state = t .played .state }) (s .run .number) to;
       held = held;
@@ -73,10 +73,10 @@ lineDone rec s held line to =
     }
 
 -- a line that lies in the block; one that began before it; none that ends in it
-abbrev pub cutTurn : Record → List ℕ → Stand → List ℕ → Cut → Stand
-cutTurn rec block s held (Here e) = lineDone rec s held (take (e - s .run .at) (drop (s .run .at) block)) (e + 1)
-cutTurn rec block s held (Joined n e) = lineDone rec s held (take n held) (e + 1)
-cutTurn rec block s held (Open n) =
+abbrev pub cutTurn : Record → Bool → List ℕ → Stand → List ℕ → Cut → Stand
+cutTurn rec strict block s held (Here e) = lineDone rec strict s held (take (e - s .run .at) (drop (s .run .at) block)) (e + 1)
+cutTurn rec strict block s held (Joined n e) = lineDone rec strict s held (take n held) (e + 1)
+cutTurn rec strict block s held (Open n) =
     record {
       run = stillOpen (s .run) n (length block);
       held = held;
@@ -86,21 +86,21 @@ cutTurn rec block s held (Open n) =
       log = s .log;
     }
 
-unfoldable pub feedTurn : Record → List ℕ → Stand → Stand
-feedTurn rec block s = cutTurn rec block s (heldOf (s .held) (s .run .used) block (s .run .at)) (cutOf (s .held) (s .run .used) block (s .run .at))
+unfoldable pub feedTurn : Record → Bool → List ℕ → Stand → Stand
+feedTurn rec strict block s = cutTurn rec strict block s (heldOf (s .held) (s .run .used) block (s .run .at)) (cutOf (s .held) (s .run .used) block (s .run .at))
 
 -- at most n turns, while the block is not used up and the log has room for the longest row
-abbrev pub feedFor : Record → List ℕ → ℕ → Stand → Stand
-feedFor rec block zero s = s
-feedFor rec block (suc n) s = cond (ltb (s .run .at) (length block) && leb (s .run .filled + longestRow) (length (s .log))) (feedFor rec block n (feedTurn rec block s)) s
+abbrev pub feedFor : Record → Bool → List ℕ → ℕ → Stand → Stand
+feedFor rec strict block zero s = s
+feedFor rec strict block (suc n) s = cond (ltb (s .run .at) (length block) && leb (s .run .filled + longestRow) (length (s .log))) (feedFor rec strict block n (feedTurn rec strict block s)) s
 
 -- each turn uses up a byte at least, so that the block's length is enough
-unfoldable pub feedOf : Record → List ℕ → Stand → Stand
-feedOf rec block s = feedFor rec block (length block) s
+unfoldable pub feedOf : Record → Bool → List ℕ → Stand → Stand
+feedOf rec strict block s = feedFor rec strict block (length block) s
 
 -- at the input's end a line that is held is the last one
-unfoldable pub lastOf : Record → Stand → Stand
-lastOf rec s = cond (eqb (s .run .used) 0) s (lineDone rec s (s .held) (take (s .run .used) (s .held)) (s .run .at))
+unfoldable pub lastOf : Record → Bool → Stand → Stand
+lastOf rec strict s = cond (eqb (s .run .used) 0) s (lineDone rec strict s (s .held) (take (s .run .used) (s .held)) (s .run .at))
 
 -- what a call gives and leaves in the lent buffers
 pub record Stands (t : Stand) (r : Run) (held page cells wear log : List ℕ) : Type 0 where

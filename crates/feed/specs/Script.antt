@@ -1,6 +1,6 @@
 -- A whole script, fed in blocks: what is written is the log of its lines. Assumes nothing.
 use mathlib.Core.Path.{_≡_}
-use mathlib.Core.Bool.{cond}
+use mathlib.Core.Bool.{Bool, cond}
 use mathlib.Core.List.{List, [], _∷_, _++_}
 use Prim.Native.Nat.{ℕ, zero, suc, _≤_}
 use lib.Dec.{ltb}
@@ -37,36 +37,36 @@ pub record Wrote : Type 0 where
   pub stand : Stand
 
 -- feed after feed, at most n of them, until the block is used up; the log is written out after each
-abbrev pub blockFor : Record → List ℕ → ℕ → Stand → Wrote
-blockFor rec block zero s = record { text = []; stand = s }
-blockFor rec block (suc n) s =
+abbrev pub blockFor : Record → Bool → List ℕ → ℕ → Stand → Wrote
+blockFor rec strict block zero s = record { text = []; stand = s }
+blockFor rec strict block (suc n) s =
     cond (ltb (s .run .at) (length block))
-    (record { text = filledPart (feedOf rec block s) ++ blockFor rec block n (emptied (feedOf rec block s)) .text; stand = blockFor rec block n (emptied (feedOf rec block s)) .stand })
+    (record { text = filledPart (feedOf rec strict block s) ++ blockFor rec strict block n (emptied (feedOf rec strict block s)) .text; stand = blockFor rec strict block n (emptied (feedOf rec strict block s)) .stand })
     (record { text = []; stand = s })
 
 -- each feed uses up a byte at least
-abbrev pub wholeBlock : Record → List ℕ → Stand → Wrote
-wholeBlock rec block s = blockFor rec block (length block) (begun s)
+abbrev pub wholeBlock : Record → Bool → List ℕ → Stand → Wrote
+wholeBlock rec strict block s = blockFor rec strict block (length block) (begun s)
 
 -- block after block, and at the input's end the line that is held
-abbrev pub writtenOf : Record → Stand → List (List ℕ) → List ℕ
-writtenOf rec s [] = filledPart (lastOf rec (begun s))
-writtenOf rec s (block ∷ blocks) = wholeBlock rec block s .text ++ writtenOf rec (wholeBlock rec block s .stand) blocks
+abbrev pub writtenOf : Record → Bool → Stand → List (List ℕ) → List ℕ
+writtenOf rec strict s [] = filledPart (lastOf rec strict (begun s))
+writtenOf rec strict s (block ∷ blocks) = wholeBlock rec strict block s .text ++ writtenOf rec strict (wholeBlock rec strict block s .stand) blocks
 
 -- where it stands after block after block, and after the input's end
-abbrev pub passedBlocks : Record → Stand → List (List ℕ) → Stand
-passedBlocks rec s [] = s
-passedBlocks rec s (block ∷ blocks) = passedBlocks rec (wholeBlock rec block s .stand) blocks
+abbrev pub passedBlocks : Record → Bool → Stand → List (List ℕ) → Stand
+passedBlocks rec strict s [] = s
+passedBlocks rec strict s (block ∷ blocks) = passedBlocks rec strict (wholeBlock rec strict block s .stand) blocks
 
-abbrev pub standAfter : Record → Stand → List (List ℕ) → Stand
-standAfter rec s blocks = lastOf rec (begun (passedBlocks rec s blocks))
+abbrev pub standAfter : Record → Bool → Stand → List (List ℕ) → Stand
+standAfter rec strict s blocks = lastOf rec strict (begun (passedBlocks rec strict s blocks))
 
 -- what is written is the log of the lines of all blocks together, whatever `line` is held at the start
 abbrev pub WholeScript : Type 0
-WholeScript = (rec : Record) (s : Stand) (line : List ℕ) (blocks : List (List ℕ)) → length (s .held) ≡ heldRoom → longestRow ≤ length (s .log) → Holds line (s .held) (s .run .used)
-    → writtenOf rec s blocks ≡ logFrom rec (chipNow s) (s .wear) (s .run .number) (linesFrom line (joinedUp blocks))
+WholeScript = (rec : Record) (strict : Bool) (s : Stand) (line : List ℕ) (blocks : List (List ℕ)) → length (s .held) ≡ heldRoom → longestRow ≤ length (s .log) → Holds line (s .held) (s .run .used)
+    → writtenOf rec strict s blocks ≡ logFrom rec strict (chipNow s) (s .wear) (s .run .number) (linesFrom line (joinedUp blocks))
 
 -- and chip and wear table are as those lines leave them
 abbrev pub WholeDevice : Type 0
-WholeDevice = (rec : Record) (s : Stand) (line : List ℕ) (blocks : List (List ℕ)) → length (s .held) ≡ heldRoom → longestRow ≤ length (s .log) → Holds line (s .held) (s .run .used)
-    → deviceNow (standAfter rec s blocks) ≡ deviceFrom rec (chipNow s) (s .wear) (linesFrom line (joinedUp blocks))
+WholeDevice = (rec : Record) (strict : Bool) (s : Stand) (line : List ℕ) (blocks : List (List ℕ)) → length (s .held) ≡ heldRoom → longestRow ≤ length (s .log) → Holds line (s .held) (s .run .used)
+    → deviceNow (standAfter rec strict s blocks) ≡ deviceFrom rec strict (chipNow s) (s .wear) (linesFrom line (joinedUp blocks))

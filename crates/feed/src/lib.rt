@@ -39,6 +39,7 @@ fn line_done(done: Logged, number: u64, at: usize) -> Run
 fn play_line(
     run: Run,
     rec: Record,
+    strict: bool,
     line: &[u8],
     to: usize,
     page: &mut [u8],
@@ -47,12 +48,23 @@ fn play_line(
     log: &mut [u8],
 ) -> Run
     requires { ⌜ run .filled + longestRow ≤ length (now log) ⌝ }
-    ensures { λ r. ⌜ Stands (lineDone rec (standing run [] (now (page .entry)) (now (array .entry)) (now (wear .entry)) (now (log .entry))) [] (now (line .entry)) to) r [] (now (page .exit)) (now (array .exit)) (now (wear .exit)) (now (log .exit)) ⌝ }
+    ensures { λ r. ⌜ Stands (lineDone rec strict (standing run [] (now (page .entry)) (now (array .entry)) (now (wear .entry)) (now (log .entry))) [] (now (line .entry)) to) r [] (now (page .exit)) (now (array .exit)) (now (wear .exit)) (now (log .exit)) ⌝ }
 {
     let chip = run.chip;
     let number = run.number;
     let filled = run.filled;
-    let done = stepper::log_line(number, line, rec, chip, page, array, wear, log, filled);
+    let done = stepper::log_line(
+        number,
+        line,
+        rec,
+        strict,
+        chip,
+        page,
+        array,
+        wear,
+        log,
+        filled,
+    );
     line_done(done, number, to)
 }
 
@@ -74,6 +86,7 @@ fn line_open(run: Run, used: usize, at: usize) -> Run
 fn turn(
     run: Run,
     rec: Record,
+    strict: bool,
     held: &mut [u8],
     block: &[u8],
     page: &mut [u8],
@@ -82,7 +95,7 @@ fn turn(
     log: &mut [u8],
 ) -> Run
     requires { ⌜ TurnStart run (now held) (now block) (now log) ⌝ }
-    ensures { λ r. ⌜ Stands (feedTurn rec (now (block .entry)) (standing run (now (held .entry)) (now (page .entry)) (now (array .entry)) (now (wear .entry)) (now (log .entry)))) r (now (held .exit)) (now (page .exit)) (now (array .exit)) (now (wear .exit)) (now (log .exit)) ⌝ }
+    ensures { λ r. ⌜ Stands (feedTurn rec strict (now (block .entry)) (standing run (now (held .entry)) (now (page .entry)) (now (array .entry)) (now (wear .entry)) (now (log .entry)))) r (now (held .exit)) (now (page .exit)) (now (array .exit)) (now (wear .exit)) (now (log .exit)) ⌝ }
 {
     let used = run.used;
     let at = run.at;
@@ -90,11 +103,11 @@ fn turn(
     match cut {
         Cut::Here { end } => {
             let line = &block[at..end];
-            play_line(run, rec, line, end + 1, page, array, wear, log)
+            play_line(run, rec, strict, line, end + 1, page, array, wear, log)
         }
         Cut::Joined { used: n, end } => {
             let line = &held[0..n];
-            play_line(run, rec, line, end + 1, page, array, wear, log)
+            play_line(run, rec, strict, line, end + 1, page, array, wear, log)
         }
         Cut::Open { used: n } => line_open(run, n, block.len()),
     }
@@ -104,6 +117,7 @@ fn turn(
 pub fn feed(
     first: Run,
     rec: Record,
+    strict: bool,
     held: &mut [u8],
     block: &[u8],
     page: &mut [u8],
@@ -112,7 +126,7 @@ pub fn feed(
     log: &mut [u8],
 ) -> Run
     requires { ⌜ Start first (now held) (now block) (now log) ⌝ }
-    ensures { λ r. ⌜ Stands (feedOf rec (now (block .entry)) (standing first (now (held .entry)) (now (page .entry)) (now (array .entry)) (now (wear .entry)) (now (log .entry)))) r (now (held .exit)) (now (page .exit)) (now (array .exit)) (now (wear .exit)) (now (log .exit)) ⌝ }
+    ensures { λ r. ⌜ Stands (feedOf rec strict (now (block .entry)) (standing first (now (held .entry)) (now (page .entry)) (now (array .entry)) (now (wear .entry)) (now (log .entry)))) r (now (held .exit)) (now (page .exit)) (now (array .exit)) (now (wear .exit)) (now (log .exit)) ⌝ }
 {
     let mut run = first;
     let mut at = first.at;
@@ -121,7 +135,7 @@ pub fn feed(
         if log.len() - filled < log::LONGEST_ROW {
             return run;
         }
-        run = turn(run, rec, held, block, page, array, wear, log);
+        run = turn(run, rec, strict, held, block, page, array, wear, log);
         at = run.at;
     }
     run
@@ -131,6 +145,7 @@ pub fn feed(
 pub fn finish(
     run: Run,
     rec: Record,
+    strict: bool,
     held: &[u8],
     page: &mut [u8],
     array: &mut [u8],
@@ -138,7 +153,7 @@ pub fn finish(
     log: &mut [u8],
 ) -> usize
     requires { ⌜ (length (now held) ≡ heldRoom) × (run .used ≤ heldRoom) × (run .filled + longestRow ≤ length (now log)) ⌝ }
-    ensures { λ r. ⌜ Finishes (lastOf rec (standing run (now (held .entry)) (now (page .entry)) (now (array .entry)) (now (wear .entry)) (now (log .entry)))) r (now (page .exit)) (now (array .exit)) (now (wear .exit)) (now (log .exit)) ⌝ }
+    ensures { λ r. ⌜ Finishes (lastOf rec strict (standing run (now (held .entry)) (now (page .entry)) (now (array .entry)) (now (wear .entry)) (now (log .entry)))) r (now (page .exit)) (now (array .exit)) (now (wear .exit)) (now (log .exit)) ⌝ }
 {
     let used = run.used;
     let filled = run.filled;
@@ -146,6 +161,6 @@ pub fn finish(
         return filled;
     }
     let line = &held[0..used];
-    let done = play_line(run, rec, line, run.at, page, array, wear, log);
+    let done = play_line(run, rec, strict, line, run.at, page, array, wear, log);
     done.filled
 }

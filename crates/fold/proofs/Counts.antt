@@ -1,6 +1,6 @@
 -- The byte that counts at an offset, and the sheet's sentences on a cell. Assumes nothing.
 use mathlib.Core.Path.{_≡_, refl, sym, ap, _∙_}
-use mathlib.Core.Bool.{Bool, true, false}
+use mathlib.Core.Bool.{Bool, true, false, cond}
 use mathlib.Core.List.{List}
 use Prim.Native.Nat.{ℕ, zero, suc, _+_, _-_, _%_, _≤_, _<_}
 use native.Mathlib.Nat.{not-suc-le-zero}
@@ -11,6 +11,7 @@ use lib.ListN.{length, drop, getD}
 use lib.Seq.{getD-drop}
 use borrow.Author.Tests.{eqb-true, eqb-false, lt-ltb, ltb-true, ltb-false}
 use Rattle.cells.specs.Cell.{FF}
+use Rattle.parts.specs.Parts.{Bytes}
 use Rattle.fold.specs.Fold.{counts, cellAfter, folds}
 use Rattle.fold.specs.Sheet.{LastCounts, UnreachedStays, OnlyFalls, FoldsWhen, FoldsOnlyWhen, StraightOn}
 use Rattle.cells.proofs.Cell.{and-ff, and-falls}
@@ -50,9 +51,12 @@ unfolding cellAfter
 only-falls b a sent k old = and-falls b old (counts a sent (length sent) k)
 
 -- a byte that is sent counts, where no more than 256 are
+pub each-counts : (a : ℕ) (sent : List ℕ) (i k : ℕ) → length sent ≤ 256 → i < length sent → (a + i) % 256 ≡ k → counts a sent (length sent) k ≡ getD sent i 0
+each-counts a sent i k n l e = last-counts a sent (length sent) i k l e (λ j x y z. omega arith)
+
 pub sent-counts : (a : ℕ) (sent : List ℕ) (i k old : ℕ) → length sent ≤ 256 → i < length sent → (a + i) % 256 ≡ k → cellAfter a sent k old ≡ bitAnd old (getD sent i 0)
 unfolding cellAfter
-sent-counts a sent i k old n l e = ap (bitAnd old) (last-counts a sent (length sent) i k l e (λ j x y z. omega arith))
+sent-counts a sent i k old n l e = ap (bitAnd old) (each-counts a sent i k n l e)
 
 -- the last 256 bytes reach every offset, so no other counts
 pub counts-tail : (a f : ℕ) (sent : List ℕ) (k : ℕ) → k < 256 → counts ((a + f) % 256) (drop f sent) 256 k ≡ counts a sent (f + 256) k
@@ -62,6 +66,16 @@ counts-tail a f sent k l =
     last-counts b (drop f sent) 256 j k (omega arith) (omega arith) (λ i x y e. omega arith)
     ∙ getD-drop f sent j 0
     ∙ sym (last-counts a sent (f + 256) (f + j) k (omega arith) (omega arith) (λ i x y e. omega arith))
+
+-- what counts is a byte
+pub counts-byte : (a : ℕ) {sent : List ℕ} (n k : ℕ) → Bytes sent → counts a sent n k < 256
+unfolding counts
+counts-byte a zero k b = omega arith
+counts-byte a {sent} (suc m) k b = go (eqb ((a + m) % 256) k) (counts-byte a m k b)
+  where
+    go : (t : Bool) → counts a sent m k < 256 → cond t (getD sent m 0) (counts a sent m k) < 256
+    go true l = b .below m
+    go false l = l
 
 -- ---- whether a program folds
 pub folds-when : FoldsWhen

@@ -39,12 +39,10 @@ unfolding cellAfter
 bytes-pageAfter a sent {page} p =
     bytes (λ k l. rw (pageAfter-at a sent page k (omega (arith, length-pageAfter a sent page))) (and-byte (getD page k 0) _ (p .below k)))
 
--- more than 256 bytes do what their last 256 do, from where those fall
-pub page-tail : (a f : ℕ) (sent page : List ℕ) → length sent ≡ f + 256 → length page ≡ 256 → pageAfter ((a + f) % 256) (part sent f 256) page ≡ pageAfter a sent page
-unfolding cellAfter
-page-tail a f sent page e p =
-    pageAfter-is a sent page (pageAfter ((a + f) % 256) (part sent f 256) page) (length-pageAfter ((a + f) % 256) (part sent f 256) page)
-    (λ k l. pageAfter-at ((a + f) % 256) (part sent f 256) page k l ∙ ap (bitAnd (getD page k 0)) (same k (omega arith)))
+-- of more than 256 bytes their last 256 count, from where those fall
+pub tail-counts : (a f : ℕ) (sent : List ℕ) (k : ℕ) → length sent ≡ f + 256 → k < 256
+    → counts ((a + f) % 256) (part sent f 256) (length (part sent f 256)) k ≡ counts a sent (length sent) k
+tail-counts a f sent k e l = rw (long, tail, e) (counts-tail a f sent k l)
   where
     tail : part sent f 256 ≡ drop f sent
     tail = take-all 256 (drop f sent) (simp length-drop (omega arith))
@@ -52,8 +50,12 @@ page-tail a f sent page e p =
     long : length (part sent f 256) ≡ 256
     long = length-part sent f 256 (omega arith)
 
-    same : (k : ℕ) → k < 256 → counts ((a + f) % 256) (part sent f 256) (length (part sent f 256)) k ≡ counts a sent (length sent) k
-    same k l = rw (long, tail, e) (counts-tail a f sent k l)
+-- so they do what all do
+pub page-tail : (a f : ℕ) (sent page : List ℕ) → length sent ≡ f + 256 → length page ≡ 256 → pageAfter ((a + f) % 256) (part sent f 256) page ≡ pageAfter a sent page
+unfolding cellAfter
+page-tail a f sent page e p =
+    pageAfter-is a sent page (pageAfter ((a + f) % 256) (part sent f 256) page) (length-pageAfter ((a + f) % 256) (part sent f 256) page)
+    (λ k l. pageAfter-at ((a + f) % 256) (part sent f 256) page k l ∙ ap (bitAnd (getD page k 0)) (tail-counts a f sent k e (omega arith)))
 
 -- bytes that end within the page: before them and after them every cell stays, the others are ANDed
 module _ (a : ℕ) (sent page : List ℕ) (h : a + length sent ≤ 256) (p : length page ≡ 256) (b : Bytes page) where

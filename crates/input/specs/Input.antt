@@ -31,15 +31,15 @@ abbrev pub endedAt : Run → Bool → Next
 endedAt run well = record { run = run; on = false; well = well }
 
 -- a block from s on: where it goes on, the whole block was played, and else not all went well
-pub record BlockPlayed (rec : Record) (block : List ℕ) (s : Stand) (r : Next) (held page cells wear log : List ℕ) : Type 0 where
+pub record BlockPlayed (rec : Record) (strict : Bool) (block : List ℕ) (s : Stand) (r : Next) (held page cells wear log : List ℕ) : Type 0 where
   pub used : r .run .used ≤ heldRoom
-  pub whole : r .on ≡ true → Stands (wholeBlock rec block s .stand) (r .run) held page cells wear log
+  pub whole : r .on ≡ true → Stands (wholeBlock rec strict block s .stand) (r .run) held page cells wear log
   pub broken : r .on ≡ false → r .well ≡ false
 
 -- some block brought it from s to t
-pub record SomeBlock (rec : Record) (s t : Stand) : Type 0 where
+pub record SomeBlock (rec : Record) (strict : Bool) (s t : Stand) : Type 0 where
   pub block : List ℕ
-  pub is : t ≡ wholeBlock rec block s .stand
+  pub is : t ≡ wholeBlock rec strict block s .stand
 
 -- page data, array and table are those of t
 pub record Kept (t : Stand) (page cells wear : List ℕ) : Type 0 where
@@ -48,14 +48,14 @@ pub record Kept (t : Stand) (page cells wear : List ℕ) : Type 0 where
   pub wear′ : wear ≡ t .wear
 
 -- one read from s on: where it goes on, some block was read and played; where it has ended well, the last line was
-pub record BlockRead (rec : Record) (s : Stand) (r : Next) (held page cells wear log : List ℕ) : Type 0 where
+pub record BlockRead (rec : Record) (strict : Bool) (s : Stand) (r : Next) (held page cells wear log : List ℕ) : Type 0 where
   pub used : r .run .used ≤ heldRoom
-  pub more : r .on ≡ true → SomeBlock rec s (standing (r .run) held page cells wear log)
-  pub last : r .on ≡ false → r .well ≡ true → Kept (lastOf rec (begun s)) page cells wear
+  pub more : r .on ≡ true → SomeBlock rec strict s (standing (r .run) held page cells wear log)
+  pub last : r .on ≡ false → r .well ≡ true → Kept (lastOf rec strict (begun s)) page cells wear
 
 -- a script was played from power-on: page data, array and wear table are as its lines leave them
-pub record ScriptPlayed (rec : Record) (page cells wear page′ cells′ wear′ : List ℕ) : Type 0 where
+pub record ScriptPlayed (rec : Record) (strict : Bool) (page cells wear page′ cells′ wear′ : List ℕ) : Type 0 where
   pub script : List ℕ
-  pub page-is : page′ ≡ deviceFrom rec (chipOf powerOn page cells) wear (linesFrom [] script) .chip .page
-  pub cells-are : cells′ ≡ deviceFrom rec (chipOf powerOn page cells) wear (linesFrom [] script) .chip .cells
-  pub wear-is : wear′ ≡ deviceFrom rec (chipOf powerOn page cells) wear (linesFrom [] script) .wear
+  pub page-is : page′ ≡ deviceFrom rec strict (chipOf powerOn page cells) wear (linesFrom [] script) .chip .page
+  pub cells-are : cells′ ≡ deviceFrom rec strict (chipOf powerOn page cells) wear (linesFrom [] script) .chip .cells
+  pub wear-is : wear′ ≡ deviceFrom rec strict (chipOf powerOn page cells) wear (linesFrom [] script) .wear

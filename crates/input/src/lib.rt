@@ -100,6 +100,7 @@ fn ended(run: Run, well: bool) -> Next
 fn feed_block(
     first: Run,
     rec: Record,
+    strict: bool,
     held: &mut [u8],
     bytes: &[u8],
     n: usize,
@@ -110,13 +111,13 @@ fn feed_block(
     written: bool,
 ) -> Next
     requires { ⌜ BlockStart first (now held) (now log) × (n ≤ length (now bytes)) ⌝ }
-    ensures { λ r. ⌜ BlockPlayed rec (take n (now (bytes .entry))) (standing first (now (held .entry)) (now (page .entry)) (now (array .entry)) (now (wear .entry)) (now (log .entry))) r (now (held .exit)) (now (page .exit)) (now (array .exit)) (now (wear .exit)) (now (log .exit)) ⌝ }
+    ensures { λ r. ⌜ BlockPlayed rec strict (take n (now (bytes .entry))) (standing first (now (held .entry)) (now (page .entry)) (now (array .entry)) (now (wear .entry)) (now (log .entry))) r (now (held .exit)) (now (page .exit)) (now (array .exit)) (now (wear .exit)) (now (log .exit)) ⌝ }
 {
     let block = &bytes[0..n];
     let mut run = at_block(first);
     let mut at = 0;
     while at < block.len() {
-        let fed = feed::feed(run, rec, held, block, page, array, wear, log);
+        let fed = feed::feed(run, rec, strict, held, block, page, array, wear, log);
         at = fed.at;
         run = emptied(fed);
         if !flush(log, fed.filled, written) {
@@ -134,6 +135,7 @@ fn feed_block(
 fn finish(
     run: Run,
     rec: Record,
+    strict: bool,
     held: &mut [u8],
     page: &mut [u8],
     array: &mut [u8],
@@ -142,9 +144,9 @@ fn finish(
     written: bool,
 ) -> bool
     requires { ⌜ BlockStart run (now held) (now log) ⌝ }
-    ensures { λ _. ⌜ Kept (lastOf rec (begun (standing run (now (held .entry)) (now (page .entry)) (now (array .entry)) (now (wear .entry)) (now (log .entry))))) (now (page .exit)) (now (array .exit)) (now (wear .exit)) ⌝ }
+    ensures { λ _. ⌜ Kept (lastOf rec strict (begun (standing run (now (held .entry)) (now (page .entry)) (now (array .entry)) (now (wear .entry)) (now (log .entry))))) (now (page .exit)) (now (array .exit)) (now (wear .exit)) ⌝ }
 {
-    let filled = feed::finish(at_block(run), rec, held, page, array, wear, log);
+    let filled = feed::finish(at_block(run), rec, strict, held, page, array, wear, log);
     flush(log, filled, written)
 }
 
@@ -152,6 +154,7 @@ fn finish(
 fn read_block(
     run: Run,
     rec: Record,
+    strict: bool,
     held: &mut [u8],
     block: &mut [u8],
     page: &mut [u8],
@@ -161,7 +164,7 @@ fn read_block(
     written: bool,
 ) -> Next
     requires { ⌜ BlockStart run (now held) (now log) ⌝ }
-    ensures { λ r. ⌜ BlockRead rec (standing run (now (held .entry)) (now (page .entry)) (now (array .entry)) (now (wear .entry)) (now (log .entry))) r (now (held .exit)) (now (page .exit)) (now (array .exit)) (now (wear .exit)) (now (log .exit)) ⌝ }
+    ensures { λ r. ⌜ BlockRead rec strict (standing run (now (held .entry)) (now (page .entry)) (now (array .entry)) (now (wear .entry)) (now (log .entry))) r (now (held .exit)) (now (page .exit)) (now (array .exit)) (now (wear .exit)) (now (log .exit)) ⌝ }
 {
     let got = libc::read(STDIN_FILENO, block);
     if got < 0 {
@@ -170,15 +173,28 @@ fn read_block(
     }
     let n = io::count(got, block);
     if n == 0 {
-        let well = finish(run, rec, held, page, array, wear, log, written);
+        let well = finish(run, rec, strict, held, page, array, wear, log, written);
         return ended(run, well);
     }
-    feed_block(run, rec, held, block, n, page, array, wear, log, written)
+    feed_block(
+        run,
+        rec,
+        strict,
+        held,
+        block,
+        n,
+        page,
+        array,
+        wear,
+        log,
+        written,
+    )
 }
 
 // Block after block, from power-on.
 fn play_blocks(
     rec: Record,
+    strict: bool,
     page: &mut [u8],
     array: &mut [u8],
     wear: &mut [u32],
@@ -186,7 +202,7 @@ fn play_blocks(
     written: bool,
 ) -> bool
     requires { ⌜ longestRow ≤ length (now log) ⌝ }
-    ensures { λ r. ⌜ (r ≡ true → ScriptPlayed rec (now (page .entry)) (now (array .entry)) (now (wear .entry)) (now (page .exit)) (now (array .exit)) (now (wear .exit))) ⌝ }
+    ensures { λ r. ⌜ (r ≡ true → ScriptPlayed rec strict (now (page .entry)) (now (array .entry)) (now (wear .entry)) (now (page .exit)) (now (array .exit)) (now (wear .exit))) ⌝ }
 {
     let mut held = [0u8; 641];
     let mut block = io::large_buffer();
@@ -196,6 +212,7 @@ fn play_blocks(
         let next = read_block(
             run,
             rec,
+            strict,
             &mut held,
             &mut block,
             page,
@@ -217,17 +234,18 @@ fn play_blocks(
 // its end and every row was written, where rows are; if not, standard error says why.
 pub fn play_input(
     rec: Record,
+    strict: bool,
     page: &mut [u8],
     array: &mut [u8],
     wear: &mut [u32],
     written: bool,
 ) -> bool
-    ensures { λ r. ⌜ (r ≡ true → ScriptPlayed rec (now (page .entry)) (now (array .entry)) (now (wear .entry)) (now (page .exit)) (now (array .exit)) (now (wear .exit))) ⌝ }
+    ensures { λ r. ⌜ (r ≡ true → ScriptPlayed rec strict (now (page .entry)) (now (array .entry)) (now (wear .entry)) (now (page .exit)) (now (array .exit)) (now (wear .exit))) ⌝ }
 {
     let mut log = io::large_buffer();
     let headed = log::put_header(&mut log, 0);
     if !flush(&log, headed, written) {
         return false;
     }
-    play_blocks(rec, page, array, wear, &mut log, written)
+    play_blocks(rec, strict, page, array, wear, &mut log, written)
 }

@@ -1,6 +1,6 @@
 -- The stages, one after the other, are the one table. Assumes nothing.
-use mathlib.Core.Path.{_≡_, refl, ap, _∙_}
-use mathlib.Core.Bool.{Bool, true, false, not, _&&_, cond}
+use mathlib.Core.Path.{_≡_, refl, sym, ap, _∙_}
+use mathlib.Core.Bool.{Bool, true, false, not, _&&_, cond, true≢false}
 use mathlib.Core.List.{List, [], _∷_, _++_}
 use lib.ListN.{take, drop}
 use borrow.Author.Tests.{not-true}
@@ -11,10 +11,10 @@ use Rattle.states.specs.declared.State.{State}
 use Rattle.commands.specs.declared.Traits.{Traits}
 use Rattle.commands.proofs.Rows.{no-latch}
 use Rattle.answers.specs.declared.Answer.{Answer}
-use Rattle.answers.specs.declared.Answer.the-variants.{Done, WornOut}
+use Rattle.answers.specs.declared.Answer.the-variants.{Done, WornOut, NotErased}
 use Rattle.ladder.specs.declared.Head.{Head}
 use Rattle.ladder.specs.Ladder.{Rung, firstOf, ladder, asks, refusalOf}
-use Rattle.ladder.specs.Stages.{givenOf, saidOf, heardOf, allowedOf, lastRow}
+use Rattle.ladder.specs.Stages.{givenOf, saidOf, heardOf, allowedOf, lastRows}
 
 -- no row of a table answers 0
 abbrev pub honest : List Rung → Bool
@@ -34,8 +34,8 @@ joined (r ∷ rs) ys h = go (r .bad) (joined rs ys (k .1))
     go false e = e
 
 pub one-table : (rec : Record) (s : State) (h : Head)
-    → refusalOf rec s h ≡ cond (isDone (givenOf rec s h)) (cond (isDone (saidOf rec s h)) (lastRow rec s h) (saidOf rec s h)) (givenOf rec s h)
-unfolding refusalOf givenOf saidOf lastRow
+    → refusalOf rec s h ≡ cond (isDone (givenOf rec s h)) (cond (isDone (saidOf rec s h)) (lastRows rec s h) (saidOf rec s h)) (givenOf rec s h)
+unfolding refusalOf givenOf saidOf lastRows
 one-table rec s h =
     let rows = ladder rec s h (asks rec h) in
     joined (take 6 rows) (drop 6 rows) refl
@@ -58,12 +58,21 @@ module _ (rec : Record) (s : State) (h : Head) where
   pub stops-said : isDone (givenOf rec s h) ≡ true → isDone (saidOf rec s h) ≡ false → refusalOf rec s h ≡ saidOf rec s h
   stops-said e f = one-table rec s h ∙ rw (e, f)
 
-  pub goes-on : isDone (givenOf rec s h) ≡ true → isDone (saidOf rec s h) ≡ true → refusalOf rec s h ≡ lastRow rec s h
+  pub goes-on : isDone (givenOf rec s h) ≡ true → isDone (saidOf rec s h) ≡ true → refusalOf rec s h ≡ lastRows rec s h
   goes-on e f = one-table rec s h ∙ rw (e, f)
 
-  -- the last row looks at nothing but the wear table
-  pub last-is : lastRow rec s h ≡ cond (h .worn) WornOut Done
-  unfolding lastRow
+  -- and a frame that nothing refuses has passed both
+  pub both-pass : isDone (refusalOf rec s h) ≡ true → (isDone (givenOf rec s h) ≡ true) × (isDone (saidOf rec s h) ≡ true)
+  both-pass e = go (isDone (givenOf rec s h)) refl (isDone (saidOf rec s h)) refl
+    where
+      go : (a : Bool) → isDone (givenOf rec s h) ≡ a → (b : Bool) → isDone (saidOf rec s h) ≡ b → (a ≡ true) × (b ≡ true)
+      go true p true q = (refl, refl)
+      go true p false q = absurd (true≢false (sym e ∙ ap isDone (stops-said p q) ∙ q))
+      go false p b q = absurd (true≢false (sym e ∙ ap isDone (stops-given p) ∙ p))
+
+  -- the last rows look at nothing but what the cells and the wear table say
+  pub last-is : lastRows rec s h ≡ cond (h .over) NotErased (cond (h .worn) WornOut Done)
+  unfolding lastRows
   last-is = refl
 
   pub stops-heard : isDone (heardOf rec s h k) ≡ false → saidOf rec s h ≡ heardOf rec s h k

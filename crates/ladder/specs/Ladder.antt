@@ -10,7 +10,7 @@ use Rattle.states.specs.declared.Record.{Record}
 use Rattle.states.specs.declared.State.{State}
 use Rattle.commands.specs.declared.Traits.{Traits}
 use Rattle.answers.specs.declared.Answer.{Answer}
-use Rattle.answers.specs.declared.Answer.the-variants.{Done, BadRecord, BadArray, BadState, BadFrame, ShortOut, Empty, Settling, Busy, Asleep, NoCommand, BadLength, NotEnabled, Locked, Protected, BadTable, WornOut}
+use Rattle.answers.specs.declared.Answer.the-variants.{Done, BadRecord, BadArray, BadState, BadFrame, ShortOut, Empty, Settling, Busy, Asleep, NoCommand, BadLength, NotEnabled, Locked, Protected, BadTable, WornOut, NotErased}
 use Rattle.ladder.specs.declared.Head.{Head}
 
 -- a row of the table: a test, and the answer where it holds
@@ -53,6 +53,7 @@ ladder rec s h k =
     ∷ ((k .latch && not (s .wel)) gives NotEnabled)
     ∷ ((k .lock && (s .srwd && not (h .wp))) gives Locked)
     ∷ (guarded rec s k h gives Protected)
+    ∷ (h .over gives NotErased)
     ∷ (h .worn gives WornOut)
     ∷ []
 

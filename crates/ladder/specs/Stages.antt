@@ -1,4 +1,4 @@
--- The table in stages, for the code: rows 1 to 5 with 24 among them; what the frame says: rows 10, 22 and 11 to 14, and 15 to 17; and what its wear table says: 25.
+-- The table in stages, for the code: rows 1 to 5 with 24 among them; what the frame says: rows 10, 22 and 11 to 14, and 15 to 17; and what the cells and the wear table say: 19 and 25.
 -- proofs/Stages.antt shows that they are the one table.
 -- Assumes nothing.
 use lib.ListN.{take, drop}
@@ -22,5 +22,5 @@ heardOf rec s h k = firstOf (take 6 (drop 6 (ladder rec s h k)))
 unfoldable pub allowedOf : Record → State → Head → Traits → Answer
 allowedOf rec s h k = firstOf (take 3 (drop 12 (ladder rec s h k)))
 
-unfoldable pub lastRow : Record → State → Head → Answer
-lastRow rec s h = firstOf (drop 15 (ladder rec s h (asks rec h)))
+unfoldable pub lastRows : Record → State → Head → Answer
+lastRows rec s h = firstOf (drop 15 (ladder rec s h (asks rec h)))

@@ -9,7 +9,8 @@ use states::State;
 use units::Address;
 
 // What the refusals look at of one frame: the cells of the array and the counts of the wear table that it is given, whether the page data fit the state, its whole bytes,
-// tail bits and WP# level, the room of its output, its command, its address in the array, and whether it erases a sector whose count is at its top.
+// tail bits and WP# level, the room of its output, its command, its address in the array, whether it
+// programs over old data under the strict setting, and whether it erases a sector whose count is at its top.
 pub struct Head {
     pub cells: usize,
     pub sectors: usize,
@@ -20,6 +21,7 @@ pub struct Head {
     pub room: usize,
     pub command: Command,
     pub address: Address,
+    pub over: bool,
     pub worn: bool,
 }
 

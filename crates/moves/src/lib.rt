@@ -5,12 +5,13 @@ use play::Played;
 use states::Record;
 use states::State;
 
-// The chip that is worked: its model, the length of its array and of its wear table, the first of the cells that are looked at, and what the
-// last step came to.
+// The chip that is worked: its model, the length of its array and of its wear table, the strict setting, the first of the cells that are looked
+// at, and what the last step came to.
 pub struct Setup {
     pub model: u8,
     pub size: usize,
     pub sectors: usize,
+    pub strict: bool,
     pub look: u32,
     pub last: Played,
 }
@@ -66,6 +67,7 @@ pub fn fresh(
         model,
         size: 65536 * wide(blocks) as usize,
         sectors: sectors as usize,
+        strict: false,
         look: 0,
         last,
     }
@@ -130,6 +132,7 @@ fn set_count(says: &[u8; 16], wear: &mut [u32]) {
 // A frame of any length, tail and room.
 fn send(
     rec: Record,
+    strict: bool,
     st: State,
     page: &mut [u8],
     array: &[u8],
@@ -138,7 +141,18 @@ fn send(
     tail: u8,
     out: &mut [u8],
 ) -> Played {
-    let r = chip::frame(rec, st, page, array, wear, frame, wide(tail), true, out);
+    let r = chip::frame(
+        rec,
+        st,
+        page,
+        array,
+        wear,
+        frame,
+        wide(tail),
+        true,
+        strict,
+        out,
+    );
     let answer = r.answer;
     let state = r.state;
     Played {
@@ -160,14 +174,15 @@ fn long_frame(says: &[u8; 16]) -> [u8; 65600] {
 }
 
 fn send_long(
-    rec: Record,
-    st: State,
+    setup: Setup,
     says: &[u8; 16],
     page: &mut [u8],
     array: &[u8],
     wear: &mut [u32],
     out: &mut [u8],
 ) -> Played {
+    let last = setup.last;
+    let st = last.state;
     let count = number(says[0], says[1], says[2]) as usize;
     let room = number(says[3], says[4], says[5]) as usize;
     if 65600 < count {
@@ -178,7 +193,8 @@ fn send_long(
     }
     let frame = long_frame(says);
     send(
-        rec,
+        record_of(setup.model),
+        setup.strict,
         st,
         page,
         array,
@@ -187,6 +203,21 @@ fn send_long(
         says[6],
         &mut out[0..room],
     )
+}
+
+// A line of a script.
+fn play_line(
+    setup: Setup,
+    line: &[u8],
+    page: &mut [u8],
+    array: &mut [u8],
+    wear: &mut [u32],
+    out: &mut [u8],
+) -> Played {
+    let rec = record_of(setup.model);
+    let last = setup.last;
+    let st = last.state;
+    play::play(line, rec, setup.strict, st, page, array, wear, out)
 }
 
 // The bytes that a line has in hex after its letter and tab, over others.
@@ -213,6 +244,12 @@ fn with_last(setup: Setup, last: Played) -> Setup {
     next
 }
 
+fn with_strict(setup: Setup, strict: bool) -> Setup {
+    let mut next = setup;
+    next.strict = strict;
+    next
+}
+
 fn with_look(setup: Setup, look: u32) -> Setup {
     let mut next = setup;
     next.look = look;
@@ -227,9 +264,6 @@ pub fn step(
     wear: &mut [u32],
     out: &mut [u8; 65600],
 ) -> Setup {
-    let rec = record_of(setup.model);
-    let last = setup.last;
-    let st = last.state;
     let says = read(line);
     match letter(line) {
         b'S' => {
@@ -248,10 +282,9 @@ pub fn step(
             set_count(&says, wear);
             setup
         }
+        b'O' => with_strict(setup, says[0] != 0),
         b'L' => with_look(setup, number(says[0], says[1], says[2])),
-        b'X' => with_last(setup, send_long(rec, st, &says, page, array, wear, out)),
-        _ => with_last(setup, play::play(line, rec, st, page, array, wear, out)),
+        b'X' => with_last(setup, send_long(setup, &says, page, array, wear, out)),
+        _ => with_last(setup, play_line(setup, line, page, array, wear, out)),
     }
 }
-
-// ---- lines

@@ -1,5 +1,5 @@
 -- A part of a list, and a list with one part replaced. Every change of a lent slice is said by `lay`. Assumes nothing.
-use mathlib.Core.Bool.{Bool, true, _&&_}
+use mathlib.Core.Bool.{Bool, true, false, _&&_, _||_}
 use mathlib.Core.List.{List, [], _∷_, _++_}
 use Prim.Native.Nat.{ℕ, suc, _+_, _<_}
 use lib.Dec.{eqb}
@@ -20,6 +20,14 @@ mapFrom f k (x ∷ xs) = f k x ∷ mapFrom f (suc k) xs
 
 abbrev pub byIndex : (ℕ → ℕ → ℕ) → List ℕ → List ℕ
 byIndex f xs = mapFrom f 0 xs
+
+-- whether f k x of some element x, k being its index, counted from 0
+abbrev pub someFrom : (ℕ → ℕ → Bool) → ℕ → List ℕ → Bool
+someFrom f k [] = false
+someFrom f k (x ∷ xs) = f k x || someFrom f (suc k) xs
+
+abbrev pub someByIndex : (ℕ → ℕ → Bool) → List ℕ → Bool
+someByIndex f xs = someFrom f 0 xs
 
 -- whether each element is that number
 abbrev pub allAre : ℕ → List ℕ → Bool

@@ -39,12 +39,12 @@ unhexed-front {digits} {d} {e} {r} m l u =
     let z : r - 0 ≡ length (take m bs) = omega arith in
     ap (λ (k : ℕ). take k e) z ∙ ap (take (length (take m bs))) is ∙ take-at (take m bs) (drop r d) (length (take m bs)) refl
 
-pub frame-plays : (rec : Record) (x : Chip) (wear shown line : List ℕ) (wp : Bool) (tail : ℕ) {frame : List ℕ} {r : Reply} {number : ℕ} {ps ws os : List ℕ}
-    → frame ≡ take 300 (hexBytes (drop 6 line)) → Gives (frameOf rec x (sentOf frame tail wp wear shown)) r ps ws os → number ≡ numberOf (r .answer)
-    → Plays (frameTurn rec x wear shown line wp tail) (record { answer = number; from = r .from; count = r .count; state = r .state; fold = r .fold }) ps (x .cells) ws os
+pub frame-plays : (rec : Record) (strict : Bool) (x : Chip) (wear shown line : List ℕ) (wp : Bool) (tail : ℕ) {frame : List ℕ} {r : Reply} {number : ℕ} {ps ws os : List ℕ}
+    → frame ≡ take 300 (hexBytes (drop 6 line)) → Gives (frameOf rec x (sentOf frame tail wp strict wear shown)) r ps ws os → number ≡ numberOf (r .answer)
+    → Plays (frameTurn rec strict x wear shown line wp tail) (record { answer = number; from = r .from; count = r .count; state = r .state; fold = r .fold }) ps (x .cells) ws os
 unfolding frameTurn
-frame-plays rec x wear shown line wp tail {frame} {r} {number} {ps} {ws} {os} e g n =
-    let h = subst (λ (z : List ℕ). Gives (frameOf rec x (sentOf z tail wp wear shown)) r ps ws os) e g in
+frame-plays rec strict x wear shown line wp tail {frame} {r} {number} {ps} {ws} {os} e g n =
+    let h = subst (λ (z : List ℕ). Gives (frameOf rec x (sentOf z tail wp strict wear shown)) r ps ws os) e g in
     record {
       played =
           ap (λ (k : ℕ). record { answer = k; from = r .from; count = r .count; state = r .state; fold = r .fold }) n
@@ -69,23 +69,23 @@ wait-plays o wear shown {a} {r} {ps} {xs} e w =
     }
 
 -- what the line in hand says
-pub at-line : (rec : Record) (x : Chip) (wear shown line : List ℕ) {l : Line} {r : Played} {ps xs ws os : List ℕ} → l ≡ lineOf line → (k : Line) → l ≡ k
-    → Plays (turnOf rec x wear shown line k) r ps xs ws os → Plays (playOf rec x wear shown line) r ps xs ws os
-at-line rec x wear shown line {l} {r} {ps} {xs} {ws} {os} e k f p = subst (λ (z : Line). Plays (turnOf rec x wear shown line z) r ps xs ws os) (sym f ∙ e) p
+pub at-line : (rec : Record) (strict : Bool) (x : Chip) (wear shown line : List ℕ) {l : Line} {r : Played} {ps xs ws os : List ℕ} → l ≡ lineOf line → (k : Line) → l ≡ k
+    → Plays (turnOf rec strict x wear shown line k) r ps xs ws os → Plays (playOf rec strict x wear shown line) r ps xs ws os
+at-line rec strict x wear shown line {l} {r} {ps} {xs} {ws} {os} e k f p = subst (λ (z : Line). Plays (turnOf rec strict x wear shown line z) r ps xs ws os) (sym f ∙ e) p
 
 -- ---- what a line drives lies in its frame
-turn-within : (rec : Record) (x : Chip) (wear shown line : List ℕ) (l : Line)
-    → turnOf rec x wear shown line l .played .from + turnOf rec x wear shown line l .played .count ≤ 300
+turn-within : (rec : Record) (strict : Bool) (x : Chip) (wear shown line : List ℕ) (l : Line)
+    → turnOf rec strict x wear shown line l .played .from + turnOf rec strict x wear shown line l .played .count ≤ 300
 unfolding turnOf frameTurn
-turn-within rec x wear shown line (Frame wp tail n) =
+turn-within rec strict x wear shown line (Frame wp tail n) =
     let sent = take 300 (hexBytes (drop 6 line)) in
-    omega (arith, frame-within rec x (sentOf sent tail wp wear shown), length-take 300 (hexBytes (drop 6 line)))
-turn-within rec x wear shown line (Wait us) = omega arith
-turn-within rec x wear shown line Power = omega arith
-turn-within rec x wear shown line Bad = omega arith
+    omega (arith, frame-within rec x (sentOf sent tail wp strict wear shown), length-take 300 (hexBytes (drop 6 line)))
+turn-within rec strict x wear shown line (Wait us) = omega arith
+turn-within rec strict x wear shown line Power = omega arith
+turn-within rec strict x wear shown line Bad = omega arith
 
-pub played-within : (rec : Record) (x : Chip) (wear shown line : List ℕ) {r : Played} → r ≡ playOf rec x wear shown line .played → r .from + r .count ≤ 300
-played-within rec x wear shown line {r} e = subst (λ (q : Played). q .from + q .count ≤ 300) (sym e) (turn-within rec x wear shown line (lineOf line))
+pub played-within : (rec : Record) (strict : Bool) (x : Chip) (wear shown line : List ℕ) {r : Played} → r ≡ playOf rec strict x wear shown line .played → r .from + r .count ≤ 300
+played-within rec strict x wear shown line {r} e = subst (λ (q : Played). q .from + q .count ≤ 300) (sym e) (turn-within rec strict x wear shown line (lineOf line))
 
 pub one-plays : OnePlays
 one-plays t r r′ ps ps′ xs xs′ ws ws′ os os′ p q = (p .played ∙ sym (q .played), p .page ∙ sym (q .page), p .cells ∙ sym (q .cells), p .wear ∙ sym (q .wear), p .shown ∙ sym (q .shown))

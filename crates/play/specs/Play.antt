@@ -29,9 +29,9 @@ abbrev pub passedOf : After → Played
 passedOf a = record { answer = numberOf (a .answer); from = 0; count = 0; state = a .state; fold = false }
 
 -- the bytes of the line's hex digits, as many as 300, are the frame; it changes no cell
-unfoldable pub frameTurn : Record → Chip → List ℕ → List ℕ → List ℕ → Bool → ℕ → Turn
-frameTurn rec x wear shown line wp tail =
-    let e : Effect = frameOf rec x (sentOf (take 300 (hexBytes (drop 6 line))) tail wp wear shown) in
+unfoldable pub frameTurn : Record → Bool → Chip → List ℕ → List ℕ → List ℕ → Bool → ℕ → Turn
+frameTurn rec strict x wear shown line wp tail =
+    let e : Effect = frameOf rec x (sentOf (take 300 (hexBytes (drop 6 line))) tail wp strict wear shown) in
     record {
       played = record { answer = numberOf (e .reply .answer); from = e .reply .from; count = e .reply .count; state = e .reply .state; fold = e .reply .fold };
       page = e .page;
@@ -48,15 +48,15 @@ waitTurn o wear shown = record { played = passedOf (record { answer = o .answer;
 abbrev pub stateTurn : Played → Chip → List ℕ → List ℕ → Turn
 stateTurn p x wear shown = record { played = p; page = x .page; cells = x .cells; wear = wear; shown = shown }
 
-unfoldable pub turnOf : Record → Chip → List ℕ → List ℕ → List ℕ → Line → Turn
-turnOf rec x wear shown line (Frame wp tail n) = frameTurn rec x wear shown line wp tail
-turnOf rec x wear shown line (Wait us) = waitTurn (waitOf rec x us) wear shown
-turnOf rec x wear shown line Power = stateTurn (passedOf (powerOf rec (x .state) (x .page))) x wear shown
-turnOf rec x wear shown line Bad = stateTurn (record { answer = 20; from = 0; count = 0; state = x .state; fold = false }) x wear shown
+unfoldable pub turnOf : Record → Bool → Chip → List ℕ → List ℕ → List ℕ → Line → Turn
+turnOf rec strict x wear shown line (Frame wp tail n) = frameTurn rec strict x wear shown line wp tail
+turnOf rec strict x wear shown line (Wait us) = waitTurn (waitOf rec x us) wear shown
+turnOf rec strict x wear shown line Power = stateTurn (passedOf (powerOf rec (x .state) (x .page))) x wear shown
+turnOf rec strict x wear shown line Bad = stateTurn (record { answer = 20; from = 0; count = 0; state = x .state; fold = false }) x wear shown
 
 -- any line
-abbrev pub playOf : Record → Chip → List ℕ → List ℕ → List ℕ → Turn
-playOf rec x wear shown line = turnOf rec x wear shown line (lineOf line)
+abbrev pub playOf : Record → Bool → Chip → List ℕ → List ℕ → List ℕ → Turn
+playOf rec strict x wear shown line = turnOf rec strict x wear shown line (lineOf line)
 
 pub record Plays (t : Turn) (r : Played) (ps xs ws os : List ℕ) : Type 0 where
   pub played : r ≡ t .played

@@ -37,13 +37,14 @@ fn play_frame(
     wp: bool,
     tail: u8,
     rec: Record,
+    strict: bool,
     st: State,
     page: &mut [u8],
     array: &[u8],
     wear: &mut [u32],
     shown: &mut [u8],
 ) -> Played
-    ensures { λ r. ⌜ Plays (frameTurn rec (chipOf st (now (page .entry)) (now (array .entry))) (now (wear .entry)) (now (shown .entry)) (now (line .entry)) wp tail) r (now (page .exit)) (now (array .entry)) (now (wear .exit)) (now (shown .exit)) ⌝ }
+    ensures { λ r. ⌜ Plays (frameTurn rec strict (chipOf st (now (page .entry)) (now (array .entry))) (now (wear .entry)) (now (shown .entry)) (now (line .entry)) wp tail) r (now (page .exit)) (now (array .entry)) (now (wear .exit)) (now (shown .exit)) ⌝ }
 {
     let mut sent = [0u8; 300];
     let n = script::frame_bytes(line, &mut sent);
@@ -56,6 +57,7 @@ fn play_frame(
         &sent[0..n],
         tail as u32,
         wp,
+        strict,
         shown,
     );
     let answer = r.answer;
@@ -73,18 +75,19 @@ fn play_frame(
 pub fn play(
     line: &[u8],
     rec: Record,
+    strict: bool,
     st: State,
     page: &mut [u8],
     array: &mut [u8],
     wear: &mut [u32],
     shown: &mut [u8],
 ) -> Played
-    ensures { λ r. ⌜ Plays (playOf rec (chipOf st (now (page .entry)) (now (array .entry))) (now (wear .entry)) (now (shown .entry)) (now (line .entry))) r (now (page .exit)) (now (array .exit)) (now (wear .exit)) (now (shown .exit)) ⌝ }
+    ensures { λ r. ⌜ Plays (playOf rec strict (chipOf st (now (page .entry)) (now (array .entry))) (now (wear .entry)) (now (shown .entry)) (now (line .entry))) r (now (page .exit)) (now (array .exit)) (now (wear .exit)) (now (shown .exit)) ⌝ }
 {
     let said = script::read_line(line);
     match said {
         Line::Frame { wp, tail, count: _ } => {
-            play_frame(line, wp, tail, rec, st, page, array, wear, shown)
+            play_frame(line, wp, tail, rec, strict, st, page, array, wear, shown)
         }
         Line::Wait(us) => passed(time::wait(rec, st, page, array, us)),
         Line::Power => passed(time::power_cycle(rec, st, page)),

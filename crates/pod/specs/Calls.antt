@@ -64,9 +64,9 @@ abbrev pub called : ℕ → List ℕ → List ℕ → List ℕ → ℕ → ℕ �
 called number state wear out from count fold =
     record { number = number; state = state; wear = wear; out = out; from = from; count = count; fold = fold }
 
--- what C sends: WP# is low at 0, high at any other number
-abbrev pub sentBy : List ℕ → ℕ → ℕ → List ℕ → List ℕ → Sent
-sentBy bytes tail wp wear out = sentOf bytes tail (not (eqb wp 0)) wear out
+-- what C sends: WP# is low at 0, high at any other number, and the strict setting off and on
+abbrev pub sentBy : List ℕ → ℕ → ℕ → ℕ → List ℕ → List ℕ → Sent
+sentBy bytes tail wp strict wear out = sentOf bytes tail (not (eqb wp 0)) (not (eqb strict 0)) wear out
 
 abbrev pub calledOf : List ℕ → Effect → Called
 calledOf state e =

@@ -72,7 +72,7 @@ fn record_of(
     }
 }
 
-// Any frame: its answer's number. WP# is low where wp is 0. from and count get the first driven position and how many, both 0 when none;
+// Any frame: its answer's number. WP# is low where wp is 0, and the setting strict where strict is not. from and count get the first driven position and how many, both 0 when none;
 // fold gets 1 where a program went past its page's end, else 0.
 #[no_mangle]
 pub extern "C" fn gwo_frame(
@@ -92,12 +92,13 @@ pub extern "C" fn gwo_frame(
     frame: &[u8],
     tail: u32,
     wp: u32,
+    strict: u32,
     out: &mut [u8],
     from: &mut u32,
     count: &mut u32,
     fold: &mut u32,
 ) -> u32
-    ensures { λ r. ⌜ Leaves (calledFrame (recordOf model «status_us» «page_us» «sector_us» «block_us» «chip_us» «half_us» «sleep_us» «wake_us» «sign_us») (now (state .entry)) (now (array .entry)) (sentBy (now (frame .entry)) tail wp (now (wear .entry)) (now (out .entry)))) r (now (state .exit)) (now (wear .exit)) (now (out .exit)) (now (from .exit)) (now (count .exit)) (now (fold .exit)) ⌝ }
+    ensures { λ r. ⌜ Leaves (calledFrame (recordOf model «status_us» «page_us» «sector_us» «block_us» «chip_us» «half_us» «sleep_us» «wake_us» «sign_us») (now (state .entry)) (now (array .entry)) (sentBy (now (frame .entry)) tail wp strict (now (wear .entry)) (now (out .entry)))) r (now (state .exit)) (now (wear .exit)) (now (out .exit)) (now (from .exit)) (now (count .exit)) (now (fold .exit)) ⌝ }
 {
     let rec = record_of(
         model,
@@ -134,6 +135,7 @@ pub extern "C" fn gwo_frame(
         frame,
         tail,
         wp != 0,
+        strict != 0,
         out,
     );
     *from = reply.from;

@@ -43,6 +43,7 @@ one d =
       bytes = d ∷ [];
       more = 0 ∷ [];
       outs = record { wakeUp = room; enableUnlock = room; unlock = room; enableErase = room; erase = room; enableProgram = room; program = room; readBack = room };
+      strict = record { wakeUp = false; enableUnlock = false; unlock = false; enableErase = false; erase = false; enableProgram = false; program = false; readBack = false };
       wear = neverErased;
       worn = onceErased;
     }

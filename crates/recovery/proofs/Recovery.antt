@@ -1,6 +1,6 @@
 -- The listed calls win the chip back. Assumes nothing.
 use mathlib.Core.Path.{_≡_, refl, sym, ap, subst, _∙_}
-use mathlib.Core.Bool.{Bool, true, false, _||_, and-false, cond}
+use mathlib.Core.Bool.{Bool, true, false, _&&_, _||_, and-false, cond}
 use mathlib.Core.List.{List, [], _∷_}
 use mathlib.Core.Logic.{⊎-elim}
 use Prim.Native.Nat.{ℕ, _+_, _-_, _*_, _/_, _%_, _≤_, _<_}
@@ -17,6 +17,8 @@ use Rattle.models.proofs.Rules.{row-rules, units-inside}
 use Rattle.models.specs.Rules.{Inside}
 use Rattle.parts.specs.Parts.{part, lay}
 use Rattle.fold.specs.Fold.{pageAfter}
+use Rattle.fold.specs.Strict.{overOld}
+use Rattle.fold.proofs.Strict.{erased-accepts}
 use Rattle.flash.specs.Arrays.{sectorErased, programmed}
 use Rattle.rings.specs.Ring.{ring}
 use Rattle.flash.specs.Sheet.{ErasesOnly}
@@ -30,7 +32,7 @@ use Rattle.states.specs.declared.Record.{Record}
 use Rattle.states.specs.declared.State.{State}
 use Rattle.answers.specs.declared.Answer.the-variants.{Done}
 use Rattle.states.proofs.States.{Resting, sound, times, busy-le, busy-le-all, settle-le-all, blank-page}
-use Rattle.effects.specs.Effects.{Effect, quiet, stateOnly, turned, started, shown, drives, latched, dozing, starting, writeStatus, eraseStarts as Effects·erase, programPage, readFrom}
+use Rattle.effects.specs.Effects.{Effect, quiet, stateOnly, turned, started, shown, drives, latched, dozing, starting, writeStatus, eraseStarts as Effects·erase, programPage, programsOver, readFrom}
 use Rattle.counts.specs.Counts.{counted}
 use Rattle.counts.proofs.Laws.{sector-spared, sector-counted}
 use Rattle.operations.specs.Operations.{runs, pageAddress, configAfter, written, forgotten, finished}
@@ -60,12 +62,12 @@ pub not-yet : (time : ℕ) → 0 < time → (eqb time 0 || ltb (time - 1) time) 
 not-yet time p = rw (ne-eqb time 0 (λ z. omega arith), lt-ltb (time - 1) time (omega arith))
 
 -- 06 on an idle chip
-pub enable : (rec : Record) (v : ℕ) (cells wear out : List ℕ) → Bench rec (chipOf (calm v) blankPage cells) → length wear ≡ modelOf (rec .model) .sectors → 1 ≤ length out
-    → Step rec (sends (frame (0x06 ∷ []) wear out)) (chipOf (calm v) blankPage cells) (chipOf (enabled v) blankPage cells) (wear ∷ [])
+pub enable : (rec : Record) (v : ℕ) (cells : List ℕ) (strict : Bool) (wear out : List ℕ) → Bench rec (chipOf (calm v) blankPage cells) → length wear ≡ modelOf (rec .model) .sectors → 1 ≤ length out
+    → Step rec (sends (frame (0x06 ∷ []) strict wear out)) (chipOf (calm v) blankPage cells) (chipOf (enabled v) blankPage cells) (wear ∷ [])
 unfolding latched
-enable rec v cells wear out c k r =
+enable rec v cells strict wear out c k r =
     let y : Chip = chipOf (calm v) blankPage cells in
-    sends-to rec y c (frame (0x06 ∷ []) wear out) (stateOnly Done (enabled v) blankPage wear out) (enable-taken rec y c refl refl wear out k refl r) refl
+    sends-to rec y c (frame (0x06 ∷ []) strict wear out) (stateOnly Done (enabled v) blankPage wear out) (enable-taken rec y c refl refl strict wear out k refl r) refl
 
 -- the page data of 01 00, and what the operations of the list come to
 abbrev pub unlockPage : List ℕ
@@ -157,7 +159,7 @@ module _ (rec : Record) (j : Job) (x : Chip) (b : Bench rec x) (f : JobFits rec 
   pub wakes : Step rec (sends (wakeUp j)) (on rested) (on woken) (j .wear ∷ [])
   wakes =
       let out = j .outs .wakeUp in
-      sends-to rec (on rested) (rests .bench) (wakeUp j) (stateOnly Done woken (start .page) (j .wear) out) (wake-taken rec (on rested) (rests .bench) (idle-after rec x b) (settled-after rec x b) (j .wear) out (f .table) (f .rooms .wakeUp)) refl
+      sends-to rec (on rested) (rests .bench) (wakeUp j) (stateOnly Done woken (start .page) (j .wear) out) (wake-taken rec (on rested) (rests .bench) (idle-after rec x b) (settled-after rec x b) (j .strict .wakeUp) (j .wear) out (f .table) (f .rooms .wakeUp)) refl
 
   woken-idle : woken .busy ≡ 0
   unfolding dozing
@@ -182,7 +184,7 @@ module _ (rec : Record) (j : Job) (x : Chip) (b : Bench rec x) (f : JobFits rec 
   unfolding dozing later
   arms =
       let out = j .outs .enableUnlock in
-      sends-to rec (on settled) (settles .bench) (enableUnlock j) (stateOnly Done armed (start .page) (j .wear) out) (enable-taken rec (on settled) (settles .bench) still-idle at-rest (j .wear) out (f .table) refl (f .rooms .enableUnlock)) refl
+      sends-to rec (on settled) (settles .bench) (enableUnlock j) (stateOnly Done armed (start .page) (j .wear) out) (enable-taken rec (on settled) (settles .bench) still-idle at-rest (j .strict .enableUnlock) (j .wear) out (f .table) refl (f .rooms .enableUnlock)) refl
 
   abbrev pub unlocking : Chip
   unlocking = chipOf (starting armed 0x01 1 (rec .«status_write»)) unlockPage c0
@@ -193,7 +195,7 @@ module _ (rec : Record) (j : Job) (x : Chip) (b : Bench rec x) (f : JobFits rec 
       let out = j .outs .unlock in
       let e : Effect = record { reply = quiet Done (starting armed 0x01 1 (rec .«status_write»)); page = unlockPage; wear = j .wear; out = out } in
       sends-to rec (on armed) (arms .bench) (unlock j) e
-      (write-taken rec (on armed) (arms .bench) still-idle at-rest (j .wear) out (f .table) 0 refl refl (f .rooms .unlock) ∙ ap (λ (page : List ℕ). started (j .wear) out (writeStatus rec armed page (0x01 ∷ 0x00 ∷ []))) (blank-after rec x b)) refl
+      (write-taken rec (on armed) (arms .bench) still-idle at-rest (j .strict .unlock) (j .wear) out (f .table) 0 refl refl (f .rooms .unlock) ∙ ap (λ (page : List ℕ). started (j .wear) out (writeStatus rec armed page (0x01 ∷ 0x00 ∷ []))) (blank-after rec x b)) refl
 
   -- ---- up to the erase: protection is off
   abbrev calmed : List ℕ → Chip
@@ -206,7 +208,7 @@ module _ (rec : Record) (j : Job) (x : Chip) (b : Bench rec x) (f : JobFits rec 
       (waits-end rec unlocking (rec .«status_write») (times rec (b .right) .status) refl ∙ finish-unlock (rec .model) v (rec .«status_write») c0 (starting armed 0x01 1 (rec .«status_write»)) refl refl refl at-rest)
 
   erase-enabled : Step rec (sends (enableErase j)) (calmed c0) (chipOf (enabled v) blankPage c0) (j .wear ∷ [])
-  erase-enabled = enable rec v c0 (j .wear) (j .outs .enableErase) (unlocked .bench) (f .table) (f .rooms .enableErase)
+  erase-enabled = enable rec v c0 (j .strict .enableErase) (j .wear) (j .outs .enableErase) (unlocked .bench) (f .table) (f .rooms .enableErase)
 
   abbrev to : Address
   to = target rec j
@@ -234,7 +236,7 @@ module _ (rec : Record) (j : Job) (x : Chip) (b : Bench rec x) (f : JobFits rec 
   erases =
       let out = j .outs .erase in
       sends-to rec (chipOf (enabled v) blankPage c0) (erase-enabled .bench) (erase j) (turned blankPage (j .worn) out (quiet Done (running v 0x20 (to .0) (rec .sector))))
-      (erase-taken rec (chipOf (enabled v) blankPage c0) (erase-enabled .bench) refl refl (j .wear) out (f .table) (j .high) (j .middle) (j .low) refl refl refl (f .rooms .erase) (sector-spared (to .0) (j .wear) counted-in (f .spare)) ∙ erase-counts) refl
+      (erase-taken rec (chipOf (enabled v) blankPage c0) (erase-enabled .bench) refl refl (j .strict .erase) (j .wear) out (f .table) (j .high) (j .middle) (j .low) refl refl refl (f .rooms .erase) (sector-spared (to .0) (j .wear) counted-in (f .spare)) ∙ erase-counts) refl
 
   -- ---- up to the program
   abbrev cleared : List ℕ
@@ -244,11 +246,34 @@ module _ (rec : Record) (j : Job) (x : Chip) (b : Bench rec x) (f : JobFits rec 
   erased = waits-to rec erasing (erases .bench) (rec .sector) (calmed cleared) (waits-end rec erasing (rec .sector) (times rec (b .right) .sector) refl ∙ finish-erase (rec .model) v (rec .sector) c0 (to .0))
 
   program-enabled : Step rec (sends (enableProgram j)) (calmed cleared) (chipOf (enabled v) blankPage cleared) (j .worn ∷ [])
-  program-enabled = enable rec v cleared (j .worn) (j .outs .enableProgram) (erased .bench) worn-table (f .rooms .enableProgram)
+  program-enabled = enable rec v cleared (j .strict .enableProgram) (j .worn) (j .outs .enableProgram) (erased .bench) worn-table (f .rooms .enableProgram)
 
   -- the data bytes, folded into the page data
   abbrev folded : List ℕ
   folded = pageAfter (pageOffset to) (j .bytes) blankPage
+
+  -- the address lies in the array, so its units do
+  inside : Inside (rec .model) to
+  unfolding addressOf
+  inside = units-inside (rec .model) to (mod-lt _ (omega (arith, row-rules (rec .model) .some)))
+
+  sector-in : base rec j + 4096 ≤ length c0
+  sector-in = omega (arith, inside .sector, rests .bench .whole)
+
+  page-in : pageStart to + 256 ≤ length cleared
+  page-in = omega (arith, inside .page, rests .bench .whole, length-sectorErased c0 (sectorOf to) sector-in)
+
+  in-sector : (base rec j ≤ pageStart to) × (pageStart to + 256 ≤ base rec j + 4096)
+  in-sector = (omega arith, omega arith)
+
+  -- the page was fresh, so the data lies in it as it was sent
+  fresh : part cleared (pageStart to) 256 ≡ blankPage
+  fresh = part-sectorErased c0 (sectorOf to) sector-in (pageStart to) 256 (in-sector .0) (in-sector .1)
+
+  -- the sector was erased, so a strict program is not refused
+  not-over : programsOver (j .strict .program) to cleared (program j .bytes) ≡ false
+  unfolding programsOver
+  not-over = ap (λ (o : Bool). j .strict .program && o) (ap (overOld (pageOffset to) (j .bytes)) fresh ∙ erased-accepts (pageOffset to) (j .bytes) (f .bytes)) ∙ and-false (j .strict .program)
 
   abbrev pub programming : Chip
   programming = chipOf (running v 0x02 (to .0) (rec .page)) folded cleared
@@ -258,7 +283,7 @@ module _ (rec : Record) (j : Job) (x : Chip) (b : Bench rec x) (f : JobFits rec 
   programs =
       let out = j .outs .program in
       sends-to rec (chipOf (enabled v) blankPage cleared) (program-enabled .bench) (program j) (started (j .worn) out (programPage rec (enabled v) blankPage to (program j .bytes)))
-      (program-taken rec (chipOf (enabled v) blankPage cleared) (program-enabled .bench) refl refl (j .worn) out worn-table (j .high) (j .middle) (j .low) (j .bytes) refl refl refl (f .some) (omega (arith, f .page)) (f .rooms .program)) refl
+      (program-taken rec (chipOf (enabled v) blankPage cleared) (program-enabled .bench) refl refl (j .strict .program) (j .worn) out worn-table (j .high) (j .middle) (j .low) (j .bytes) refl refl refl (f .some) (omega (arith, f .page)) (f .rooms .program) not-over) refl
 
   -- ---- the read
   abbrev stored : List ℕ
@@ -275,7 +300,7 @@ module _ (rec : Record) (j : Job) (x : Chip) (b : Bench rec x) (f : JobFits rec 
 
   read : frameOf rec ended (readBack j) ≡ shows
   read =
-      read-taken rec ended (all-programmed .bench) refl refl (j .worn) (j .outs .readBack) worn-table (j .high) (j .middle) (j .low) (j .more) refl
+      read-taken rec ended (all-programmed .bench) refl refl (j .strict .readBack) (j .worn) (j .outs .readBack) worn-table (j .high) (j .middle) (j .low) (j .more) refl
       (omega (arith, f .page, f .more)) (f .rooms .readBack)
 
   reads : Step rec (sends (readBack j)) ended ended (j .worn ∷ [])
@@ -299,17 +324,6 @@ module _ (rec : Record) (j : Job) (x : Chip) (b : Bench rec x) (f : JobFits rec 
   whole-list = goes-on to-read (goes reads ends)
 
   -- ---- what the array and the last output hold
-  -- the address lies in the array, so its units do
-  inside : Inside (rec .model) to
-  unfolding addressOf
-  inside = units-inside (rec .model) to (mod-lt _ (omega (arith, row-rules (rec .model) .some)))
-
-  sector-in : base rec j + 4096 ≤ length c0
-  sector-in = omega (arith, inside .sector, rests .bench .whole)
-
-  page-in : pageStart to + 256 ≤ length cleared
-  page-in = omega (arith, inside .page, rests .bench .whole, length-sectorErased c0 (sectorOf to) sector-in)
-
   long : length stored ≡ length cleared
   long = length-programmed cleared (pageAddress to) folded (omega (arith, page-in))
 
@@ -320,13 +334,6 @@ module _ (rec : Record) (j : Job) (x : Chip) (b : Bench rec x) (f : JobFits rec 
       let blocks = modelOf (rec .model) .blocks in
       let e : modelOf (rec .model) .length ≡ 256 * (256 * blocks) = omega (arith, row-rules (rec .model) .blocks) in
       ap (λ (t : ℕ). raw % t % 256) e ∙ mod-mod-of-dvd 256 raw (dvd-mul-right 256 (256 * blocks)) ∙ omega (arith, f .page, f .some)
-
-  in-sector : (base rec j ≤ pageStart to) × (pageStart to + 256 ≤ base rec j + 4096)
-  in-sector = (omega arith, omega arith)
-
-  -- the page was fresh, so the data lies in it as it was sent
-  fresh : part cleared (pageStart to) 256 ≡ blankPage
-  fresh = part-sectorErased c0 (sectorOf to) sector-in (pageStart to) 256 (in-sector .0) (in-sector .1)
 
   laid : stored ≡ lay cleared (to .0) (j .bytes)
   laid = page-laid cleared to (j .bytes) page-in fresh (omega (arith, offset, f .page)) (f .bytes)

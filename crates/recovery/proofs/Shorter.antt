@@ -1,6 +1,6 @@
 -- No wait of the list can be a microsecond shorter. Assumes nothing.
 use mathlib.Core.Path.{_≡_, refl, sym, _∙_}
-use mathlib.Core.Bool.{true, false, cond, false≢true}
+use mathlib.Core.Bool.{Bool, true, false, cond, false≢true}
 use mathlib.Core.List.{List, [], _∷_}
 use Prim.Native.Nat.{ℕ, _-_, _≤_, _<_}
 use native.Mathlib.Omega.{arith}
@@ -40,9 +40,9 @@ module _ (rec : Record) (x : Chip) (time : ℕ) (p : 0 < time) (t : x .state .bu
   unfolding later
   busy-still = omega arith
 
-  pub refused : (bytes wear out : List ℕ) → 0 < length bytes → length bytes ≤ 65541 → Roomy (frame bytes wear out) → Tabled rec (frame bytes wear out)
-      → traitsOf (modelOf (rec .model) .register) (decodeOf (rec .model) (getD bytes 0 0)) .«while_busy» ≡ false → answer ours rec [] (sends (frame bytes wear out)) almost ≡ Busy
-  refused bytes wear out some l r k w = while-busy rec almost (short-wait .bench) bytes wear out busy-still some l r k w
+  pub refused : (bytes : List ℕ) (strict : Bool) (wear out : List ℕ) → 0 < length bytes → length bytes ≤ 65541 → Roomy (frame bytes strict wear out) → Tabled rec (frame bytes strict wear out)
+      → traitsOf (modelOf (rec .model) .register) (decodeOf (rec .model) (getD bytes 0 0)) .«while_busy» ≡ false → answer ours rec [] (sends (frame bytes strict wear out)) almost ≡ Busy
+  refused bytes strict wear out some l r k w = while-busy rec almost (short-wait .bench) bytes strict wear out busy-still some l r k w
 
 pub shorter-unlock : ShorterUnlock
 unfolding decodeOf traitsOf starting
@@ -50,7 +50,7 @@ shorter-unlock rec j x b f =
     let c = unlocks rec j x b f .bench in
     let t = times rec (b .right) .status in
     then-answers (enableErase j) (goes-on (to-unlock rec j x b f) (goes (short-wait rec _ _ t refl c) ends))
-    (refused rec _ _ t refl c (0x06 ∷ []) (j .wear) (j .outs .enableErase) (lit≤ tt) (lit≤ tt) (f .rooms .enableErase) (f .table) refl)
+    (refused rec _ _ t refl c (0x06 ∷ []) (j .strict .enableErase) (j .wear) (j .outs .enableErase) (lit≤ tt) (lit≤ tt) (f .rooms .enableErase) (f .table) refl)
 
 pub shorter-erase : ShorterErase
 unfolding decodeOf traitsOf
@@ -58,7 +58,7 @@ shorter-erase rec j x b f =
     let c = erases rec j x b f .bench in
     let t = times rec (b .right) .sector in
     then-answers (enableProgram j) (goes-on (to-erase rec j x b f) (goes (short-wait rec _ _ t refl c) ends))
-    (refused rec _ _ t refl c (0x06 ∷ []) (j .worn) (j .outs .enableProgram) (lit≤ tt) (lit≤ tt) (f .rooms .enableProgram) (worn-table rec j x b f) refl)
+    (refused rec _ _ t refl c (0x06 ∷ []) (j .strict .enableProgram) (j .worn) (j .outs .enableProgram) (lit≤ tt) (lit≤ tt) (f .rooms .enableProgram) (worn-table rec j x b f) refl)
 
 pub shorter-program : ShorterProgram
 unfolding decodeOf traitsOf
@@ -66,7 +66,7 @@ shorter-program rec j x b f =
     let c = programs rec j x b f .bench in
     let t = times rec (b .right) .page in
     then-answers (readBack j) (goes-on (to-program rec j x b f) (goes (short-wait rec _ _ t refl c) ends))
-    (refused rec _ _ t refl c (readBack j .bytes) (j .worn) (j .outs .readBack) (omega arith) (omega (arith, f .page, f .more)) (f .rooms .readBack) (worn-table rec j x b f) refl)
+    (refused rec _ _ t refl c (readBack j .bytes) (j .strict .readBack) (j .worn) (j .outs .readBack) (omega arith) (omega (arith, f .page, f .more)) (f .rooms .readBack) (worn-table rec j x b f) refl)
 
 -- ---- the wait after AB
 -- a chip that was asleep still settles a microsecond before that time has passed
@@ -85,7 +85,7 @@ shorter-wake rec j x b f a =
     let s = waits-on rec y (wakes rec j x b f .bench) (rec .wake - 1) (rw (eq-eqb (w .busy) 0 (idle-after rec x b))) in
     let left : 0 < cond (z rec x b .state .asleep) (rec .wake) 0 - (rec .wake - 1) = rw (was-asleep rec x b a) (omega arith) in
     then-answers (enableUnlock j) (goes (rests rec j x b f) (goes (wakes rec j x b f) (goes s ends)))
-    (while-settling rec _ (s .bench) (0x06 ∷ []) (j .wear) (j .outs .enableUnlock) left (lit≤ tt) (lit≤ tt) (f .rooms .enableUnlock) (f .table))
+    (while-settling rec _ (s .bench) (0x06 ∷ []) (j .strict .enableUnlock) (j .wear) (j .outs .enableUnlock) left (lit≤ tt) (lit≤ tt) (f .rooms .enableUnlock) (f .table))
 
 -- ---- the first wait
 -- a chip that runs its longest operation is still busy a microsecond before that time has passed
@@ -94,7 +94,7 @@ unfolding decodeOf traitsOf
 still rec x j time p t e b f =
     inl (rw e
     (then-answers (wakeUp j) (goes (short-wait rec x time p t b) ends)
-    (refused rec x time p t b (0xAB ∷ []) (j .wear) (j .outs .wakeUp) (lit≤ tt) (lit≤ tt) (f .rooms .wakeUp) (f .table) refl)))
+    (refused rec x time p t b (0xAB ∷ []) (j .strict .wakeUp) (j .wear) (j .outs .wakeUp) (lit≤ tt) (lit≤ tt) (f .rooms .wakeUp) (f .table) refl)))
 
 -- and one that settles for the longest time still settles
 pub still-settling : (rec : Record) (x : Chip) (j : Job) → x .state .busy ≡ 0 → 0 < x .state .settle → longestOf rec ≡ x .state .settle → Bench rec x → JobFits rec j → TooShort rec j x
@@ -103,4 +103,4 @@ still-settling rec x j i p e b f =
     let k = waits-on rec x b (x .state .settle - 1) (rw (eq-eqb (x .state .busy) 0 i)) in
     inr (rw e
     (then-answers (wakeUp j) (goes k ends)
-    (while-settling rec _ (k .bench) (0xAB ∷ []) (j .wear) (j .outs .wakeUp) (omega arith) (lit≤ tt) (lit≤ tt) (f .rooms .wakeUp) (f .table))))
+    (while-settling rec _ (k .bench) (0xAB ∷ []) (j .strict .wakeUp) (j .wear) (j .outs .wakeUp) (omega arith) (lit≤ tt) (lit≤ tt) (f .rooms .wakeUp) (f .table))))

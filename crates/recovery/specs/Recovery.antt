@@ -1,7 +1,7 @@
 -- The calls that win a chip back, whatever firmware did to it: 01, "The twelve calls", and the wait after AB, which makes them thirteen. The first wait may
 -- end an operation that runs, so the array is compared with what that wait left (Req 05). Assumes nothing.
 use mathlib.Core.Path.{_≡_}
-use mathlib.Core.Bool.{true}
+use mathlib.Core.Bool.{Bool, true}
 use mathlib.Core.List.{List, [], _∷_, _++_}
 use Prim.Native.Nat.{ℕ, _+_, _/_, _≤_, _<_}
 use lib.ListN.{length, getD, replicate}
@@ -29,7 +29,18 @@ pub record Outs : Type 0 where
   pub program : List ℕ
   pub readBack : List ℕ
 
--- what is to be written where; the n more bytes that are sent while it is read back; the outputs; and the wear table, as it is lent to the frames up to the erase, and to those after it
+-- the strict setting given with each of them
+pub record Settings : Type 0 where
+  pub wakeUp : Bool
+  pub enableUnlock : Bool
+  pub unlock : Bool
+  pub enableErase : Bool
+  pub erase : Bool
+  pub enableProgram : Bool
+  pub program : Bool
+  pub readBack : Bool
+
+-- what is to be written where; the n more bytes that are sent while it is read back; the outputs and the strict settings; and the wear table, as it is lent to the frames up to the erase, and to those after it
 pub record Job : Type 0 where
   pub high : ℕ
   pub middle : ℕ
@@ -37,34 +48,35 @@ pub record Job : Type 0 where
   pub bytes : List ℕ
   pub more : List ℕ
   pub outs : Outs
+  pub strict : Settings
   pub wear : List ℕ
   pub worn : List ℕ
 
 -- ---- the frames of the list
 module _ (j : Job) where
   abbrev pub wakeUp : Sent
-  wakeUp = frame (0xAB ∷ []) (j .wear) (j .outs .wakeUp)
+  wakeUp = frame (0xAB ∷ []) (j .strict .wakeUp) (j .wear) (j .outs .wakeUp)
 
   abbrev pub enableUnlock : Sent
-  enableUnlock = frame (0x06 ∷ []) (j .wear) (j .outs .enableUnlock)
+  enableUnlock = frame (0x06 ∷ []) (j .strict .enableUnlock) (j .wear) (j .outs .enableUnlock)
 
   abbrev pub unlock : Sent
-  unlock = frame (0x01 ∷ 0x00 ∷ []) (j .wear) (j .outs .unlock)
+  unlock = frame (0x01 ∷ 0x00 ∷ []) (j .strict .unlock) (j .wear) (j .outs .unlock)
 
   abbrev pub enableErase : Sent
-  enableErase = frame (0x06 ∷ []) (j .wear) (j .outs .enableErase)
+  enableErase = frame (0x06 ∷ []) (j .strict .enableErase) (j .wear) (j .outs .enableErase)
 
   abbrev pub erase : Sent
-  erase = frame (0x20 ∷ j .high ∷ j .middle ∷ j .low ∷ []) (j .wear) (j .outs .erase)
+  erase = frame (0x20 ∷ j .high ∷ j .middle ∷ j .low ∷ []) (j .strict .erase) (j .wear) (j .outs .erase)
 
   abbrev pub enableProgram : Sent
-  enableProgram = frame (0x06 ∷ []) (j .worn) (j .outs .enableProgram)
+  enableProgram = frame (0x06 ∷ []) (j .strict .enableProgram) (j .worn) (j .outs .enableProgram)
 
   abbrev pub program : Sent
-  program = frame (0x02 ∷ j .high ∷ j .middle ∷ j .low ∷ j .bytes) (j .worn) (j .outs .program)
+  program = frame (0x02 ∷ j .high ∷ j .middle ∷ j .low ∷ j .bytes) (j .strict .program) (j .worn) (j .outs .program)
 
   abbrev pub readBack : Sent
-  readBack = frame (0x03 ∷ j .high ∷ j .middle ∷ j .low ∷ j .more) (j .worn) (j .outs .readBack)
+  readBack = frame (0x03 ∷ j .high ∷ j .middle ∷ j .low ∷ j .more) (j .strict .readBack) (j .worn) (j .outs .readBack)
 
 -- ---- the list
 module _ (rec : Record) (j : Job) where

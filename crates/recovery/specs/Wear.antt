@@ -16,7 +16,7 @@ use Rattle.recovery.specs.Histories.{Lent, lend}
 
 -- a call with that table lent to it: only a frame takes one
 abbrev pub withTable : List ℕ → Sent → Sent
-withTable wear f = sentOf (f .bytes) (f .tail) (f .wp) wear (f .out)
+withTable wear f = sentOf (f .bytes) (f .tail) (f .wp) (f .strict) wear (f .out)
 
 abbrev pub onTable : List ℕ → Call → Call
 onTable wear (sends f) = sends (withTable wear f)

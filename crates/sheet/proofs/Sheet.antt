@@ -23,9 +23,9 @@ use Rattle.commands.specs.Commands.{decodeOf, traitsOf, lengthOk}
 use Rattle.states.specs.States.{inRange, halfOk, recordOk, longestSettle, configOk, idleOk, busyOk, stateOk, tbOf, statusOf, blankPage, Chip, chipOf}
 use Rattle.ladder.specs.Ladder.{refusalOf}
 use Rattle.counts.specs.Counts.{covered, wornOut, counted}
-use Rattle.effects.specs.Effects.{Effect, drives, latched, dozing, starting, refusalLeaves, writeEnable, writeStatus, eraseStarts, sleep, readStatus, readConfig, readFrom, programPage, wakingTime, wake}
+use Rattle.effects.specs.Effects.{Effect, drives, latched, dozing, starting, refusalLeaves, writeEnable, writeStatus, eraseStarts, sleep, readStatus, readConfig, readFrom, programPage, programsOver, wakingTime, wake}
 use Rattle.operations.specs.Operations.{configWritten, configAfter, written, forgotten, finished}
-use Rattle.chip.specs.Frames.{Sent, headFor, wornBy, acceptedOf, refusedOf, frameOf}
+use Rattle.chip.specs.Frames.{Sent, headFor, overBy, wornBy, acceptedOf, refusedOf, frameOf}
 use Rattle.time.specs.Time.{later, waited, cycled}
 use Rattle.sheet.specs.Sheet.{Case, seen, bench, AllRight, smallCases, sleepCases, largeCases, BenchSheet}
 
@@ -36,7 +36,7 @@ joined (x ∷ xs) ys p q = (p .0, joined xs ys (p .1) q)
 -- the array has the model's length, and the page data of an idle chip fit: the frame with both told, and not computed
 abbrev told : ℕ → Record → Chip → Sent → Effect
 told n rec x f =
-    let h : Head = headFor (rec .model) n (length (f .wear)) true (f .bytes) (f .tail) (f .wp) (length (f .out)) (wornBy (rec .model) (f .bytes) (f .wear)) in
+    let h : Head = headFor (rec .model) n (length (f .wear)) true (f .bytes) (f .tail) (f .wp) (length (f .out)) (overBy (rec .model) (x .cells) f) (wornBy (rec .model) (f .bytes) (f .wear)) in
     let a : Answer = refusalOf rec (x .state) h in
     cond (isDone a) (acceptedOf rec x (h .command) (h .address) (f .bytes) (f .wear) (f .out)) (refusedOf rec a x f)
 
@@ -70,7 +70,7 @@ all-right (c ∷ cs) i p = (
 )
 
 small-told : Told smallCases
-unfolding Told covered wornOut counted isModel partOf halfOk configOk tbOf configWritten configAfter refusalLeaves cycled readConfig addressOf rangeOf isProtected lay ring counts cellAfter pageAfter sectorErased programmed decodeOf traitsOf lengthOk inRange recordOk longestSettle idleOk busyOk stateOk statusOf refusalOf drives latched dozing starting written forgotten finished eraseStarts writeEnable writeStatus sleep readStatus readFrom programPage wakingTime wake headFor acceptedOf frameOf later waited
+unfolding Told covered wornOut counted isModel partOf halfOk configOk tbOf configWritten configAfter refusalLeaves cycled readConfig addressOf rangeOf isProtected lay ring counts cellAfter pageAfter sectorErased programmed decodeOf traitsOf lengthOk inRange recordOk longestSettle idleOk busyOk stateOk statusOf refusalOf drives latched dozing starting written forgotten finished eraseStarts writeEnable writeStatus sleep readStatus readFrom programPage programsOver wakingTime wake headFor acceptedOf frameOf later waited
 small-told = (λ rest e. refl, (λ rest e. refl, (λ rest e. refl, (λ rest e. refl, (λ rest e. refl, (λ rest e. refl, (λ rest e. refl, (λ rest e. refl, (λ rest e. refl, (λ rest e. refl, (λ rest e. refl, (λ rest e. refl, (λ rest e. rw e, tt)))))))))))))
 
 small : AllRight smallCases
@@ -78,7 +78,7 @@ unfolding Idle partOf
 small = all-right smallCases (refl, (refl, (refl, (refl, (refl, (refl, (refl, (refl, (refl, (refl, (refl, (refl, (refl, (refl, (refl, (refl, (refl, (refl, (refl, (refl, (refl, (refl, (refl, (refl, (refl, (refl, tt)))))))))))))))))))))))))) small-told
 
 asleep-told : Told sleepCases
-unfolding Told covered wornOut counted isModel partOf halfOk configOk tbOf configWritten configAfter refusalLeaves cycled readConfig addressOf rangeOf isProtected lay ring counts cellAfter pageAfter sectorErased programmed decodeOf traitsOf lengthOk inRange recordOk longestSettle idleOk busyOk stateOk statusOf refusalOf drives latched dozing starting written forgotten finished eraseStarts writeEnable writeStatus sleep readStatus readFrom programPage wakingTime wake headFor acceptedOf frameOf later waited
+unfolding Told covered wornOut counted isModel partOf halfOk configOk tbOf configWritten configAfter refusalLeaves cycled readConfig addressOf rangeOf isProtected lay ring counts cellAfter pageAfter sectorErased programmed decodeOf traitsOf lengthOk inRange recordOk longestSettle idleOk busyOk stateOk statusOf refusalOf drives latched dozing starting written forgotten finished eraseStarts writeEnable writeStatus sleep readStatus readFrom programPage programsOver wakingTime wake headFor acceptedOf frameOf later waited
 asleep-told = (λ rest e. refl, (λ rest e. refl, (λ rest e. refl, (λ rest e. refl, (λ rest e. refl, (λ rest e. refl, (λ rest e. refl, (λ rest e. refl, (λ rest e. refl, (λ rest e. refl, (λ rest e. refl, tt)))))))))))
 
 asleep : AllRight sleepCases
@@ -86,7 +86,7 @@ unfolding Idle partOf
 asleep = all-right sleepCases (refl, (refl, (refl, (refl, (refl, (refl, (refl, (refl, (refl, (refl, (refl, (refl, (refl, (refl, (refl, (refl, (refl, (refl, (refl, (refl, (refl, (refl, tt)))))))))))))))))))))) asleep-told
 
 large-told : Told largeCases
-unfolding Told covered wornOut counted isModel partOf halfOk configOk tbOf configWritten configAfter refusalLeaves cycled readConfig addressOf rangeOf isProtected lay ring counts cellAfter pageAfter sectorErased programmed decodeOf traitsOf lengthOk inRange recordOk longestSettle idleOk busyOk stateOk statusOf refusalOf drives latched dozing starting written forgotten finished eraseStarts writeEnable writeStatus sleep readStatus readFrom programPage wakingTime wake headFor acceptedOf frameOf later waited
+unfolding Told covered wornOut counted isModel partOf halfOk configOk tbOf configWritten configAfter refusalLeaves cycled readConfig addressOf rangeOf isProtected lay ring counts cellAfter pageAfter sectorErased programmed decodeOf traitsOf lengthOk inRange recordOk longestSettle idleOk busyOk stateOk statusOf refusalOf drives latched dozing starting written forgotten finished eraseStarts writeEnable writeStatus sleep readStatus readFrom programPage programsOver wakingTime wake headFor acceptedOf frameOf later waited
 large-told = (λ rest e. refl, (λ rest e. refl, (λ rest e. refl, (λ rest e. refl, (λ rest e. refl, (λ rest e. refl, (λ rest e. refl, tt)))))))
 
 large : AllRight largeCases

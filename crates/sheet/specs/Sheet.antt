@@ -128,19 +128,19 @@ settles model state sent from drives time =
 abbrev pub smallCases : List Case
 smallCases =
     -- power-on, 05 00: drives 00
-    simple 1 powerOn (frame (0x05 ∷ 0x00 ∷ []) (new 1) blank) 0 1 (0x00 ∷ []) 0x00
+    simple 1 powerOn (frame (0x05 ∷ 0x00 ∷ []) false (new 1) blank) 0 1 (0x00 ∷ []) 0x00
     -- 06 with tail 1: 14, WEL 0
-    ∷ simple 1 powerOn (sentOf (0x06 ∷ []) 1 true (new 1) blank) 14 0 [] 0x00
+    ∷ simple 1 powerOn (sentOf (0x06 ∷ []) 1 true false (new 1) blank) 14 0 [] 0x00
     -- empty, tail 7: 10
-    ∷ simple 1 powerOn (sentOf [] 7 true (new 1) blank) 10 0 [] 0x00
+    ∷ simple 1 powerOn (sentOf [] 7 true false (new 1) blank) 10 0 [] 0x00
     -- 02 with WEL 0 and BP 1: 15
-    ∷ simple 1 (idle false 1 false) (frame (0x02 ∷ 0 ∷ 0 ∷ 0 ∷ 0x11 ∷ []) (new 1) blank) 15 0 [] 0x04
+    ∷ simple 1 (idle false 1 false) (frame (0x02 ∷ 0 ∷ 0 ∷ 0 ∷ 0x11 ∷ []) false (new 1) blank) 15 0 [] 0x04
     -- fresh page, 257 data bytes at 0, the first 11, the others 22: after the wait all 256 hold 22
     ∷ record {
       model = 1;
       state = idle false 0 true;
       front = erased 256;
-      sent = frame (0x02 ∷ 0 ∷ 0 ∷ 0 ∷ 0x11 ∷ replicate 256 0x22) (new 1) blank;
+      sent = frame (0x02 ∷ 0 ∷ 0 ∷ 0 ∷ 0x11 ∷ replicate 256 0x22) false (new 1) blank;
       wait = 5000;
       look = 256;
       wants = λ (array : List ℕ). record { answer = 0; from = 0; drives = []; status = 0x03; config = 0; settle = 0; then = 0x00; then-config = 0; then-settle = 0; last-config = 0; cells = replicate 256 0x22 };
@@ -150,25 +150,25 @@ smallCases =
       model = 1;
       state = idle false 0 true;
       front = 0xF0 ∷ [];
-      sent = frame (0x02 ∷ 0 ∷ 0 ∷ 0 ∷ 0x3C ∷ []) (new 1) blank;
+      sent = frame (0x02 ∷ 0 ∷ 0 ∷ 0 ∷ 0x3C ∷ []) false (new 1) blank;
       wait = 5000;
       look = 1;
       wants = λ (array : List ℕ). record { answer = 0; from = 0; drives = []; status = 0x03; config = 0; settle = 0; then = 0x00; then-config = 0; then-settle = 0; last-config = 0; cells = 0x30 ∷ [] };
     }
     -- WEL 1, BP 1, 20 at 0: 17, WEL still 1
-    ∷ simple 1 (idle false 1 true) (frame (0x20 ∷ 0 ∷ 0 ∷ 0 ∷ []) (new 1) blank) 17 0 [] 0x06
+    ∷ simple 1 (idle false 1 true) (frame (0x20 ∷ 0 ∷ 0 ∷ 0 ∷ []) false (new 1) blank) 17 0 [] 0x06
     -- model 2, WEL 1, BP 1: 20 at 02FFFF is 0, at 030000 is 17
-    ∷ simple 2 (idle false 1 true) (frame (0x20 ∷ 0x02 ∷ 0xFF ∷ 0xFF ∷ []) (new 2) blank) 0 0 [] 0x07
-    ∷ simple 2 (idle false 1 true) (frame (0x20 ∷ 0x03 ∷ 0x00 ∷ 0x00 ∷ []) (new 2) blank) 17 0 [] 0x06
+    ∷ simple 2 (idle false 1 true) (frame (0x20 ∷ 0x02 ∷ 0xFF ∷ 0xFF ∷ []) false (new 2) blank) 0 0 [] 0x07
+    ∷ simple 2 (idle false 1 true) (frame (0x20 ∷ 0x03 ∷ 0x00 ∷ 0x00 ∷ []) false (new 2) blank) 17 0 [] 0x06
     -- SRWD 1, WEL 1, 01 00: WP# low 16, high 0
-    ∷ simple 1 (idle true 0 true) (sentOf (0x01 ∷ 0x00 ∷ []) 0 false (new 1) blank) 16 0 [] 0x82
-    ∷ simple 1 (idle true 0 true) (frame (0x01 ∷ 0x00 ∷ []) (new 1) blank) 0 0 [] 0x83
+    ∷ simple 1 (idle true 0 true) (sentOf (0x01 ∷ 0x00 ∷ []) 0 false false (new 1) blank) 16 0 [] 0x82
+    ∷ simple 1 (idle true 0 true) (frame (0x01 ∷ 0x00 ∷ []) false (new 1) blank) 0 0 [] 0x83
     -- 01 FF accepted: status 03, after the wait 8C
     ∷ record {
       model = 1;
       state = idle false 0 true;
       front = [];
-      sent = frame (0x01 ∷ 0xFF ∷ []) (new 1) blank;
+      sent = frame (0x01 ∷ 0xFF ∷ []) false (new 1) blank;
       wait = 15000;
       look = 0;
       wants = λ (array : List ℕ). record { answer = 0; from = 0; drives = []; status = 0x03; config = 0; settle = 0; then = 0x8C; then-config = 0; then-settle = 0; last-config = 0; cells = [] };
@@ -178,7 +178,7 @@ smallCases =
       model = 1;
       state = powerOn;
       front = [];
-      sent = frame (0x03 ∷ 0x00 ∷ 0xFF ∷ 0xFF ∷ 0 ∷ 0 ∷ []) (new 1) blank;
+      sent = frame (0x03 ∷ 0x00 ∷ 0xFF ∷ 0xFF ∷ 0 ∷ 0 ∷ []) false (new 1) blank;
       wait = 0;
       look = 0;
       wants = λ (array : List ℕ). record { answer = 0; from = 4; drives = getD array 65535 0 ∷ getD array 0 0 ∷ []; status = 0x00; config = 0; settle = 0; then = 0x00; then-config = 0; then-settle = 0; last-config = 0; cells = [] };
@@ -190,38 +190,38 @@ abbrev pub sleepCases : List Case
 sleepCases =
     -- deep power-down: B9 settles for 10, and 05 00 is 22; after the wait 05 00 is 12; AB and four bytes drives 05 and settles for 10, and 05 00 is 22;
     -- after the wait it drives 00
-    settles 1 powerOn (frame (0xB9 ∷ []) (new 1) blank) 0 [] 10
-    ∷ simple 1 (sleeping 1) (frame (0x05 ∷ 0x00 ∷ []) (new 1) blank) 22 0 [] 0x00
-    ∷ simple 1 (sleeping 0) (frame (0x05 ∷ 0x00 ∷ []) (new 1) blank) 12 0 [] 0x00
-    ∷ settles 1 (sleeping 0) (frame (0xAB ∷ 0 ∷ 0 ∷ 0 ∷ 0 ∷ []) (new 1) blank) 4 (0x05 ∷ []) 10
-    ∷ simple 1 (waking 1) (frame (0x05 ∷ 0x00 ∷ []) (new 1) blank) 22 0 [] 0x00
-    ∷ simple 1 (waking 0) (frame (0x05 ∷ 0x00 ∷ []) (new 1) blank) 0 1 (0x00 ∷ []) 0x00
+    settles 1 powerOn (frame (0xB9 ∷ []) false (new 1) blank) 0 [] 10
+    ∷ simple 1 (sleeping 1) (frame (0x05 ∷ 0x00 ∷ []) false (new 1) blank) 22 0 [] 0x00
+    ∷ simple 1 (sleeping 0) (frame (0x05 ∷ 0x00 ∷ []) false (new 1) blank) 12 0 [] 0x00
+    ∷ settles 1 (sleeping 0) (frame (0xAB ∷ 0 ∷ 0 ∷ 0 ∷ 0 ∷ []) false (new 1) blank) 4 (0x05 ∷ []) 10
+    ∷ simple 1 (waking 1) (frame (0x05 ∷ 0x00 ∷ []) false (new 1) blank) 22 0 [] 0x00
+    ∷ simple 1 (waking 0) (frame (0x05 ∷ 0x00 ∷ []) false (new 1) blank) 0 1 (0x00 ∷ []) 0x00
     -- the short AB and the long one, asleep and awake: 9 and 9 on model 2, 30 and 30 on model 3, none awake (002 L803-806, 003 L2133-2134)
-    ∷ settles 2 (sleeping 0) (frame (0xAB ∷ []) (new 2) blank) 0 [] 9
-    ∷ settles 2 (sleeping 0) (frame (0xAB ∷ 0 ∷ 0 ∷ 0 ∷ 0 ∷ []) (new 2) blank) 4 (0x11 ∷ []) 9
-    ∷ settles 3 (sleeping 0) (frame (0xAB ∷ []) (new 3) blank) 0 [] 30
-    ∷ settles 3 (sleeping 0) (frame (0xAB ∷ 0 ∷ 0 ∷ 0 ∷ 0 ∷ []) (new 3) blank) 4 (0x17 ∷ []) 30
-    ∷ settles 2 (waking 0) (frame (0xAB ∷ []) (new 2) blank) 0 [] 0
+    ∷ settles 2 (sleeping 0) (frame (0xAB ∷ []) false (new 2) blank) 0 [] 9
+    ∷ settles 2 (sleeping 0) (frame (0xAB ∷ 0 ∷ 0 ∷ 0 ∷ 0 ∷ []) false (new 2) blank) 4 (0x11 ∷ []) 9
+    ∷ settles 3 (sleeping 0) (frame (0xAB ∷ []) false (new 3) blank) 0 [] 30
+    ∷ settles 3 (sleeping 0) (frame (0xAB ∷ 0 ∷ 0 ∷ 0 ∷ 0 ∷ []) false (new 3) blank) 4 (0x17 ∷ []) 30
+    ∷ settles 2 (waking 0) (frame (0xAB ∷ []) false (new 2) blank) 0 [] 0
     ∷ []
 
 -- what is model 3's own, and that 15 is not model 1's
 abbrev pub largeCases : List Case
 largeCases =
     -- model 3, TB 0, BP 1, WEL 1: 20 at FEFFFF is 0, at FF0000 is 17, and WEL is 0
-    simple 3 (idle false 1 true) (frame (0x20 ∷ 0xFE ∷ 0xFF ∷ 0xFF ∷ []) (new 3) blank) 0 0 [] 0x07
-    ∷ simple 3 (idle false 1 true) (frame (0x20 ∷ 0xFF ∷ 0x00 ∷ 0x00 ∷ []) (new 3) blank) 17 0 [] 0x04
+    simple 3 (idle false 1 true) (frame (0x20 ∷ 0xFE ∷ 0xFF ∷ 0xFF ∷ []) false (new 3) blank) 0 0 [] 0x07
+    ∷ simple 3 (idle false 1 true) (frame (0x20 ∷ 0xFF ∷ 0x00 ∷ 0x00 ∷ []) false (new 3) blank) 17 0 [] 0x04
     -- TB 1, BP 1, WEL 1: 20 at 0 is 17, and WEL is 0; at 010000 it is 0
-    ∷ simple 3 (bottomUp 1 true) (frame (0x20 ∷ 0x00 ∷ 0x00 ∷ 0x00 ∷ []) (new 3) blank) 17 0 [] 0x04
-    ∷ simple 3 (bottomUp 1 true) (frame (0x20 ∷ 0x01 ∷ 0x00 ∷ 0x00 ∷ []) (new 3) blank) 0 0 [] 0x07
+    ∷ simple 3 (bottomUp 1 true) (frame (0x20 ∷ 0x00 ∷ 0x00 ∷ 0x00 ∷ []) false (new 3) blank) 17 0 [] 0x04
+    ∷ simple 3 (bottomUp 1 true) (frame (0x20 ∷ 0x01 ∷ 0x00 ∷ 0x00 ∷ []) false (new 3) blank) 0 0 [] 0x07
     -- 15 drives the register, and on model 1 it is 13
-    ∷ simple 3 (bottomUp 0 false) (frame (0x15 ∷ 0x00 ∷ 0x00 ∷ []) (new 3) blank) 0 1 (0x08 ∷ 0x08 ∷ []) 0x00
-    ∷ simple 1 powerOn (frame (0x15 ∷ 0x00 ∷ []) (new 1) blank) 13 0 [] 0x00
+    ∷ simple 3 (bottomUp 0 false) (frame (0x15 ∷ 0x00 ∷ 0x00 ∷ []) false (new 3) blank) 0 1 (0x08 ∷ 0x08 ∷ []) 0x00
+    ∷ simple 1 powerOn (frame (0x15 ∷ 0x00 ∷ []) false (new 1) blank) 13 0 [] 0x00
     -- 01 FF FF: status 03 and register 00, after the wait BC and DB; after a power cycle the register is 08
     ∷ record {
       model = 3;
       state = idle false 0 true;
       front = [];
-      sent = frame (0x01 ∷ 0xFF ∷ 0xFF ∷ []) (new 3) blank;
+      sent = frame (0x01 ∷ 0xFF ∷ 0xFF ∷ []) false (new 3) blank;
       wait = 40000;
       look = 0;
       wants = λ (array : List ℕ). record { answer = 0; from = 0; drives = []; status = 0x03; config = 0; settle = 0; then = 0xBC; then-config = 0xDB; then-settle = 0; last-config = 0x08; cells = [] };

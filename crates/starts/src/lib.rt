@@ -1,8 +1,12 @@
 // The commands that start an operation with page data: the data bytes go into the page data, and no cell changes yet.
 ghost use mathlib.Core.Path.{_≡_};
-ghost use Prim.Native.Nat.{_≤_};
-ghost use lib.ListN.{length};
-ghost use Rattle.effects.specs.Effects.{Starts, writeStatus, programPage};
+ghost use Prim.Native.Nat.{_+_, _≤_};
+ghost use lib.ListN.{length, drop};
+ghost use Rattle.units.specs.Kinds.{pageStart, pageOffset};
+ghost use Rattle.parts.specs.Parts.{part};
+ghost use Rattle.fold.specs.Strict.{overOld};
+ghost use Rattle.commands.specs.declared.Operation.the-variants.{Programs};
+ghost use Rattle.effects.specs.Effects.{Starts, writeStatus, programPage, goesOver};
 use answers::Answer;
 use commands::Operation;
 use effects::Reply;
@@ -33,4 +37,35 @@ pub fn program_page(rec: Record, st: State, page: &mut [u8], at: Address, bytes:
     let time = states::operation_time(rec, Operation::Programs);
     let command = parts::byte_at(bytes, 0);
     effects::taken(effects::start(st, command, at.0, time), fold)
+}
+
+// Whether the strict setting refuses an operation: a program, where a cell of the addressed page would not end up holding the byte that counts for it.
+// Only that page is looked at, and only with the setting on.
+pub fn is_over(op: Operation, strict: bool, array: &[u8], at: Address, bytes: &[u8]) -> bool
+    requires { ⌜ (op ≡ Programs → 5 ≤ length (now bytes)) × (pageStart at + 256 ≤ length (now array)) ⌝ }
+    ensures { λ r. ⌜ r ≡ goesOver op strict at (now (array .entry)) (now (bytes .entry)) ⌝ }
+{
+    if !strict {
+        return false;
+    }
+    match op {
+        Operation::Idle => false,
+        Operation::WritesStatus => false,
+        Operation::Programs => page_over(array, at, bytes),
+        Operation::ErasesSector => false,
+        Operation::ErasesHalf => false,
+        Operation::ErasesBlock => false,
+        Operation::ErasesChip => false,
+    }
+}
+
+// Whether some cell of the addressed page would not end up holding the byte that counts for it.
+fn page_over(array: &[u8], at: Address, bytes: &[u8]) -> bool
+    requires { ⌜ (5 ≤ length (now bytes)) × (pageStart at + 256 ≤ length (now array)) ⌝ }
+    ensures { λ r. ⌜ r ≡ overOld (pageOffset at) (drop 4 (now (bytes .entry))) (part (now (array .entry)) (pageStart at) 256) ⌝ }
+{
+    let first = at.page_start();
+    let start = first.0 as usize;
+    let end = start + 256;
+    fold::over_old(&array[start..end], at.page_offset(), &bytes[4..])
 }

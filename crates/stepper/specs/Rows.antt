@@ -1,5 +1,6 @@
 -- A line's row of the log, and the log of a script: 01, "Script and log". Assumes nothing.
 use mathlib.Core.Path.{_≡_}
+use mathlib.Core.Bool.{Bool}
 use mathlib.Core.List.{List, [], _∷_, _++_}
 use Prim.Native.Nat.{ℕ, _+_, _%_, _≤_}
 use lib.ListN.{replicate}
@@ -12,27 +13,27 @@ use Rattle.play.specs.Play.{Turn, playOf}
 use Rattle.stepper.specs.declared.Logged.{Logged}
 
 -- a line of the log is played with an output of 300 zeros, of which it shows what was driven
-abbrev pub lineTurn : Record → Chip → List ℕ → List ℕ → Turn
-lineTurn rec x wear line = playOf rec x wear (replicate 300 0) line
+abbrev pub lineTurn : Record → Bool → Chip → List ℕ → List ℕ → Turn
+lineTurn rec strict x wear line = playOf rec strict x wear (replicate 300 0) line
 
-unfoldable pub rowText : Record → Chip → List ℕ → ℕ → List ℕ → List ℕ
-rowText rec x wear number line =
-    let t : Turn = lineTurn rec x wear line in
+unfoldable pub rowText : Record → Bool → Chip → List ℕ → ℕ → List ℕ → List ℕ
+rowText rec strict x wear number line =
+    let t : Turn = lineTurn rec strict x wear line in
     logText number (t .played .answer) (t .played .from) (part (t .shown) (t .played .from) (t .played .count)) (t .played .fold)
 
 -- the row was put into d from `at` on, which makes it e; and the state, the page data, the array and the wear table are the line's
-pub record Logs (rec : Record) (x : Chip) (wear : List ℕ) (number : ℕ) (line d : List ℕ) (at : ℕ) (r : Logged) (ps xs ws e : List ℕ) : Type 0 where
-  pub row : Put (rowText rec x wear number line) d at e (r .next)
+pub record Logs (rec : Record) (strict : Bool) (x : Chip) (wear : List ℕ) (number : ℕ) (line d : List ℕ) (at : ℕ) (r : Logged) (ps xs ws e : List ℕ) : Type 0 where
+  pub row : Put (rowText rec strict x wear number line) d at e (r .next)
   pub most : r .next ≤ at + longestRow
-  pub state : r .state ≡ lineTurn rec x wear line .played .state
-  pub page′ : ps ≡ lineTurn rec x wear line .page
-  pub cells′ : xs ≡ lineTurn rec x wear line .cells
-  pub wear′ : ws ≡ lineTurn rec x wear line .wear
+  pub state : r .state ≡ lineTurn rec strict x wear line .played .state
+  pub page′ : ps ≡ lineTurn rec strict x wear line .page
+  pub cells′ : xs ≡ lineTurn rec strict x wear line .cells
+  pub wear′ : ws ≡ lineTurn rec strict x wear line .wear
 
 -- no second answer
 abbrev pub OneLogs : Type 0
-OneLogs = (rec : Record) (x : Chip) (wear : List ℕ) (number : ℕ) (line d : List ℕ) (at : ℕ) (r r′ : Logged) (ps ps′ xs xs′ ws ws′ e e′ : List ℕ)
-    → Logs rec x wear number line d at r ps xs ws e → Logs rec x wear number line d at r′ ps′ xs′ ws′ e′ → (r ≡ r′) × (ps ≡ ps′) × (xs ≡ xs′) × (ws ≡ ws′) × (e ≡ e′)
+OneLogs = (rec : Record) (strict : Bool) (x : Chip) (wear : List ℕ) (number : ℕ) (line d : List ℕ) (at : ℕ) (r r′ : Logged) (ps ps′ xs xs′ ws ws′ e e′ : List ℕ)
+    → Logs rec strict x wear number line d at r ps xs ws e → Logs rec strict x wear number line d at r′ ps′ xs′ ws′ e′ → (r ≡ r′) × (ps ≡ ps′) × (xs ≡ xs′) × (ws ≡ ws′) × (e ≡ e′)
 
 -- the chip after a line
 abbrev pub chipAfter : Turn → Chip
@@ -42,15 +43,15 @@ chipAfter t = chipOf (t .played .state) (t .page) (t .cells)
 abbrev pub next : ℕ → ℕ
 next n = (n + 1) % 18446744073709551616
 
-abbrev pub logFrom : Record → Chip → List ℕ → ℕ → List (List ℕ) → List ℕ
-logFrom rec x wear n [] = []
-logFrom rec x wear n (line ∷ lines) = rowText rec x wear n line ++ logFrom rec (chipAfter (lineTurn rec x wear line)) (lineTurn rec x wear line .wear) (next n) lines
+abbrev pub logFrom : Record → Bool → Chip → List ℕ → ℕ → List (List ℕ) → List ℕ
+logFrom rec strict x wear n [] = []
+logFrom rec strict x wear n (line ∷ lines) = rowText rec strict x wear n line ++ logFrom rec strict (chipAfter (lineTurn rec strict x wear line)) (lineTurn rec strict x wear line .wear) (next n) lines
 
 -- the chip and its wear table, as lines leave them
 pub record Device : Type 0 where
   pub chip : Chip
   pub wear : List ℕ
 
-abbrev pub deviceFrom : Record → Chip → List ℕ → List (List ℕ) → Device
-deviceFrom rec x wear [] = record { chip = x; wear = wear }
-deviceFrom rec x wear (line ∷ lines) = deviceFrom rec (chipAfter (lineTurn rec x wear line)) (lineTurn rec x wear line .wear) lines
+abbrev pub deviceFrom : Record → Bool → Chip → List ℕ → List (List ℕ) → Device
+deviceFrom rec strict x wear [] = record { chip = x; wear = wear }
+deviceFrom rec strict x wear (line ∷ lines) = deviceFrom rec strict (chipAfter (lineTurn rec strict x wear line)) (lineTurn rec strict x wear line .wear) lines

@@ -15,15 +15,16 @@ use states::State;
 pub fn step(
     st: &mut State,
     rec: Record,
+    strict: bool,
     line: &[u8],
     page: &mut [u8],
     array: &mut [u8],
     wear: &mut [u32],
     shown: &mut [u8],
 ) -> Played
-    ensures { λ r. ⌜ Steps (playOf rec (chipOf (now (st .entry)) (now (page .entry)) (now (array .entry))) (now (wear .entry)) (now (shown .entry)) (now (line .entry))) r (now (st .exit)) (now (page .exit)) (now (array .exit)) (now (wear .exit)) (now (shown .exit)) ⌝ }
+    ensures { λ r. ⌜ Steps (playOf rec strict (chipOf (now (st .entry)) (now (page .entry)) (now (array .entry))) (now (wear .entry)) (now (shown .entry)) (now (line .entry))) r (now (st .exit)) (now (page .exit)) (now (array .exit)) (now (wear .exit)) (now (shown .exit)) ⌝ }
 {
-    let p = play::play(line, rec, *st, page, array, wear, shown);
+    let p = play::play(line, rec, strict, *st, page, array, wear, shown);
     *st = p.state;
     p
 }
@@ -32,16 +33,17 @@ pub fn step(
 pub fn stepped(
     st: State,
     rec: Record,
+    strict: bool,
     line: &[u8],
     page: &mut [u8],
     array: &mut [u8],
     wear: &mut [u32],
     shown: &mut [u8],
 ) -> Played
-    ensures { λ r. ⌜ Plays (playOf rec (chipOf st (now (page .entry)) (now (array .entry))) (now (wear .entry)) (now (shown .entry)) (now (line .entry))) r (now (page .exit)) (now (array .exit)) (now (wear .exit)) (now (shown .exit)) ⌝ }
+    ensures { λ r. ⌜ Plays (playOf rec strict (chipOf st (now (page .entry)) (now (array .entry))) (now (wear .entry)) (now (shown .entry)) (now (line .entry))) r (now (page .exit)) (now (array .exit)) (now (wear .exit)) (now (shown .exit)) ⌝ }
 {
     let mut s = st;
-    let p = step(&mut s, rec, line, page, array, wear, shown);
+    let p = step(&mut s, rec, strict, line, page, array, wear, shown);
     Played {
         answer: p.answer,
         from: p.from,
@@ -62,6 +64,7 @@ pub fn log_line(
     number: u64,
     line: &[u8],
     rec: Record,
+    strict: bool,
     st: State,
     page: &mut [u8],
     array: &mut [u8],
@@ -70,10 +73,10 @@ pub fn log_line(
     at: usize,
 ) -> Logged
     requires { ⌜ at + longestRow ≤ length (now log) ⌝ }
-    ensures { λ r. ⌜ Logs rec (chipOf st (now (page .entry)) (now (array .entry))) (now (wear .entry)) number (now (line .entry)) (now (log .entry)) at r (now (page .exit)) (now (array .exit)) (now (wear .exit)) (now (log .exit)) ⌝ }
+    ensures { λ r. ⌜ Logs rec strict (chipOf st (now (page .entry)) (now (array .entry))) (now (wear .entry)) number (now (line .entry)) (now (log .entry)) at r (now (page .exit)) (now (array .exit)) (now (wear .exit)) (now (log .exit)) ⌝ }
 {
     let mut shown = [0u8; 300];
-    let p = stepped(st, rec, line, page, array, wear, &mut shown);
+    let p = stepped(st, rec, strict, line, page, array, wear, &mut shown);
     let from = p.from as usize;
     let end = from + p.count as usize;
     let next = log::put_row(number, p.answer, p.from, &shown[from..end], p.fold, log, at);

@@ -1,27 +1,32 @@
-// The words that a program is started with: it knows none but --help.
+// The words that a program is started with: it knows --help and strict, and takes one of them at most.
 use libc::STDERR_FILENO;
 use libc::STDOUT_FILENO;
 
-fn is_help(word: &[u8; 6]) -> bool {
-    let dashes = (word[0] == b'-') & (word[1] == b'-');
-    let first = (word[2] == b'h') & (word[3] == b'e');
-    dashes & first & (word[4] == b'l') & (word[5] == b'p')
+fn is_same(word: &[u8; 6], other: &[u8; 6]) -> bool {
+    let first = (word[0] == other[0]) & (word[1] == other[1]);
+    let middle = (word[2] == other[2]) & (word[3] == other[3]);
+    first & middle & (word[4] == other[4]) & (word[5] == other[5])
 }
 
-// Whether --help is the only word.
-fn asks_help() -> bool {
+// Whether that word of six bytes is the only one.
+fn is_only(wanted: &[u8; 6]) -> bool {
     let mut word = [0u8; 6];
     os::arg(1, &mut word);
-    (os::arg_count() == 2) & (os::errno() == 0) & is_help(&word)
+    (os::arg_count() == 2) & (os::errno() == 0) & is_same(&word, wanted)
 }
 
-// Whether the program was started with a word, and so is to run nothing. --help alone shows its use on standard output; any other word
-// what is said of unknown ones, and the use, on standard error.
+// Whether the program was started with the word strict alone, and so is to run under the strict setting.
+pub fn asks_strict() -> bool {
+    is_only(b"strict")
+}
+
+// Whether the program was started with words that ask for no run. --help alone shows its use on standard output; any other words but strict
+// alone what is said of unknown ones, and the use, on standard error.
 pub fn answered(unknown: &[u8], usage: &[u8]) -> bool {
-    if os::arg_count() < 2 {
+    if (os::arg_count() < 2) | asks_strict() {
         return false;
     }
-    if asks_help() {
+    if is_only(b"--help") {
         io::write_all(STDOUT_FILENO, usage);
         return true;
     }

@@ -16,7 +16,7 @@ spoken-requires c κs =
     let g = t .before .before in
     let p = g .before in
     let a = p .before .before .before .before .before .before .before .args in
-    let-pass (a .rec) (chipOf (a .st) (now (a .page)) (now (a .array))) (sentOf (now (a .bytes)) (a .tail) (a .wp) (now (a .wear)) (now (a .out))) (first-rows (a .rec) (chipOf (a .st) (now (a .page)) (now (a .array))) (sentOf (now (a .bytes)) (a .tail) (a .wp) (now (a .wear)) (now (a .out))) (g .given .ensures) (p .page-ok .ensures)) (sym (t .before .is-done .ensures) ∙ t .if1 .taken)
+    let-pass (a .rec) (chipOf (a .st) (now (a .page)) (now (a .array))) (sentOf (now (a .bytes)) (a .tail) (a .wp) (a .strict) (now (a .wear)) (now (a .out))) (first-rows (a .rec) (chipOf (a .st) (now (a .page)) (now (a .array))) (sentOf (now (a .bytes)) (a .tail) (a .wp) (a .strict) (now (a .wear)) (now (a .out))) (g .given .ensures) (p .page-ok .ensures)) (sym (t .before .is-done .ensures) ∙ t .if1 .taken)
 
 returns-2 : tie.Need-returns-2
 returns-2 c =
@@ -24,7 +24,7 @@ returns-2 c =
     let g = t .before .before in
     let p = g .before in
     let a = p .before .before .before .before .before .before .before .args in
-    refuse-given (a .rec) (chipOf (a .st) (now (a .page)) (now (a .array))) (sentOf (now (a .bytes)) (a .tail) (a .wp) (now (a .wear)) (now (a .out))) (first-rows (a .rec) (chipOf (a .st) (now (a .page)) (now (a .array))) (sentOf (now (a .bytes)) (a .tail) (a .wp) (now (a .wear)) (now (a .out))) (g .given .ensures) (p .page-ok .ensures)) (sym (t .before .is-done .ensures) ∙ t .if1 .left) (c .quiet .ensures)
+    refuse-given (a .rec) (chipOf (a .st) (now (a .page)) (now (a .array))) (sentOf (now (a .bytes)) (a .tail) (a .wp) (a .strict) (now (a .wear)) (now (a .out))) (first-rows (a .rec) (chipOf (a .st) (now (a .page)) (now (a .array))) (sentOf (now (a .bytes)) (a .tail) (a .wp) (a .strict) (now (a .wear)) (now (a .out))) (g .given .ensures) (p .page-ok .ensures)) (sym (t .before .is-done .ensures) ∙ t .if1 .left) (c .quiet .ensures)
 
 pub frame-spec : {M : Type 1} → statement M
 frame-spec =

@@ -10,7 +10,7 @@ use Rattle.feed.proofs.play_line.Tie as tie
 returns : tie.Need-returns
 returns c =
     let a = c .before .before .before .before .before .before .before .before .before .before .before .before .before .before .before .before .before .before .before .before .args in
-    line-done (a .rec) (standing (a .run) [] (a .page .now) (a .array .now) (a .wear .now) (a .log .now)) (c .before .before .before .before .before .before .before .before .before .log-line .ensures) (c .line-done .ensures)
+    line-done (a .rec) (a .strict) (standing (a .run) [] (a .page .now) (a .array .now) (a .wear .now) (a .log .now)) (c .before .before .before .before .before .before .before .before .before .log-line .ensures) (c .line-done .ensures)
 
 pub play-line-spec : {M : Type 1} → statement M
 play-line-spec =

@@ -13,7 +13,7 @@ finish-requires c κs =
 returns : tie.Need-returns
 returns c =
     let a = c .before .before .before .before .before .before .before .before .before .before .before .before .before .before .before .before .before .before .before .before .before .before .args in
-    finish-kept (a .rec) (a .run) (a .held .now) (a .page .now) (a .array .now) (a .wear .now) (a .log .now) (c .before .before .before .before .before .before .before .before .before .before .before .before .before .before .before .before .at-block .ensures) (c .before .before .before .before .before .before .before .before .before .before .finish .ensures)
+    finish-kept (a .rec) (a .strict) (a .run) (a .held .now) (a .page .now) (a .array .now) (a .wear .now) (a .log .now) (c .before .before .before .before .before .before .before .before .before .before .before .before .before .before .before .before .at-block .ensures) (c .before .before .before .before .before .before .before .before .before .before .finish .ensures)
 
 pub finish-spec : {M : Type 1} → statement M
 finish-spec =

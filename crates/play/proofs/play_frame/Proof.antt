@@ -9,7 +9,7 @@ use Rattle.play.proofs.play_frame.Tie as tie
 returns : tie.Need-returns
 returns c =
     let a = c .before .before .before .before .before .before .before .before .before .before .before .before .before .before .before .before .before .before .before .before .before .before .args in
-    frame-plays (a .rec) (chipOf (a .st) (a .page .now) (a .array .now)) (a .wear .now) (a .shown .now) (a .line .now) (a .wp) (a .tail) (unhexed-front 300 refl (c .before .before .before .before .before .before .before .before .before .before .before .before .before .before .before .frame-bytes .ensures)) (c .before .before .before .before .before .before .before .before .frame .ensures) (c .number-of .ensures)
+    frame-plays (a .rec) (a .strict) (chipOf (a .st) (a .page .now) (a .array .now)) (a .wear .now) (a .shown .now) (a .line .now) (a .wp) (a .tail) (unhexed-front 300 refl (c .before .before .before .before .before .before .before .before .before .before .before .before .before .before .before .frame-bytes .ensures)) (c .before .before .before .before .before .before .before .before .frame .ensures) (c .number-of .ensures)
 
 pub play-frame-spec : {M : Type 1} → statement M
 play-frame-spec =

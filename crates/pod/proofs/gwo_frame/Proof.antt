@@ -35,7 +35,7 @@ returns c =
     let r = c .before .before in
     let start = r .before .before .before .before .before .before in
     let given = start .args in
-    bad-record-frame (numbers start) (given .state .now) (r .record-of .ensures) (sym (c .before .record-ok .ensures) ∙ not-true _ (c .if1 .taken)) (given .array .now) (sentBy (given .frame .now) (given .tail) (given .wp) (given .wear .now) (given .out .now))
+    bad-record-frame (numbers start) (given .state .now) (r .record-of .ensures) (sym (c .before .record-ok .ensures) ∙ not-true _ (c .if1 .taken)) (given .array .now) (sentBy (given .frame .now) (given .tail) (given .wp) (given .strict) (given .wear .now) (given .out .now))
 
 is-packed-requires : tie.Need-is-packed-requires
 is-packed-requires c κs = c .before .busy-in .ensures
@@ -46,7 +46,7 @@ returns-2 c =
     let e = t .before .before .before .before .before in
     let start = e .before .before .before .before .before .before .before .before in
     let given = start .args in
-    bad-bytes-frame (numbers start) (given .state .now) (sym (t .before .is-packed .ensures) ∙ not-true _ (t .if2 .taken)) (e .before .before .record-of .ensures) (right e) (given .array .now) (sentBy (given .frame .now) (given .tail) (given .wp) (given .wear .now) (given .out .now)) (c .frame-refusal .ensures)
+    bad-bytes-frame (numbers start) (given .state .now) (sym (t .before .is-packed .ensures) ∙ not-true _ (t .if2 .taken)) (e .before .before .record-of .ensures) (right e) (given .array .now) (sentBy (given .frame .now) (given .tail) (given .wp) (given .strict) (given .wear .now) (given .out .now)) (c .frame-refusal .ensures)
 
 unpack-requires : tie.Need-unpack-requires
 unpack-requires c κs = (whole (c .before), c .before .before .before .before .busy-in .ensures)
@@ -60,7 +60,7 @@ keep-requires c κs =
     let e = u .before .before in
     let start = e .before .before .before .before .before .before .before .before .before .before .before .before .before in
     let given = start .args in
-    fits-frame (numbers start) (given .state .now) (given .array .now) (sentBy (given .frame .now) (given .tail) (given .wp) (given .wear .now) (given .out .now)) (whole e) (e .before .before .before .before .before .before .before .record-of .ensures) (u .unpack .ensures ∙ sym (unpack-read _ (packing e))) (c .before .before .before .before .before .before .before .before .before .frame .ensures)
+    fits-frame (numbers start) (given .state .now) (given .array .now) (sentBy (given .frame .now) (given .tail) (given .wp) (given .strict) (given .wear .now) (given .out .now)) (whole e) (e .before .before .before .before .before .before .before .record-of .ensures) (u .unpack .ensures ∙ sym (unpack-read _ (packing e))) (c .before .before .before .before .before .before .before .before .before .frame .ensures)
 
 returns-3 : tie.Need-returns-3
 returns-3 c =
@@ -68,7 +68,7 @@ returns-3 c =
     let e = u .before .before in
     let start = e .before .before .before .before .before .before .before .before .before .before .before .before .before in
     let given = start .args in
-    leaves (numbers start) (given .state .now) (given .array .now) (sentBy (given .frame .now) (given .tail) (given .wp) (given .wear .now) (given .out .now)) (whole e) (e .before .before .before .before .before .before .before .record-of .ensures) (u .unpack .ensures ∙ sym (unpack-read _ (packing e))) (c .before .before .before .before .before .before .before .before .before .before .before .before .frame .ensures) (c .before .before .keep .ensures .0) (c .before .before .keep .ensures .1)
+    leaves (numbers start) (given .state .now) (given .array .now) (sentBy (given .frame .now) (given .tail) (given .wp) (given .strict) (given .wear .now) (given .out .now)) (whole e) (e .before .before .before .before .before .before .before .record-of .ensures) (u .unpack .ensures ∙ sym (unpack-read _ (packing e))) (c .before .before .before .before .before .before .before .before .before .before .before .before .frame .ensures) (c .before .before .keep .ensures .0) (c .before .before .keep .ensures .1)
 
 pub gwo-frame-spec : {M : Type 1} → statement M
 gwo-frame-spec =
