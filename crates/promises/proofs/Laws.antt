@@ -231,7 +231,7 @@ cut-tb n s page pattern ErasesHalf h = h
 cut-tb n s page pattern ErasesBlock h = h
 cut-tb n s page pattern ErasesChip h = h
 
-by : (P : Chip → Type 0) (b : Bool) (x y : Chip) → (b ≡ false → P x) → (b ≡ true → P y) → P (cond b y x)
+pub by : (P : Chip → Type 0) (b : Bool) (x y : Chip) → (b ≡ false → P x) → (b ≡ true → P y) → P (cond b y x)
 by P true x y f g = g refl
 by P false x y f g = f refl
 
