@@ -35,7 +35,7 @@ pub record Sent : Type 0 where
 abbrev pub sentOf : List ℕ → ℕ → Bool → Bool → List ℕ → List ℕ → Sent
 sentOf bytes tail wp strict wear out = record { bytes = bytes; tail = tail; wp = wp; strict = strict; wear = wear; out = out }
 
--- what the refusals look at: the command is the first byte, the address the next three; whether the page data fit, and whether a count is at its top
+-- what the refusals look at: the command is the first byte, the address the next three; whether the page data fit, whether old data is in the way, and whether a count is at its top
 unfoldable pub headFor : ℕ → ℕ → ℕ → Bool → List ℕ → ℕ → Bool → ℕ → Bool → Bool → Head
 headFor model cells sectors page bytes tail wp room over worn =
     record {
@@ -52,7 +52,7 @@ headFor model cells sectors page bytes tail wp room over worn =
       worn = worn;
     }
 
--- whether the frame programs over old data
+-- whether the frame programs over old data under the strict setting (Req 08)
 abbrev pub overBy : ℕ → List ℕ → Sent → Bool
 overBy model cells f =
     goesOver (startedBy model (getD (f .bytes) 0 0)) (f .strict) (addressOf model (getD (f .bytes) 1 0) (getD (f .bytes) 2 0) (getD (f .bytes) 3 0)) cells (f .bytes)

@@ -10,7 +10,7 @@ use lib.ListN.{length, getD, getD-replicate}
 use lib.Seq.{take-length}
 use borrow.Author.Tests.{eqb-true, eqb-false, eq-eqb, ltb-true, ltb-false, not-true, not-false}
 use Rattle.cells.specs.Cell.{FF, erased, misses, allHold}
-use Rattle.parts.specs.Parts.{Bytes, part, someByIndex}
+use Rattle.parts.specs.Parts.{part, someByIndex}
 use Rattle.fold.specs.Fold.{counts, cellAfter}
 use Rattle.fold.specs.Strict.{reached, lost, overOld, ReachedWhen, ReachedOnlyWhen, OverOldWhen, OverOldOnlyWhen, ReadsBack, AcceptedWhen, ErasedAccepts}
 use Rattle.cells.proofs.Cell.{ff-and, misses-bit, missed-bit}

@@ -1,11 +1,10 @@
 -- `starts::is_over` meets its contract: off, it looks at nothing. Assumes nothing.
-use mathlib.Core.Path.{_≡_, sym, ap, _∙_}
-use mathlib.Core.Bool.{Bool, false}
+use mathlib.Core.Path.{sym, ap, _∙_}
+use mathlib.Core.Bool.{Bool}
 use denote.Ref.{now}
 use borrow.Author.Needs.{needs}
 use borrow.Author.Tests.{not-true, not-false}
 use Rattle.commands.specs.declared.Operation.{Operation}
-use Rattle.commands.specs.declared.Operation.the-variants.{Programs}
 use Rattle.effects.specs.Effects.{programsOver, goesOver}
 use Rattle.effects.proofs.Strict.{off, on}
 use Rattle.starts.proofs.is_over.Statement.{statement}

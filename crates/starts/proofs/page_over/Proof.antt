@@ -6,7 +6,7 @@ use native.Mathlib.Omega.{arith}
 use lib.ListN.{drop}
 use denote.Ref.{now}
 use borrow.Author.Needs.{needs}
-use Rattle.units.specs.Kinds.{pageStart, pageOffset}
+use Rattle.units.specs.Kinds.{pageOffset}
 use Rattle.parts.specs.Parts.{part}
 use Rattle.fold.specs.Strict.{overOld}
 use Rattle.effects.proofs.Replies.{tail-drop}
