@@ -123,7 +123,7 @@ class Crate:
 
 class Run:
     def __init__(self, crates):
-        self.jobs = int(os.environ.get('RT_JOBS') or min(os.cpu_count() or 1, 4))
+        self.jobs = int(os.environ.get('RT_JOBS') or min(len(os.sched_getaffinity(0)), 4))
         self.work = os.path.join(ROOT, 'target', 'edits.work')
         shutil.rmtree(self.work, ignore_errors=True)
         self.crates = [Crate(name, os.path.join(self.work, 'kept', name)) for name in crates if edits_of(name)]
