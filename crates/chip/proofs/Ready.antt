@@ -26,8 +26,8 @@ use Rattle.counts.proofs.Laws.{in-table}
 use Rattle.states.specs.States.{pageOk, Chip}
 use Rattle.states.proofs.States.{sound, page-length}
 use Rattle.ladder.specs.Ladder.{refusalOf}
-use Rattle.ladder.specs.Stages.{givenOf, saidOf, lastRows}
-use Rattle.ladder.proofs.Stages.{stops-given, stops-said, goes-on, last-is}
+use Rattle.ladder.specs.Stages.{givenOf, saidOf, dataOf}
+use Rattle.ladder.proofs.Stages.{stops-given, stops-said, goes-on, data-is}
 use Rattle.ladder.specs.declared.Head.{Head}
 use Rattle.ladder.proofs.Passed.{Passed, passed, given-spares, given-page}
 use Rattle.effects.specs.declared.Reply.{Reply}
@@ -108,9 +108,9 @@ module _ (rec : Record) (x : Chip) (f : Sent) where
   unfolding saidOf headFor
   said-unworn = refl
 
-  spared-unworn : lastRows rec (x .state) unworn ≡ Done
+  spared-unworn : dataOf rec (x .state) unworn ≡ Done
   unfolding headFor
-  spared-unworn = last-is rec (x .state) unworn
+  spared-unworn = data-is rec (x .state) unworn
 
   -- what the frame says, as the code finds it
   said : {h : Head} {a : Answer} → h ≡ unworn → a ≡ saidOf rec (x .state) h → a ≡ saidOf rec (x .state) H
@@ -159,7 +159,7 @@ module _ (rec : Record) (x : Chip) (f : Sent) where
   taken-is : isDone (givenOf rec (x .state) H) ≡ true → isDone (saidOf rec (x .state) H) ≡ true
       → takenOf rec x (unworn .command) (unworn .address) (f .strict) (f .bytes) (f .wear) (f .out) ≡ frameOf rec x f
   unfolding frameOf headFor
-  taken-is p q = go (H .over) (H .worn) (goes-on rec (x .state) H p q ∙ last-is rec (x .state) H)
+  taken-is p q = go (H .over) (H .worn) (goes-on rec (x .state) H p q ∙ data-is rec (x .state) H)
     where
       refused-as : (a : Answer) → saysProtected a ≡ false → stateOnly a (x .state) (x .page) (f .wear) (f .out) ≡ refusedOf rec a x f
       refused-as a e = ap (λ (s : State). stateOnly a s (x .page) (f .wear) (f .out)) (sym (leaves-all (rec .model) a (x .state) e))

@@ -38,7 +38,7 @@ use Rattle.states.proofs.States.{blank-page, times}
 use Rattle.ladder.specs.Ladder.{refusalOf}
 use Rattle.ladder.specs.Stages.{givenOf, saidOf}
 use Rattle.ladder.specs.declared.Head.{Head}
-use Rattle.ladder.proofs.Stages.{stops-given, stops-said, goes-on, both-pass, last-is}
+use Rattle.ladder.proofs.Stages.{stops-given, stops-said, goes-on, both-pass, data-is}
 use Rattle.ladder.proofs.Passed.{passed, erased-spares}
 use Rattle.effects.specs.Effects.{Effect, stateOnly, started, starting, programPage, programsOver, goesOver}
 use Rattle.effects.proofs.Replies.{leaves-all}
@@ -108,7 +108,7 @@ module _ (rec : Record) (x : Chip) (f : Sent) where
   -- where they let it pass and the cells speak against it
   refused-19 : isDone (givenOf rec (x .state) (saying false)) ≡ true → isDone (saidOf rec (x .state) (saying false)) ≡ true → refused-by true ≡ NotErased
   unfolding headFor refused-by
-  refused-19 p q = goes-on rec (x .state) (saying true) (ap isDone same-given ∙ p) (ap isDone same-said ∙ q) ∙ last-is rec (x .state) (saying true)
+  refused-19 p q = goes-on rec (x .state) (saying true) (ap isDone same-given ∙ p) (ap isDone same-said ∙ q) ∙ data-is rec (x .state) (saying true)
 
   off-passes : isDone (offOf rec x f .reply .answer) ≡ true → isDone (refused-by false) ≡ true
   unfolding refused-by headFor
@@ -141,7 +141,7 @@ module _ (rec : Record) (x : Chip) (f : Sent) where
       go true p false q = stops-said rec (x .state) (saying true) (ap isDone same-given ∙ p) (ap isDone same-said ∙ q) ∙ same-said ∙ sym (stops-said rec (x .state) (saying false) p q)
       go true p true q =
           let worn = unworn (startedBy (rec .model) (getD (f .bytes) 0 0)) _ (saying false .address .0) o in
-          absurd (false≢true (sym d ∙ ap isDone (goes-on rec (x .state) (saying false) p q ∙ last-is rec (x .state) (saying false) ∙ ap (λ (w : Bool). cond w WornOut Done) worn)))
+          absurd (false≢true (sym d ∙ ap isDone (goes-on rec (x .state) (saying false) p q ∙ data-is rec (x .state) (saying false) ∙ ap (λ (w : Bool). cond w WornOut Done) worn)))
 
   off-stops : isDone (offOf rec x f .reply .answer) ≡ false → isDone (refused-by false) ≡ false
   unfolding headFor
