@@ -32,6 +32,7 @@ count rt ci
 proved=$SECONDS
 count tools/host.sh python -B tools/refusals.py
 count tools/refusals_test.sh
+count tools/edits_test.sh
 if rt staticlib pod; then
     GWO_RUNNER="$PWD/tools/host.sh program $PWD/target/bin/runner"
     GWO_WEAR="$PWD/tools/host.sh program $PWD/target/bin/wear"
