@@ -11,7 +11,7 @@ use Rattle.answers.specs.Answers.{numberOf}
 use Rattle.states.specs.States.{statusOf, blankPage, Chip, chipOf, powerOn, benchKH25L512, benchKH25L2006E, benchKH25L12845G}
 use Rattle.states.specs.declared.Record.{Record}
 use Rattle.effects.specs.Effects.{Effect}
-use Rattle.chip.specs.Frames.{sentOf}
+use Rattle.chip.specs.Frames.{Sent, sentOf}
 use Rattle.calls.specs.Calls.{Call, sends, waits, cycles, cuts, Pod, after, answer}
 
 -- ---- what is seen
@@ -34,9 +34,15 @@ pub record Seen : Type 0 where
   pub status : ℕ
   pub looks : List Look
 
--- a line: a call on the bench of a model, and what is seen of it
+-- a call of a line: a frame with so many tail bits, the WP# level and those bytes; a wait; a power cycle
+pub data Act : Type 0 where
+  framed : ℕ → Bool → List ℕ → Act
+  wait : ℕ → Act
+  cycle : Act
+
+-- a line: a call, and what is seen of it
 pub record Line : Type 0 where
-  pub call : ℕ → Call
+  pub act : Act
   pub sees : Seen
 
 -- a row: a model, and its lines from power-on
@@ -45,25 +51,15 @@ pub record Row : Type 0 where
   pub lines : List Line
 
 -- ---- how a row is written
--- a frame with WP# high and no tail bits, with tail bits, and with WP# low; it is lent a wear table from the factory and an output of 300 bytes AA
-abbrev pub framed : ℕ → Bool → List ℕ → ℕ → Call
-framed tail wp bytes m = sends (sentOf bytes tail wp false (replicate (modelOf m .sectors) 0) (replicate 300 0xAA))
+-- a frame with WP# high and no tail bits, with tail bits, and with WP# low
+abbrev pub send : List ℕ → Act
+send bytes = framed 0 true bytes
 
-abbrev pub send : List ℕ → ℕ → Call
-send bytes m = framed 0 true bytes m
+abbrev pub sendTail : ℕ → List ℕ → Act
+sendTail tail bytes = framed tail true bytes
 
-abbrev pub sendTail : ℕ → List ℕ → ℕ → Call
-sendTail tail bytes m = framed tail true bytes m
-
-abbrev pub sendLow : List ℕ → ℕ → Call
-sendLow bytes m = framed 0 false bytes m
-
--- a wait, and a power cycle
-abbrev pub wait : ℕ → ℕ → Call
-wait us m = waits us
-
-abbrev pub cycle : ℕ → Call
-cycle m = cycles
+abbrev pub sendLow : List ℕ → Act
+sendLow bytes = framed 0 false bytes
 
 -- an answer with nothing driven, and 0 with bytes driven from a position on; each with the status byte after
 abbrev pub drive : ℕ → List ℕ → Driven
@@ -81,8 +77,8 @@ abbrev pub _and_ : Seen → Look → Seen
 s and l = record { number = s .number; driven = s .driven; status = s .status; looks = l ∷ s .looks }
 
 infix 80 _⇒_
-abbrev pub _⇒_ : (ℕ → Call) → Seen → Line
-c ⇒ s = record { call = c; sees = s }
+abbrev pub _⇒_ : Act → Seen → Line
+a ⇒ s = record { act = a; sees = s }
 
 -- a row with no line yet, and with one line more
 abbrev pub onModel : ℕ → Row
@@ -99,6 +95,15 @@ bench m = cond (eqb m 3) benchKH25L12845G (cond (eqb m 2) benchKH25L2006E benchK
 -- an array for each bench, of the length that its model has
 abbrev pub ArraysFit : (ℕ → List ℕ) → Type 0
 ArraysFit array = (m : ℕ) → length (array m) ≡ modelOf (bench m .model) .length
+
+-- a frame on the bench of a model is lent a wear table from the factory and an output of 300 bytes AA
+abbrev pub sentOn : ℕ → ℕ → Bool → List ℕ → Sent
+sentOn m tail wp bytes = sentOf bytes tail wp false (replicate (modelOf m .sectors) 0) (replicate 300 0xAA)
+
+abbrev pub callOn : ℕ → Act → Call
+callOn m (framed tail wp bytes) = sends (sentOn m tail wp bytes)
+callOn m (wait us) = waits us
+callOn m cycle = cycles
 
 -- the same looks at a chip
 abbrev pub lookAt : Chip → List Look → List Look
@@ -124,9 +129,9 @@ module _ (p : Pod) (rec : Record) (before : List Call) where
 abbrev pub filledLines : Pod → Record → List Call → List Line → Chip → List Line
 filledLines p rec before [] x = []
 filledLines p rec before (l ∷ ls) x =
-    let c : Call = l .call (rec .model) in
+    let c : Call = callOn (rec .model) (l .act) in
     let y : Chip = after p rec before c x in
-    (l .call ⇒ seenOf p rec before c (l .sees .looks) x y) ∷ filledLines p rec (c ∷ before) ls y
+    (l .act ⇒ seenOf p rec before c (l .sees .looks) x y) ∷ filledLines p rec (c ∷ before) ls y
 
 -- row by row, each from power-on of its model's bench
 abbrev pub filled : Pod → (ℕ → List ℕ) → List Row → List Row
