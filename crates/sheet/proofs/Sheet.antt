@@ -2,7 +2,7 @@
 use mathlib.Core.Path.{_≡_, refl, ap, subst, _∙_}
 use mathlib.Core.Bool.{Bool, true, false, not, cond}
 use mathlib.Core.List.{List, [], _∷_}
-use Prim.Native.Nat.{ℕ, _%_}
+use Prim.Native.Nat.{ℕ, zero, suc, _%_}
 use lib.Dec.{eqb}
 use lib.ListN.{length, getD, length-replicate}
 use Rattle.answers.specs.Answers.{isDone}
@@ -29,7 +29,7 @@ use Rattle.chip.specs.Frames.{headFor, overBy, wornBy, acceptedOf, refusedOf, f
 use Rattle.calls.specs.Calls.{Call, Pod, ours, left, after, answer, Bench}
 use Rattle.calls.proofs.Valid.{power-on-fine}
 use Rattle.calls.proofs.Steps.{wait-taken, run-bench}
-use Rattle.sheet.specs.Lines.{Look, Seen, Act, framed, wait, cycle, Line, Row, drive, _⇒_, bench, ArraysFit, sentOn, callOn, drivenBy, seenOf, filledLines, filled}
+use Rattle.sheet.specs.Lines.{Look, Seen, Act, framed, wait, cycle, Line, Row, drive, _⇒_, bench, ArraysFit, sentOn, callOn, drivenBy, seenOf, filledLines, filledRow, filled}
 use Rattle.sheet.specs.Sheet.{sheet, BenchSheet}
 
 -- on a bench the array and the wear table have the model's lengths and the page data fit: a pod to which that is told, so that it is not computed
@@ -108,17 +108,28 @@ rows-told array e (r ∷ rs) =
     let m : ℕ = r .model in
     rw (lines-told (bench m) [] (r .lines) (chipOf powerOn blankPage (array m)) (power-on m (array m) (e m)), rows-told array e rs)
 
--- the table is computed, but for the length of model 1's array, which the read past its end asks for
-rows : (array : ℕ → List ℕ)
-    → (let last : ℕ = getD (array 1) (65535 % length (array 1)) 0 in
-    let first : ℕ = getD (array 1) (65536 % length (array 1)) 0 in
-    filled told array (sheet last first) ≡ sheet last first)
+-- the first k rows one by one, so that a wrong line is seen where it stands, and all others at once
+abbrev RowByRow : (ℕ → List ℕ) → ℕ → List Row → Type 0
+RowByRow array zero rs = filled told array rs ≡ rs
+RowByRow array (suc k) [] = Unit {0}
+RowByRow array (suc k) (r ∷ rs) = (filledRow told array r ≡ r) × RowByRow array k rs
+
+together : (array : ℕ → List ℕ) (k : ℕ) (rs : List Row) → RowByRow array k rs → filled told array rs ≡ rs
+together array zero rs p = p
+together array (suc k) [] p = refl
+together array (suc k) (r ∷ rs) p = rw (p .0, together array k rs (p .1))
+
+-- they compute, but for the length of model 1's array, which the read past its end asks for
+abbrev rowsAt : ℕ → List ℕ → List Row
+rowsAt n xs = sheet (getD xs (65535 % n) 0) (getD xs (65536 % n) 0)
+
+rows : (array : ℕ → List ℕ) → RowByRow array 17 (rowsAt (length (array 1)) (array 1))
 unfolding covered wornOut isModel partOf halfOk configOk tbOf configWritten configAfter refusalLeaves cycled readConfig addressOf rangeOf isProtected lay ring counts cellAfter pageAfter sectorErased programmed decodeOf traitsOf lengthOk inRange recordOk longestSettle idleOk busyOk stateOk statusOf refusalOf drives latched dozing starting written forgotten finished eraseStarts writeEnable writeStatus sleep readStatus readFrom programPage programsOver wakingTime wake headFor acceptedOf after answer later waited
-rows array = refl
+rows array = (refl, (refl, (refl, (refl, (refl, (refl, (refl, (refl, (refl, (refl, (refl, (refl, (refl, (refl, (refl, (refl, (refl, refl)))))))))))))))))
 
 pub bench-sheet : BenchSheet
 unfolding partOf
 bench-sheet array e =
     let xs = array 1 in
-    rows-told array e (sheet (getD xs 65535 0) (getD xs 0 0))
-    ∙ subst (λ (n : ℕ). filled told array (sheet (getD xs (65535 % n) 0) (getD xs (65536 % n) 0)) ≡ sheet (getD xs (65535 % n) 0) (getD xs (65536 % n) 0)) (e 1) (rows array)
+    rows-told array e (rowsAt 65536 xs)
+    ∙ subst (λ (n : ℕ). filled told array (rowsAt n xs) ≡ rowsAt n xs) (e 1) (together array 17 (rowsAt (length xs) xs) (rows array))

@@ -133,9 +133,10 @@ filledLines p rec before (l ∷ ls) x =
     let y : Chip = after p rec before c x in
     (l .act ⇒ seenOf p rec before c (l .sees .looks) x y) ∷ filledLines p rec (c ∷ before) ls y
 
--- row by row, each from power-on of its model's bench
+-- a row from power-on of its model's bench, and row by row
+abbrev pub filledRow : Pod → (ℕ → List ℕ) → Row → Row
+filledRow p array r = let m : ℕ = r .model in record { model = m; lines = filledLines p (bench m) [] (r .lines) (chipOf powerOn blankPage (array m)) }
+
 abbrev pub filled : Pod → (ℕ → List ℕ) → List Row → List Row
 filled p array [] = []
-filled p array (r ∷ rs) =
-    let m : ℕ = r .model in
-    record { model = m; lines = filledLines p (bench m) [] (r .lines) (chipOf powerOn blankPage (array m)) } ∷ filled p array rs
+filled p array (r ∷ rs) = filledRow p array r ∷ filled p array rs
