@@ -3,8 +3,7 @@ use mathlib.Core.Path.{_≡_, refl, ap, subst, _∙_}
 use mathlib.Core.Bool.{Bool, true, false, not, _&&_, _||_, cond, true≢false}
 use mathlib.Core.List.{List, [], _∷_}
 use mathlib.Core.Logic.{_⊎_, inl, ⊎-elim}
-use Prim.Native.Nat.{ℕ, _*_, _/_, _%_}
-use native.Mathlib.Omega.{arith}
+use Prim.Native.Nat.{ℕ}
 use lib.Dec.{eqb, ltb}
 use Rattle.units.specs.declared.Address.{Address}
 use Rattle.answers.specs.Answers.{isDone}
@@ -23,6 +22,7 @@ use Rattle.recovery.proofs.Histories.{runs-are-histories}
 use Rattle.promises.specs.Protected.{SameArea, StaysProtected}
 use Rattle.promises.specs.Locked.{LowIn, WpLow, Unchanged, StaysLocked, LockedArea, LockedRun}
 use Rattle.promises.proofs.Laws.{by}
+use Rattle.promises.proofs.Torn.{cycle-keeps-tb}
 use Rattle.promises.proofs.Protected.{isWrite, Next, remains, enables, rests, begins, frame-next, idle-runs, Mood, call-mood, protected-stays}
 
 -- ---- SRWD, BP and TB
@@ -72,8 +72,8 @@ unfolding forgotten tbOf
 forgotten-keeps s = kept refl refl refl
 
 cycled-keeps : (s : State) → Kept s (cycled s)
-unfolding cycled tbOf
-cycled-keeps s = let e : s .config / 8 % 2 * 8 / 8 % 2 ≡ s .config / 8 % 2 = omega arith in kept refl refl (rw e)
+unfolding cycled
+cycled-keeps s = kept refl refl (cycle-keeps-tb s)
 
 -- the chip is idle, or no status write runs
 abbrev NoWrite : Operation → Address → Type 0
