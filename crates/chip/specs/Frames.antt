@@ -8,7 +8,7 @@ use Rattle.units.specs.declared.Address.{Address}
 use Rattle.models.specs.Models.{modelOf, addressOf}
 use Rattle.answers.specs.Answers.{isDone}
 use Rattle.commands.specs.Commands.{decodeOf, traitsOf, fewest, mostWritten, operationOf, startedBy}
-use Rattle.states.specs.States.{pageOk, noAddress, Chip}
+use Rattle.states.specs.States.{pageOk, Chip}
 use Rattle.commands.specs.declared.Operation.the-variants.{ErasesSector, ErasesHalf, ErasesBlock, ErasesChip}
 use Rattle.states.specs.declared.Record.{Record}
 use Rattle.states.specs.declared.State.{State}
@@ -21,7 +21,7 @@ use Rattle.ladder.specs.Stages.{givenOf}
 use Rattle.ladder.specs.declared.Head.{Head}
 use Rattle.effects.specs.declared.Reply.{Reply}
 use Rattle.counts.specs.Counts.{wornOut, counted}
-use Rattle.effects.specs.Effects.{Effect, shown, started, turned, stateOnly, writeEnable, writeDisable, writeStatus, eraseStarts, sleep, refusalLeaves, readStatus, readConfig, readFrom, programPage, goesOver, readId, wake, readMaker, Room}
+use Rattle.effects.specs.Effects.{Effect, shown, started, turned, stateOnly, writeEnable, writeDisable, writeStatus, eraseStarts, nowhere, sleep, refusalLeaves, readStatus, readConfig, readFrom, programPage, goesOver, readId, wake, readMaker, Room}
 
 -- what a frame sends: its whole bytes, the tail bits after them, the WP# level and the strict setting; and the wear table and the output lent to it
 pub record Sent : Type 0 where
@@ -59,7 +59,7 @@ overBy model cells f =
 
 -- whether the frame of those bytes covers a sector whose count would pass its top
 abbrev pub wornBy : ℕ → List ℕ → List ℕ → Bool
-wornBy model bytes wear = wornOut (startedBy model (getD bytes 0 0)) (addressOf model (getD bytes 1 0) (getD bytes 2 0) (getD bytes 3 0) .0) wear
+wornBy model bytes wear = wornOut (startedBy model (getD bytes 0 0)) (addressOf model (getD bytes 1 0) (getD bytes 2 0) (getD bytes 3 0)) wear
 
 abbrev pub headOf : Record → Chip → Sent → Head
 headOf rec x f =
@@ -75,10 +75,10 @@ acceptedOf rec x ReadConfig at bytes wear out = shown (x .page) wear (readConfig
 acceptedOf rec x WriteStatus at bytes wear out = started wear out (writeStatus rec (x .state) (x .page) bytes)
 acceptedOf rec x Read at bytes wear out = shown (x .page) wear (readFrom 4 (x .state) (x .cells) at bytes out)
 acceptedOf rec x FastRead at bytes wear out = shown (x .page) wear (readFrom 5 (x .state) (x .cells) at bytes out)
-acceptedOf rec x EraseSector at bytes wear out = turned (x .page) (counted ErasesSector (at .0) wear) out (eraseStarts rec (x .state) ErasesSector (at .0) bytes)
-acceptedOf rec x EraseHalf at bytes wear out = turned (x .page) (counted ErasesHalf (at .0) wear) out (eraseStarts rec (x .state) ErasesHalf (at .0) bytes)
-acceptedOf rec x EraseBlock at bytes wear out = turned (x .page) (counted ErasesBlock (at .0) wear) out (eraseStarts rec (x .state) ErasesBlock (at .0) bytes)
-acceptedOf rec x EraseChip at bytes wear out = turned (x .page) (counted ErasesChip noAddress wear) out (eraseStarts rec (x .state) ErasesChip noAddress bytes)
+acceptedOf rec x EraseSector at bytes wear out = turned (x .page) (counted ErasesSector at wear) out (eraseStarts rec (x .state) ErasesSector at bytes)
+acceptedOf rec x EraseHalf at bytes wear out = turned (x .page) (counted ErasesHalf at wear) out (eraseStarts rec (x .state) ErasesHalf at bytes)
+acceptedOf rec x EraseBlock at bytes wear out = turned (x .page) (counted ErasesBlock at wear) out (eraseStarts rec (x .state) ErasesBlock at bytes)
+acceptedOf rec x EraseChip at bytes wear out = turned (x .page) (counted ErasesChip nowhere wear) out (eraseStarts rec (x .state) ErasesChip nowhere bytes)
 acceptedOf rec x Program at bytes wear out = started wear out (programPage rec (x .state) (x .page) at bytes)
 acceptedOf rec x ReadId at bytes wear out = shown (x .page) wear (readId rec (x .state) bytes out)
 acceptedOf rec x Wake at bytes wear out = shown (x .page) wear (wake rec (x .state) bytes out)
@@ -101,7 +101,7 @@ frameOf rec x f =
 abbrev pub takenOf : Record → Chip → Command → Address → Bool → List ℕ → List ℕ → List ℕ → Effect
 takenOf rec x c at strict bytes wear out =
     cond (goesOver (operationOf c) strict at (x .cells) bytes) (stateOnly NotErased (x .state) (x .page) wear out)
-    (cond (wornOut (operationOf c) (at .0) wear) (stateOnly WornOut (x .state) (x .page) wear out) (acceptedOf rec x c at bytes wear out))
+    (cond (wornOut (operationOf c) at wear) (stateOnly WornOut (x .state) (x .page) wear out) (acceptedOf rec x c at bytes wear out))
 
 -- the reply, the page data and the output of an effect: what the code of the commands gives; the wear table is not lent to it
 pub record Does (e : Effect) (r : Reply) (page os : List ℕ) : Type 0 where

@@ -15,7 +15,7 @@ use Rattle.fold.specs.Fold.{folds, pageAfter}
 use Rattle.fold.specs.Strict.{overOld}
 use Rattle.commands.specs.declared.Operation.{Operation}
 use Rattle.commands.specs.declared.Operation.the-variants.{Idle, WritesStatus, Programs, ErasesSector, ErasesHalf, ErasesBlock, ErasesChip}
-use Rattle.states.specs.States.{statusOf, operationTime}
+use Rattle.states.specs.States.{statusOf, operationTime, noAddress}
 use Rattle.states.specs.declared.Record.{Record}
 use Rattle.states.specs.declared.State.{State}
 use Rattle.answers.specs.Answers.{saysProtected}
@@ -131,8 +131,12 @@ readFrom first s cells at bytes out =
     record { reply = drives s first (length bytes); out = lay out first (ring cells (at .0) (length bytes - first)) }
 
 -- 20, 52, D8, 60 and C7: the erase starts; the cells change when its time has run out (000 L315, L327, L335, 003 L1233)
-unfoldable pub eraseStarts : Record → State → Operation → ℕ → List ℕ → Reply
-eraseStarts rec s op place bytes = quiet Done (starting s (getD bytes 0 0) place (operationTime rec op))
+unfoldable pub eraseStarts : Record → State → Operation → Address → List ℕ → Reply
+eraseStarts rec s op at bytes = quiet Done (starting s (getD bytes 0 0) (at .0) (operationTime rec op))
+
+-- an erase of the chip has no address
+abbrev pub nowhere : Address
+nowhere = record { 0 = noAddress }
 
 -- 02: the bytes from position 4 on fold into the page data; the cells change when the time has run out (000 L343)
 unfoldable pub programPage : Record → State → List ℕ → Address → List ℕ → Started

@@ -130,7 +130,7 @@ abbrev pub WearCounted : Type 0
 WearCounted =
     (rec : Record) (x : Chip) (f : Sent)
     → (let h : Head = headOf rec x f in
-    frameOf rec x f .wear ≡ cond (isDone (frameOf rec x f .reply .answer)) (counted (operationOf (h .command)) (h .address .0) (f .wear)) (f .wear))
+    frameOf rec x f .wear ≡ cond (isDone (frameOf rec x f .reply .answer)) (counted (operationOf (h .command)) (h .address) (f .wear)) (f .wear))
 
 -- no second answer satisfies a promise. Every promise of the crates below is an equation with a definition, `Gives` or `Ends`.
 abbrev pub OneOutcome : Type 1
