@@ -11,7 +11,8 @@ use Rattle.ladder.specs.Ladder.{refusalOf}
 use Rattle.ladder.specs.declared.Head.{Head}
 use Rattle.ladder.proofs.Passed.{passed, stopped}
 use Rattle.effects.specs.Effects.{Effect, refusalLeaves}
-use Rattle.chip.specs.Frames.{Sent, Ready, headFor, headOf, acceptedOf, refusedOf, frameOf, wornBy, overBy}
+use Rattle.chip.specs.Frames.{Sent, headFor, headOf, acceptedOf, refusedOf, frameOf, wornBy, overBy}
+use Rattle.chip.specs.Contracts.{Ready}
 use Rattle.chip.specs.Driven.{drivenBytes, foldOf}
 use Rattle.models.specs.Models.{modelOf}
 use Rattle.commands.specs.Commands.{traitsOf, lengthOk, operationOf}

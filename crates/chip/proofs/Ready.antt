@@ -31,9 +31,11 @@ use Rattle.ladder.proofs.Stages.{stops-given, stops-said, goes-on, data-is}
 use Rattle.ladder.specs.declared.Head.{Head}
 use Rattle.ladder.proofs.Passed.{Passed, passed, given-spares, given-page}
 use Rattle.effects.specs.declared.Reply.{Reply}
-use Rattle.effects.specs.Effects.{Effect, Gives, Room, quiet, stateOnly, refusalLeaves, goesOver}
+use Rattle.effects.specs.Effects.{Effect, quiet, stateOnly, refusalLeaves, goesOver}
+use Rattle.effects.specs.Contracts.{Gives, Room}
 use Rattle.effects.proofs.Replies.{leaves-all}
-use Rattle.chip.specs.Frames.{Sent, Does, Ready, Heard, headFor, headOf, acceptedOf, takenOf, refusedOf, frameOf}
+use Rattle.chip.specs.Frames.{Sent, headFor, headOf, acceptedOf, takenOf, refusedOf, frameOf}
+use Rattle.chip.specs.Contracts.{Does, Ready, Heard}
 use borrow.Author.Tests.{not-true, not-false}
 use Rattle.chip.proofs.Sorts.{table-after}
 

@@ -1,27 +1,23 @@
 -- Any frame: its head, the refusals, and what its command does. Assumes nothing.
-use mathlib.Core.Bool.{Bool, true, cond}
+use mathlib.Core.Bool.{Bool, cond}
 use mathlib.Core.List.{List}
-use mathlib.Core.Path.{_≡_}
-use Prim.Native.Nat.{ℕ, _≤_, _<_}
+use Prim.Native.Nat.{ℕ}
 use lib.ListN.{length, getD}
 use Rattle.units.specs.declared.Address.{Address}
-use Rattle.models.specs.Models.{modelOf, addressOf}
+use Rattle.models.specs.Models.{addressOf}
 use Rattle.answers.specs.Answers.{isDone}
-use Rattle.commands.specs.Commands.{decodeOf, traitsOf, fewest, mostWritten, operationOf, startedBy}
+use Rattle.commands.specs.Commands.{decodeOf, operationOf, startedBy}
 use Rattle.states.specs.States.{pageOk, Chip}
 use Rattle.commands.specs.declared.Operation.the-variants.{ErasesSector, ErasesHalf, ErasesBlock, ErasesChip}
 use Rattle.states.specs.declared.Record.{Record}
-use Rattle.states.specs.declared.State.{State}
 use Rattle.commands.specs.declared.Command.{Command}
 use Rattle.commands.specs.declared.Command.the-variants.{WriteEnable, WriteDisable, ReadStatus, ReadConfig, WriteStatus, Read, FastRead, EraseSector, EraseHalf, EraseBlock, EraseChip, Program, ReadId, Wake, ReadMaker, Sleep, Unknown}
 use Rattle.answers.specs.declared.Answer.{Answer}
 use Rattle.answers.specs.declared.Answer.the-variants.{Done, WornOut, NotErased}
 use Rattle.ladder.specs.Ladder.{refusalOf}
-use Rattle.ladder.specs.Stages.{givenOf}
 use Rattle.ladder.specs.declared.Head.{Head}
-use Rattle.effects.specs.declared.Reply.{Reply}
 use Rattle.counts.specs.Counts.{wornOut, counted}
-use Rattle.effects.specs.Effects.{Effect, shown, started, turned, stateOnly, writeEnable, writeDisable, writeStatus, eraseStarts, nowhere, sleep, refusalLeaves, readStatus, readConfig, readFrom, programPage, goesOver, readId, wake, readMaker, Room}
+use Rattle.effects.specs.Effects.{Effect, shown, started, turned, stateOnly, writeEnable, writeDisable, writeStatus, eraseStarts, nowhere, sleep, refusalLeaves, readStatus, readConfig, readFrom, programPage, goesOver, readId, wake, readMaker}
 
 -- what a frame sends: its whole bytes, the tail bits after them, the WP# level and the strict setting; and the wear table and the output lent to it
 pub record Sent : Type 0 where
@@ -102,23 +98,3 @@ abbrev pub takenOf : Record → Chip → Command → Address → Bool → List �
 takenOf rec x c at strict bytes wear out =
     cond (goesOver (operationOf c) strict at (x .cells) bytes) (stateOnly NotErased (x .state) (x .page) wear out)
     (cond (wornOut (operationOf c) at wear) (stateOnly WornOut (x .state) (x .page) wear out) (acceptedOf rec x c at bytes wear out))
-
--- the reply, the page data and the output of an effect: what the code of the commands gives; the wear table is not lent to it
-pub record Does (e : Effect) (r : Reply) (page os : List ℕ) : Type 0 where
-  pub reply : r ≡ e .reply
-  pub page-is : page ≡ e .page
-  pub out : os ≡ e .out
-
--- what those rows have shown of it, for the code below them
-pub record Ready (rec : Record) (x : Chip) (c : Command) (at : Address) (bytes out : List ℕ) : Type 0 where
-  pub level : x .state .bp ≤ 15
-  pub whole : length (x .cells) ≡ modelOf (rec .model) .length
-  pub inside : at .0 < length (x .cells)
-  pub page-data : length (x .page) ≡ 256
-  pub written : c ≡ WriteStatus → length bytes ≤ mostWritten (modelOf (rec .model) .register)
-  pub fits : Room (fewest (traitsOf (modelOf (rec .model) .register) c)) bytes out
-
--- the first six rows of the table have let the frame pass
-pub record Heard (rec : Record) (x : Chip) (f : Sent) : Type 0 where
-  pub given : isDone (givenOf rec (x .state) (headOf rec x f)) ≡ true
-  pub fits : pageOk (rec .model) (x .state) (x .page) ≡ true

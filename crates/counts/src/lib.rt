@@ -1,10 +1,11 @@
 // The wear table: one count of erases a sector, which the caller lends. An erase raises those of the sectors that it covers; a report sums it up.
 ghost use mathlib.Core.Path.{_≡_};
-ghost use mathlib.Core.Bool.{false, not, cond};
+ghost use mathlib.Core.Bool.{false, cond};
 ghost use Prim.Native.Nat.{_+_, _*_, _≤_, _<_, min, max};
 ghost use lib.Dec.{ltb};
 ghost use lib.ListN.{length};
-ghost use Rattle.counts.specs.Counts.{sectors, covered, atTop, wornOut, raised, counted, InTable, withOne, sumsOf, reportOf};
+ghost use Rattle.counts.specs.Counts.{sectors, covered, atTop, raised, InTable, withOne, sumsOf, reportOf};
+ghost use Rattle.counts.specs.Contracts.{Counting};
 use answers::Answer;
 use commands::Operation;
 use units::Address;
@@ -68,7 +69,7 @@ fn raise(counts: &mut [u32])
 // Counts an erase, unless a count would pass the highest one: whether it did. Only the counts of the covered sectors are passed on.
 pub fn count(wear: &mut [u32], op: Operation, at: Address) -> bool
     requires { ⌜ InTable op at (now wear) ⌝ }
-    ensures { λ r. ⌜ (r ≡ not (wornOut op at (now (wear .entry)))) × (now (wear .exit) ≡ cond r (counted op at (now (wear .entry))) (now (wear .entry))) ⌝ }
+    ensures { λ r. ⌜ Counting op at (now (wear .entry)) r (now (wear .exit)) ⌝ }
 {
     let unit = sectors_of(op, at, wear.len());
     let start = unit.first;

@@ -1,9 +1,8 @@
 -- What each command does once it is accepted, one definition a command in the order of 01's list. Assumes nothing.
-use mathlib.Core.Bool.{Bool, true, false, _&&_, _||_, cond}
+use mathlib.Core.Bool.{Bool, true, false, _&&_, cond}
 use mathlib.Core.List.{List, [], _∷_}
-use mathlib.Core.Path.{_≡_}
-use Prim.Native.Nat.{ℕ, _+_, _-_, _*_, _/_, _%_, _≤_}
-use lib.Dec.{eqb, ltb, leb}
+use Prim.Native.Nat.{ℕ, _-_, _%_}
+use lib.Dec.{eqb, ltb}
 use lib.ListN.{length, getD, drop, replicate}
 use Rattle.units.specs.declared.Address.{Address}
 use Rattle.models.specs.declared.Model.{Model}
@@ -45,21 +44,6 @@ shown page wear e = record { reply = e .reply; page = page; wear = wear; out = e
 
 abbrev pub started : List ℕ → List ℕ → Started → Effect
 started wear out e = record { reply = e .reply; page = e .page; wear = wear; out = out }
-
--- what a function's result and its lent buffers at exit have to be
-pub record Gives (e : Effect) (r : Reply) (page wear os : List ℕ) : Type 0 where
-  pub reply : r ≡ e .reply
-  pub page-is : page ≡ e .page
-  pub wear-is : wear ≡ e .wear
-  pub out : os ≡ e .out
-
-pub record Shows (e : Shown) (r : Reply) (os : List ℕ) : Type 0 where
-  pub reply : r ≡ e .reply
-  pub out : os ≡ e .out
-
-pub record Starts (e : Started) (r : Reply) (page : List ℕ) : Type 0 where
-  pub reply : r ≡ e .reply
-  pub page-is : page ≡ e .page
 
 -- ---- replies
 -- nothing is driven
@@ -194,10 +178,3 @@ readMaker rec s bytes out =
 -- B9: enters deep power-down, and settles (000 L359, 002 L802)
 unfoldable pub sleep : Record → State → Reply
 sleep rec s = quiet Done (dozing s true (rec .sleep))
-
--- ---- what the functions ask of a frame
--- a frame of at least `first` bytes, none longer than is allowed, and room for it in the output
-pub record Room (first : ℕ) (bytes out : List ℕ) : Type 0 where
-  pub long : first ≤ length bytes
-  pub short : length bytes ≤ 65541
-  pub room : length bytes ≤ length out

@@ -8,11 +8,11 @@ use lib.Dec.{eqb, leb}
 use lib.ListN.{length, getD, take, drop, take-append-drop}
 use lib.Seq.{sets, sets-eq, take-add, drop-drop}
 use mir.Val.{boolByte}
-use borrow.Author.Tests.{eqb-true, eq-eqb}
+use borrow.Author.Tests.{eqb-true, eqb-false, eq-eqb}
 use Rattle.units.proofs.Bools.{both}
 use Rattle.states.specs.States.{flag, statusOf}
 use Rattle.states.specs.declared.State.{State}
-use Rattle.packing.specs.Packing.{bytesOf, spelt, timeAt, placeBytes, placeSpelt, packOf, packed, pageIn, readOf, same, isPacking, noState, unpackOf, Timed}
+use Rattle.packing.specs.Packing.{bytesOf, spelt, timeAt, placeBytes, placeSpelt, packOf, packed, pageIn, readOf, same, isPacking, noState, unpackOf, Timed, OneTimed}
 use Rattle.packing.proofs.Bytes.{spelt-bytes, bytes-spelt, place-back, place-bytes, same-refl, same-eq, four-at}
 use Rattle.packing.proofs.Status.{flag-byte, flag-back, srwd-back, bp-back, wel-back, status-test, flag-test}
 
@@ -145,8 +145,15 @@ tests-right (a ∷ b ∷ c ∷ d ∷ ts) n h =
     rw (eq-eqb (length (a ∷ b ∷ c ∷ d ∷ ts)) 272 n, e, same-refl (take 12 ts), flag-test b, eq-eqb c c refl, status-test a (h 0) (not (eqb (timeAt 0 ts) 0)), and-true, and-assoc)
 
 -- the code's time
-pub timed : (xs : List ℕ) {time : ℕ} → time ≡ spelt (getD xs 4 0 ∷ getD xs 5 0 ∷ getD xs 6 0 ∷ getD xs 7 0 ∷ []) → Timed xs time
-timed xs e = record { is = λ n. e ∙ sym (ap spelt (four-at xs 4 (omega arith))) }
+pub timed : (xs : List ℕ) {time : ℕ} → length xs ≡ 272 → time ≡ spelt (getD xs 4 0 ∷ getD xs 5 0 ∷ getD xs 6 0 ∷ getD xs 7 0 ∷ []) → Timed xs time
+timed xs l e = record { is = λ n. e ∙ sym (ap spelt (four-at xs 4 (omega arith))); none = λ n. absurd (n l) }
+
+pub one-timed : OneTimed
+one-timed xs r t p q = go (eqb (length xs) 272) refl
+  where
+    go : (b : Bool) → eqb (length xs) 272 ≡ b → r ≡ t
+    go true e = let n = eqb-true (length xs) 272 e in p .is n ∙ sym (q .is n)
+    go false e = let n = eqb-false (length xs) 272 e in p .none n ∙ sym (q .none n)
 
 module _ (xs : List ℕ) (n : length xs ≡ 272) {time : ℕ} (e : Timed xs time) where
   pub tested : ((i : ℕ) → getD xs i 0 < 256) → tests xs (boolByte (not (eqb time 0))) ≡ isPacking xs

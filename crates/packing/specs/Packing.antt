@@ -79,6 +79,11 @@ noState = record { srwd = false; bp = 255; config = 0; wel = false; asleep = fal
 unfoldable pub unpackOf : List ℕ → State
 unpackOf xs = cond (isPacking xs) (readOf xs) noState
 
--- the busy time that the code has read: where there are 272 bytes, the four from place 4 on spell it
+-- the busy time that the code has read: where there are 272 bytes, the four from place 4 on spell it, and else it is 0
 pub record Timed (xs : List ℕ) (busy : ℕ) : Type 0 where
   pub is : length xs ≡ 272 → busy ≡ timeAt 4 xs
+  pub none : (length xs ≡ 272 → ⊥) → busy ≡ 0
+
+-- no second one satisfies that
+abbrev pub OneTimed : Type 0
+OneTimed = (xs : List ℕ) (r t : ℕ) → Timed xs r → Timed xs t → r ≡ t

@@ -63,7 +63,7 @@ returns c =
     let s = c .before .before .before .before .before .before .before in
     let a = s .before .before .args in
     let t = c .before in
-    (ap not (sym (c .if1 .taken) ∙ t .at-top .ensures ∙ its-tops (now (a .wear)) (a .op) (a .at) (s .sectors-of .result) (s .sectors-of .ensures) (s .before .before .pre)), refl)
+    record { done-is = ap not (sym (c .if1 .taken) ∙ t .at-top .ensures ∙ its-tops (now (a .wear)) (a .op) (a .at) (s .sectors-of .result) (s .sectors-of .ensures) (s .before .before .pre)); table-is = refl }
 
 mul-raise : tie.Need-mul-raise
 mul-raise c =
@@ -90,7 +90,10 @@ returns-2 c =
     let a = s .before .before .args in
     let w = now (a .wear) in
     let r = s .sectors-of .result in
-    (ap not (sym (t .if1 .left) ∙ t .before .at-top .ensures ∙ its-tops w (a .op) (a .at) r (s .sectors-of .ensures) (s .before .before .pre)), counts-back w (a .op) (a .at) r (s .sectors-of .ensures) (s .before .before .pre) (k .raise .ensures))
+    record {
+      done-is = ap not (sym (t .if1 .left) ∙ t .before .at-top .ensures ∙ its-tops w (a .op) (a .at) r (s .sectors-of .ensures) (s .before .before .pre));
+      table-is = counts-back w (a .op) (a .at) r (s .sectors-of .ensures) (s .before .before .pre) (k .raise .ensures);
+    }
 
 pub count-spec : {M : Type 1} → statement M
 count-spec =
