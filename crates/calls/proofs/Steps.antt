@@ -19,7 +19,7 @@ use Rattle.commands.specs.Commands.{decodeOf, traitsOf, lengthOk}
 use Rattle.commands.specs.declared.Command.{Command}
 use Rattle.commands.specs.declared.Command.the-variants.{EraseHalf, Read, Program, WriteStatus}
 use Rattle.commands.proofs.Rows.{between, least-on, one-byte-write}
-use Rattle.states.specs.States.{recordOk, noAddress, tbOf, Chip, chipOf}
+use Rattle.states.specs.States.{recordOk, tbOf, Chip, chipOf}
 use Rattle.states.specs.declared.Record.{Record}
 use Rattle.states.specs.declared.State.{State}
 use Rattle.answers.specs.declared.Answer.{Answer}
@@ -31,7 +31,7 @@ use Rattle.ladder.specs.declared.Head.{Head}
 use Rattle.ladder.proofs.Stages.{all-pass, stops-said}
 use Rattle.commands.specs.declared.Operation.the-variants.{ErasesSector, ErasesHalf, ErasesBlock, ErasesChip}
 use Rattle.counts.specs.Counts.{covered, wornOut, counted}
-use Rattle.effects.specs.Effects.{Effect, stateOnly, turned, started, shown, drives, latched, dozing, writeEnable, writeStatus, eraseStarts, programPage, programsOver, readFrom, wake, wakingTime, sleep}
+use Rattle.effects.specs.Effects.{Effect, stateOnly, turned, started, shown, drives, latched, dozing, writeEnable, writeStatus, eraseStarts, nowhere, programPage, programsOver, readFrom, wake, wakingTime, sleep}
 use Rattle.chip.specs.Frames.{Sent, headFor, headOf, acceptedOf, refusedOf, frameOf}
 use Rattle.time.specs.Time.{Aftermath, later, waited, waitOf}
 use Rattle.time.proofs.Time.{Fit, fit-taken}
@@ -115,10 +115,10 @@ while-settling rec x b bytes strict wear out settling some l r k =
 -- at BP 0 no block is protected
 pub unprotected : (n : ℕ) (tb : Bool) (b : Block) → isProtected n tb 0 b ≡ false
 unfolding isProtected
-unprotected n tb b = go (leb (rangeOf n tb 0 .0) (b .0)) refl
+unprotected n tb b = go (leb (rangeOf n tb 0 .0 .0) (b .0)) refl
   where
-    go : (t : Bool) → leb (rangeOf n tb 0 .0) (b .0) ≡ t → (t && ltb (b .0) (rangeOf n tb 0 .0 + rangeOf n tb 0 .1)) ≡ false
-    go true e = le-ltb (b .0) (rangeOf n tb 0 .0 + rangeOf n tb 0 .1) (omega (arith, range-none n tb, leb-true (rangeOf n tb 0 .0) (b .0) e))
+    go : (t : Bool) → leb (rangeOf n tb 0 .0 .0) (b .0) ≡ t → (t && ltb (b .0) (rangeOf n tb 0 .0 .0 + rangeOf n tb 0 .1)) ≡ false
+    go true e = le-ltb (b .0) (rangeOf n tb 0 .0 .0 + rangeOf n tb 0 .1) (omega (arith, range-none n tb, leb-true (rangeOf n tb 0 .0 .0) (b .0) e))
     go false e = refl
 
 -- on model 3 the byte 52 erases a half block
@@ -174,8 +174,8 @@ module _ (rec : Record) (x : Chip) (b : Bench rec x) (z : x .state .busy ≡ 0) 
     abbrev pub to : Address
     to = addressOf (rec .model) high middle low
 
-    pub erase-taken : x .state .asleep ≡ false → x .state .wel ≡ true → x .state .bp ≡ 0 → 4 ≤ length out → wornOut ErasesSector (to .0) wear ≡ false
-        → frameOf rec x (frame (0x20 ∷ high ∷ middle ∷ low ∷ []) strict wear out) ≡ turned (x .page) (counted ErasesSector (to .0) wear) out (eraseStarts rec (x .state) ErasesSector (to .0) (0x20 ∷ high ∷ middle ∷ low ∷ []))
+    pub erase-taken : x .state .asleep ≡ false → x .state .wel ≡ true → x .state .bp ≡ 0 → 4 ≤ length out → wornOut ErasesSector to wear ≡ false
+        → frameOf rec x (frame (0x20 ∷ high ∷ middle ∷ low ∷ []) strict wear out) ≡ turned (x .page) (counted ErasesSector to wear) out (eraseStarts rec (x .state) ErasesSector to (0x20 ∷ high ∷ middle ∷ low ∷ []))
     unfolding acceptedOf decodeOf traitsOf headFor lengthOk tbOf covered wornOut saidOf dataOf
     erase-taken a w p r n =
         taken rec x b (frame (0x20 ∷ high ∷ middle ∷ low ∷ []) strict wear out) (lit≤ tt) (lit≤ tt) r k
@@ -201,8 +201,8 @@ module _ (rec : Record) (x : Chip) (b : Bench rec x) (z : x .state .busy ≡ 0) 
         (rw (eqb·suc-zero (suc (suc (suc (length more)))), still, idle, a, least-on (traitsOf (modelOf (rec .model) .register) Read) (suc (suc (suc (suc (length more))))) 0 (omega arith))) refl
 
     -- the other operations, for a chip that waits too short a time after them
-    pub half-taken : modelOf (rec .model) .«half_erase» ≡ true → x .state .asleep ≡ false → x .state .wel ≡ true → x .state .bp ≡ 0 → 4 ≤ length out → wornOut ErasesHalf (to .0) wear ≡ false
-        → frameOf rec x (frame (0x52 ∷ high ∷ middle ∷ low ∷ []) strict wear out) ≡ turned (x .page) (counted ErasesHalf (to .0) wear) out (eraseStarts rec (x .state) ErasesHalf (to .0) (0x52 ∷ high ∷ middle ∷ low ∷ []))
+    pub half-taken : modelOf (rec .model) .«half_erase» ≡ true → x .state .asleep ≡ false → x .state .wel ≡ true → x .state .bp ≡ 0 → 4 ≤ length out → wornOut ErasesHalf to wear ≡ false
+        → frameOf rec x (frame (0x52 ∷ high ∷ middle ∷ low ∷ []) strict wear out) ≡ turned (x .page) (counted ErasesHalf to wear) out (eraseStarts rec (x .state) ErasesHalf to (0x52 ∷ high ∷ middle ∷ low ∷ []))
     unfolding acceptedOf traitsOf headFor lengthOk tbOf covered wornOut saidOf dataOf
     half-taken m a w p r n =
         let sent : Sent = frame (0x52 ∷ high ∷ middle ∷ low ∷ []) strict wear out in
@@ -211,15 +211,15 @@ module _ (rec : Record) (x : Chip) (b : Bench rec x) (z : x .state .busy ≡ 0) 
         (rw (d, still, idle, a, w, p, unprotected (rec .model) (tbOf (x .state)) (blockOf to))) (rw (d, n))
         ∙ ap (λ (c : Command). acceptedOf rec x c to (sent .bytes) wear out) d
 
-    pub block-taken : x .state .asleep ≡ false → x .state .wel ≡ true → x .state .bp ≡ 0 → 4 ≤ length out → wornOut ErasesBlock (to .0) wear ≡ false
-        → frameOf rec x (frame (0xD8 ∷ high ∷ middle ∷ low ∷ []) strict wear out) ≡ turned (x .page) (counted ErasesBlock (to .0) wear) out (eraseStarts rec (x .state) ErasesBlock (to .0) (0xD8 ∷ high ∷ middle ∷ low ∷ []))
+    pub block-taken : x .state .asleep ≡ false → x .state .wel ≡ true → x .state .bp ≡ 0 → 4 ≤ length out → wornOut ErasesBlock to wear ≡ false
+        → frameOf rec x (frame (0xD8 ∷ high ∷ middle ∷ low ∷ []) strict wear out) ≡ turned (x .page) (counted ErasesBlock to wear) out (eraseStarts rec (x .state) ErasesBlock to (0xD8 ∷ high ∷ middle ∷ low ∷ []))
     unfolding acceptedOf decodeOf traitsOf headFor lengthOk tbOf covered wornOut saidOf dataOf
     block-taken a w p r n =
         taken rec x b (frame (0xD8 ∷ high ∷ middle ∷ low ∷ []) strict wear out) (lit≤ tt) (lit≤ tt) r k
         (rw (still, idle, a, w, p, unprotected (rec .model) (tbOf (x .state)) (blockOf to))) (rw n)
 
-  pub chip-taken : x .state .asleep ≡ false → x .state .wel ≡ true → x .state .bp ≡ 0 → 1 ≤ length out → wornOut ErasesChip noAddress wear ≡ false
-      → frameOf rec x (frame (0xC7 ∷ []) strict wear out) ≡ turned (x .page) (counted ErasesChip noAddress wear) out (eraseStarts rec (x .state) ErasesChip noAddress (0xC7 ∷ []))
+  pub chip-taken : x .state .asleep ≡ false → x .state .wel ≡ true → x .state .bp ≡ 0 → 1 ≤ length out → wornOut ErasesChip nowhere wear ≡ false
+      → frameOf rec x (frame (0xC7 ∷ []) strict wear out) ≡ turned (x .page) (counted ErasesChip nowhere wear) out (eraseStarts rec (x .state) ErasesChip nowhere (0xC7 ∷ []))
   unfolding acceptedOf decodeOf traitsOf headFor lengthOk covered wornOut saidOf dataOf
   chip-taken a w p r n =
       taken rec x b (frame (0xC7 ∷ []) strict wear out) (lit≤ tt) (lit≤ tt) r k

@@ -20,10 +20,11 @@ use Rattle.states.specs.declared.Record.{Record}
 use Rattle.states.specs.declared.State.{State}
 use Rattle.ladder.specs.Ladder.{Loan, absent, sized, callRows, refusalOf}
 use Rattle.effects.specs.declared.Reply.{Reply}
-use Rattle.effects.specs.Effects.{Gives}
+use Rattle.effects.specs.Contracts.{Gives}
 use Rattle.chip.specs.Frames.{Sent, headFor, headOf, frameOf}
 use Rattle.time.specs.declared.After.{After}
-use Rattle.time.specs.Time.{waited, cutOff, chipRefusal, powerRefusal, cutRefusal, Aftermath, unless, waitOf, powerOf, powerCutOf, Ends}
+use Rattle.time.specs.Time.{waited, cutOff, chipRefusal, powerRefusal, cutRefusal, Aftermath, unless, waitOf, powerOf, powerCutOf}
+use Rattle.time.specs.Contracts.{Ends}
 use Rattle.packing.specs.Packing.{packed, pageIn, isPacking, unpackOf}
 use Rattle.pod.specs.Calls.{chipIn, bytesRefusal, lentRefusal, mayMove, keptOf, called, calledFrame, altered, alteredOf, calledWait, calledCut, answered, calledCycle, Leaves, Alters, Answers, Packs}
 use Rattle.packing.proofs.Status.{flag-byte}

@@ -137,7 +137,7 @@ reported number total smallest largest sector mean remainder =
 unfoldable pub calledReport : List ℕ → ℕ → ℕ → ℕ → ℕ → ℕ → ℕ → Reported
 calledReport wear total smallest largest sector mean remainder =
     let r : Figures = reportOf wear in
-    cond (isDone (r .answer)) (reported 0 (r .total) (r .smallest) (r .largest) (r .sector) (r .mean) (r .remainder))
+    cond (isDone (r .answer)) (reported 0 (r .total) (r .smallest) (r .largest) (r .sector .0) (r .mean) (r .remainder))
     (reported (numberOf (r .answer)) total smallest largest sector mean remainder)
 
 pub record Reports (c : Reported) (number total smallest largest sector mean remainder : ℕ) : Type 0 where

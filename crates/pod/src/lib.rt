@@ -298,10 +298,11 @@ pub extern "C" fn gwo_wear_report(
     if !answers::is_done(answer) {
         return answers::number_of(answer);
     }
+    let first = said.sector;
     *total = said.total;
     *smallest = said.smallest;
     *largest = said.largest;
-    *sector = said.sector;
+    *sector = first.0;
     *mean = said.mean;
     *remainder = said.remainder;
     0

@@ -33,6 +33,7 @@ use Rattle.states.proofs.States.{Sound, sound}
 use Rattle.ladder.specs.Ladder.{ladder, asks, refusalOf}
 use Rattle.effects.proofs.Replies.{leaves-all, leaves-latch, clears-latch}
 use Rattle.effects.specs.declared.Reply.{Reply}
+use Rattle.counts.specs.Counts.{counted}
 use Rattle.effects.specs.Effects.{Effect, latched, dozing, starting, stateOnly}
 use Rattle.operations.specs.Operations.{runs, runsAt, pageAddress, configAfter, written, finishedBits, finishedCells, forgotten, finished, tornBits, cutBits, tornChip}
 use Rattle.operations.proofs.Fits.{inside, page-fits}
@@ -48,7 +49,7 @@ use Rattle.chip.proofs.Sorts.{is-done, notes, counts, moves, Move, stays, latch
 use Rattle.chip.proofs.Cases.{head, refusal, frame-cases, sort, shown-asked, refused-moves, table-frame}
 use Rattle.calls.specs.Calls.{sends, waits, cycles, cuts, after, Bench}
 use Rattle.calls.proofs.Steps.{wait-taken, waits-to, refused-frame}
-use Rattle.promises.specs.Laws.{WaitsAdd, RefusedFrame, RefusedWait, RefusedCut, RefusedCycle, unit, OnlyItsUnit, CutsOnlyItsUnit, ProgramFalls, NotBefore, unitCells, PatternOld, PatternFinished, OneOutcome, OneEffect, OneEnd, OneCycle, NumberFixed, FoldNoted, RefusalKeeps, RefusalClears, LatchFalls, TbStays, among, settlingNumbers, SettlingAnswers, SettlingStays, WearCounted}
+use Rattle.promises.specs.Laws.{WaitsAdd, RefusedFrame, RefusedWait, RefusedCut, RefusedCycle, unit, OnlyItsUnit, CutsOnlyItsUnit, ProgramFalls, NotBefore, unitCells, PatternOld, PatternFinished, OneOutcome, OneEffect, OneShown, OneStarted, OneDone, OneCounting, OneLeft, OneEnd, OneCycle, NumberFixed, FoldNoted, RefusalKeeps, RefusalClears, LatchFalls, TbStays, among, settlingNumbers, SettlingAnswers, SettlingStays, WearCounted}
 
 -- ---- waits
 -- both waits run the time out exactly where their sum does
@@ -337,6 +338,23 @@ one-outcome A a r t p q = p ∙ sym q
 
 pub one-effect : OneEffect
 one-effect rec x f r t page page′ wear wear′ os ps g k = (g .reply ∙ sym (k .reply), g .page-is ∙ sym (k .page-is), g .wear-is ∙ sym (k .wear-is), g .out ∙ sym (k .out))
+
+pub one-shown : OneShown
+one-shown e r t os ps g k = (g .reply ∙ sym (k .reply), g .out ∙ sym (k .out))
+
+pub one-started : OneStarted
+one-started e r t page page′ g k = (g .reply ∙ sym (k .reply), g .page-is ∙ sym (k .page-is))
+
+pub one-done : OneDone
+one-done e r t page page′ os ps g k = (g .reply ∙ sym (k .reply), g .page-is ∙ sym (k .page-is), g .out ∙ sym (k .out))
+
+pub one-counting : OneCounting
+one-counting op at before r t xs ys g k =
+    let e : r ≡ t = g .done-is ∙ sym (k .done-is) in
+    (e, g .table-is ∙ ap (λ (b : Bool). cond b (counted op at before) before) e ∙ sym (k .table-is))
+
+pub one-left : OneLeft
+one-left x s t page page′ xs ys g k = (g .state-is ∙ sym (k .state-is), g .page-is ∙ sym (k .page-is), g .cells-are ∙ sym (k .cells-are))
 
 same-after : {r t : After} → r .answer ≡ t .answer → r .state ≡ t .state → r ≡ t
 same-after {r} {t} p q = ap₂ (λ (a : Answer) (s : State). record { answer = a; state = s }) p q

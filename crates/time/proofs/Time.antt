@@ -24,8 +24,10 @@ use Rattle.states.specs.declared.Record.{Record}
 use Rattle.states.specs.declared.State.{State}
 use Rattle.time.specs.declared.After.{After}
 use Rattle.states.proofs.States.{sound, idle-state, busy-state, idle-page, busy-page, page-length, blank-page, Resting}
-use Rattle.operations.specs.Operations.{runs, patternLength, finished, tornChip, Operable, Left}
-use Rattle.time.specs.Time.{later, nothingEnds, waited, cycled, cutOff, chipRows, chipRefusal, powerRows, powerRefusal, patternRows, cutRefusal, afterOf, waitOf, powerOf, powerCutOf, Ends}
+use Rattle.operations.specs.Operations.{runs, patternLength, finished, tornChip}
+use Rattle.operations.specs.Contracts.{Operable, Left}
+use Rattle.time.specs.Time.{later, nothingEnds, waited, cycled, cutOff, chipRows, chipRefusal, powerRows, powerRefusal, patternRows, cutRefusal, afterOf, waitOf, powerOf, powerCutOf}
+use Rattle.time.specs.Contracts.{Ends}
 
 -- record, array, state and page data fit
 pub record Fit (rec : Record) (x : Chip) : Type 0 where

@@ -1,7 +1,6 @@
 -- Waiting, power cycles and cuts of the power: 01, "Commands", last paragraphs, and Req 05. Assumes nothing.
 use mathlib.Core.Bool.{Bool, false, not, _&&_, _||_, cond}
 use mathlib.Core.List.{List, [], _∷_, _++_}
-use mathlib.Core.Path.{_≡_}
 use Prim.Native.Nat.{ℕ, _-_, _*_, _/_, _%_}
 use lib.Dec.{eqb, ltb}
 use lib.ListN.{length}
@@ -83,10 +82,3 @@ afterOf a s = record { answer = a; state = s }
 -- a power cycle leaves page data and array alone
 unfoldable pub powerOf : Record → State → List ℕ → After
 powerOf rec s page = let a : Answer = powerRefusal rec s page in afterOf a (cond (isDone a) (cycled s) s)
-
--- what a function's result and its lent buffers at exit have to be
-pub record Ends (o : Aftermath) (r : After) (page cells : List ℕ) : Type 0 where
-  pub answer-is : r .answer ≡ o .answer
-  pub state-is : r .state ≡ o .chip .state
-  pub page-is : page ≡ o .chip .page
-  pub cells-are : cells ≡ o .chip .cells
