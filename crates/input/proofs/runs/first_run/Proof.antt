@@ -1,7 +1,7 @@
--- `input::first_run` meets its contract. Assumes nothing.
+-- `input::runs::first_run` meets its contract.
 use borrow.Author.Needs.{needs}
-use Rattle.input.proofs.first_run.Statement.{statement}
-use Rattle.input.proofs.first_run.Tie as tie
+use Rattle.input.proofs.runs.first_run.Statement.{statement}
+use Rattle.input.proofs.runs.first_run.Tie as tie
 
 returns : tie.Need-returns
 returns c = rw (c .power-on .ensures)

@@ -1,16 +1,17 @@
--- `input::feed_block` meets its contract: each turn feeds at least one more byte of the block, until it is used up (`Passing`). Assumes nothing.
+-- `input::blocks::feed_block` meets its contract: each turn feeds at least one more byte of the block, until it is used up (`Passing`).
 use mathlib.Core.Path.{_≡_, refl, sym, ap, _∙_}
 use Prim.Native.Nat.{_-_, _<_}
 use native.Mathlib.Omega.{arith}
 use lib.ListN.{length}
 use borrow.Author.Needs.{needs}
+use borrow.Author.Tests.{not-true}
 use Rattle.feed.specs.declared.Run.{Run}
 use Rattle.feed.specs.Feed.{standing}
 use Rattle.feed.proofs.Turns.{front}
 use Rattle.feed.proofs.Blocks.{Passing, passing-on, passing-less, passing-all}
 use Rattle.input.proofs.Came.{block-first, block-broken, block-whole}
-use Rattle.input.proofs.feed_block.Statement.{statement}
-use Rattle.input.proofs.feed_block.Tie as tie
+use Rattle.input.proofs.blocks.feed_block.Statement.{statement}
+use Rattle.input.proofs.blocks.feed_block.Tie as tie
 
 abbrev Inv-loop : tie.InvT-loop
 Inv-loop rec strict held₀ bytes n page₀ array₀ wear₀ log₀ written block run₀ at₀ held page array wear log run at =
@@ -46,7 +47,7 @@ same-length-5 c = c .before .before .before .before .before .before .before .bef
 returns : tie.Need-returns Inv-loop μ-loop
 returns c =
     let h = c .before .before .before .before .before .before .before .before .before .before .before .before .before .before .before .before .before .before .before .before .before .before .loop .inv in
-    block-broken (c .ended .ensures) (passing-on (h .6) (omega (arith, h .0, c .before .before .before .before .before .before .before .before .before .before .before .before .before .before .before .before .before .before .before .before .before .loop-test .taken)) (c .before .before .before .before .before .before .before .before .before .before .before .before .before .before .before .feed .ensures) (c .before .before .before .before .emptied .ensures) .ready .used)
+    block-broken (c .ended .ensures) (passing-on (h .6) (omega (arith, h .0, c .before .before .before .before .before .before .before .before .before .before .before .before .before .before .before .before .before .before .before .before .before .loop-test .taken)) (c .before .before .before .before .before .before .before .before .before .before .before .before .before .before .before .feed .ensures) (c .before .before .before .before .emptied .ensures) .ready .used) (c .before .before .flush .ensures) (not-true _ (c .before .if1 .taken))
 
 loop-less : tie.Need-loop-less Inv-loop μ-loop
 loop-less c =

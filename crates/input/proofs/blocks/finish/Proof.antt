@@ -1,9 +1,9 @@
--- `input::finish` meets its contract, and what `feed::finish` asks of the run: its numbers are in their ranges, and the log is empty. Assumes nothing.
+-- `input::blocks::finish` meets its contract, and what `feed::finish` asks of the run: its numbers are in their ranges, and the log is empty.
 use native.Mathlib.Omega.{arith}
-use Rattle.input.proofs.Came.{finish-kept}
+use Rattle.input.proofs.Came.{last-played}
 use borrow.Author.Needs.{needs}
-use Rattle.input.proofs.finish.Statement.{statement}
-use Rattle.input.proofs.finish.Tie as tie
+use Rattle.input.proofs.blocks.finish.Statement.{statement}
+use Rattle.input.proofs.blocks.finish.Tie as tie
 
 finish-requires : tie.Need-finish-requires
 finish-requires c κs =
@@ -13,7 +13,7 @@ finish-requires c κs =
 returns : tie.Need-returns
 returns c =
     let a = c .before .before .before .before .before .before .before .before .before .before .before .before .before .before .before .before .before .before .before .before .before .before .args in
-    finish-kept (a .rec) (a .strict) (a .run) (a .held .now) (a .page .now) (a .array .now) (a .wear .now) (a .log .now) (c .before .before .before .before .before .before .before .before .before .before .before .before .before .before .before .before .at-block .ensures) (c .before .before .before .before .before .before .before .before .before .before .finish .ensures)
+    last-played (a .rec) (a .strict) (a .run) (a .held .now) (a .page .now) (a .array .now) (a .wear .now) (a .log .now) (c .before .before .before .before .before .before .before .before .before .before .before .before .before .before .before .before .at-block .ensures) (c .before .before .before .before .before .before .before .before .before .before .finish .ensures) (c .flush .ensures)
 
 pub finish-spec : {M : Type 1} → statement M
 finish-spec =

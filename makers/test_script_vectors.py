@@ -1,5 +1,5 @@
 #!/usr/bin/env python3
-"""Writes the input and the expected output of crates/script_vectors.
+"""Writes the input and the expected output of crates/test_script_vectors.
 
 The lines are made here, and what is expected of them is computed here, by the rules of the scope's section
 "Script and log" and nothing else; no program of the project is asked. Run it from the project's root.
@@ -111,9 +111,9 @@ def expected(number, line):
 
 def main():
     lines = all_lines()
-    with open("crates/script_vectors/stdin", "wb") as f:
+    with open("crates/test_script_vectors/stdin", "wb") as f:
         f.write(b"\n".join(lines))
-    with open("crates/script_vectors/stdout", "w", newline="") as f:
+    with open("crates/test_script_vectors/stdout", "w", newline="") as f:
         f.write("line\tanswer\tfrom\tbytes\tnote\n")
         for i, line in enumerate(lines):
             f.write(expected(i + 1, line))

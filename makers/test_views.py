@@ -1,8 +1,8 @@
 #!/usr/bin/env python3
-"""Writes the expected output of crates/views.
+"""Writes the expected output of crates/test_views.
 
 What a page view is, is computed here from the scope's last lines of "Commands" and its rule for addresses, and nothing else; no
-program of the project is asked. Lengths, addresses and cells are those that crates/views/src/main.rt names. Run it
+program of the project is asked. Lengths, addresses and cells are those that crates/test_views/src/main.rt names. Run it
 from the project's root.
 """
 MODELS = (65536, 262144)
@@ -27,7 +27,7 @@ def main():
     cells = bytes(cell(i) for i in range(max(MODELS)))
     pages = {cells[i:i + 256] for i in range(0, 65536, 256)}
     assert len(pages) == 256  # no page of model 1 can pass for another
-    with open("crates/views/stdout", "w", newline="") as f:
+    with open("crates/test_views/stdout", "w", newline="") as f:
         f.write("length\taddress\tcells\tview\n")
         for n in LENGTHS:
             for address in ADDRESSES:
