@@ -44,8 +44,8 @@ returns c =
 
 returns-2 : tie.Need-returns-2
 returns-2 c =
-    let r = c .before .before in
-    told-figures _ _ _ _ _ _ _ (r .report .ensures) (sym (c .before .is-done .ensures) ∙ not-false _ (c .if1 .left))
+    let e = c .before in
+    told-figures _ _ _ _ _ _ _ (e .before .before .report .ensures) (sym (e .before .is-done .ensures) ∙ not-false _ (e .if1 .left))
 
 pub gwo-wear-report-spec : {M : Type 1} → statement M
 gwo-wear-report-spec = tie.close (tie.spec (λ c κs. search needs) (λ c κs. search needs) (λ c κs. search needs) returns returns-2)
