@@ -23,11 +23,12 @@ use Rattle.promises.specs.Laws.{Outside}
 abbrev pub inArea : Record → State → ℕ → Bool
 inArea rec s k = isProtected (rec .model) (tbOf s) (s .bp) (blockOf (record { 0 = k }))
 
--- an operation that runs leaves the area alone that s protects: no cell of it is in the unit
+-- an operation leaves the area alone that s protects: no cell of it is in the unit, in an array of the model's length (no other is taken)
 abbrev pub Spares : Record → State → Operation → Address → Type 0
 Spares rec s op at = (k : ℕ) → inArea rec s k ≡ true → Outside (unitOf op at (modelOf (rec .model) .length)) k
 
--- ---- an accepted frame starts nothing in the area that is protected at that moment. 60 and C7 run only with BP 0, where no cell is.
+-- ---- an accepted frame starts nothing in the area that is protected at that moment: 60 and C7 run only with BP 0, where no cell is. A busy chip takes only reads
+-- of its registers, which start nothing at all.
 abbrev pub StartsOutside : Type 0
 StartsOutside =
     (rec : Record) (x : Chip) (f : Sent) → x .state .busy ≡ 0 → isDone (frameOf rec x f .reply .answer) ≡ true
