@@ -1,7 +1,7 @@
--- What `input` makes of the blocks that it reads. No contract can say which bytes a call of the C library reads or writes. What is done with the
--- bytes of a block, and with the number that a read has answered, is said of all of them (`BlockTaken`); of a read itself only that there is such a
--- number (`BlockRead`), and of a whole input only that there is a script whose lines leave what was left (`ScriptPlayed`): any script, so that a
--- program that played another one than it read would meet it too.
+-- What `input` makes of the blocks that it reads. No contract can say which bytes a call of the C library reads or writes.
+-- What is done with the number that a read has answered, and with the block after it, is said of every number and every block: `BlockTaken`. Of a
+-- read itself it is only said that there is such a number: `BlockRead`. Of a whole input it is only said that there is a script whose lines leave
+-- what was left: `ScriptPlayed`. It is any script, the empty one too: a program that played another script than it read would meet it as well.
 use mathlib.Core.Path.{_≡_}
 use mathlib.Core.Bool.{Bool, true, false}
 use mathlib.Core.List.{List, []}
