@@ -1,9 +1,10 @@
 # What each target does is said by `make`.
 .DEFAULT_GOAL := help
-.PHONY: help test run compare explain wear example bench benchmark
+.PHONY: help test edits run compare explain wear example bench benchmark
 
 help:
 	@echo 'make test                          prove everything, try the must-fail edits, run the programs and the host tests'
+	@echo 'make edits CRATE=NAME              try the must-fail edits of a crate over what its check has found: quick, and not the verdict'
 	@echo 'make run SCRIPT=FILE               run a script through the runner; the log goes to standard output'
 	@echo 'make compare SCRIPT=FILE LOG=FILE  run a script and compare its log with a stored one'
 	@echo 'make explain SCRIPT=FILE           run a script and show each line beside its answer in words'
@@ -14,6 +15,9 @@ help:
 
 test:
 	@tools/test.sh
+
+edits:
+	@tools/host.sh python -B tools/edits.py $$CRATE
 
 run:
 	@tools/run.sh "$$SCRIPT"

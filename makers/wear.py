@@ -1,12 +1,13 @@
 #!/usr/bin/env python3
 """Writes the input and the expected output of crates/wear.
 
-The script is made here, its counts by the model of frames.py, and the sheet is laid out here from its description; no program of the project is
-asked. Run it from the project's root.
+The script is made here, its erases are counted here by the sectors that they cover, and the sheet is laid out here from its description; no
+program of the project is asked. Run it from the project's root.
 """
-from frames import Chip, SECTOR
-
+SECTOR = 4096
+SECTORS = 16
 LONGEST = 50  # marks of a bar
+TIMES = {0x20: 120000, 0x52: 2000000, 0xD8: 2000000, 0x60: 2000000, 0xC7: 2000000}  # of the erases, model 1: 000 L523-525
 
 
 def bar(count, largest):
@@ -29,25 +30,24 @@ def sheet(wear):
 
 
 class Script:
-    """Lines, and the chip that they are played to."""
+    """Lines, and how often each sector was erased by them."""
 
     def __init__(self):
-        self.lines, self.chip = [], Chip(1, 1)
+        self.lines, self.wear = [], [0] * SECTORS
 
-    def frame(self, sent, wp=1, tail=0):
-        self.lines.append("F\t%d\t%d\t%s" % (wp, tail, sent.hex().upper()))
-        return self.chip.frame(sent, tail, wp, 300)[0]
+    def frame(self, sent, tail=0):
+        self.lines.append("F\t1\t%d\t%s" % (tail, sent.hex().upper()))
 
     def wait(self, us):
         self.lines.append("W\t%d" % us)
-        self.chip.wait(us)
 
     def erase(self, command, address=None):
-        """06, the erase, and its time."""
+        """06, the erase, which is taken, and its time. On model 1 the block is the chip."""
         self.frame(b"\x06")
-        answer = self.frame(bytes([command]) + (b"" if address is None else address.to_bytes(3, "big")))
-        self.wait(self.chip.busy)
-        return answer
+        self.frame(bytes([command]) + (b"" if address is None else address.to_bytes(3, "big")))
+        self.wait(TIMES[command])
+        for sector in (address // SECTOR,) if command == 0x20 else range(SECTORS):
+            self.wear[sector] += 1
 
 
 def worn():
@@ -55,23 +55,31 @@ def worn():
     s = Script()
     for times, sector in ((130, 7), (65, 8), (3, 0), (1, 15), (2, 14)):
         for _ in range(times):
-            assert s.erase(0x20, sector * SECTOR + 0x123) == 0
-    assert s.erase(0xD8, 0x8000) == 0 and s.erase(0x52, 0xFFFFFF) == 0 and s.erase(0xC7) == 0 and s.erase(0x60) == 0
-    assert s.frame(b"\x20\x00\x00\x00") == 15
+            s.erase(0x20, sector * SECTOR + 0x123)
+    s.erase(0xD8, 0x8000)
+    s.erase(0x52, 0xFFFFFF)
+    s.erase(0xC7)
+    s.erase(0x60)
+    refused(s)
+    return s
+
+
+def refused(s):
+    s.frame(b"\x20\x00\x00\x00")  # 15: WEL is 0
     s.frame(b"\x06")
-    assert s.frame(b"\x20\x00\x00\x00", tail=1) == 14
-    assert s.frame(b"\x02\x00\x00\x00\xA5") == 0
-    assert s.frame(b"\x20\x00\x00\x00") == 11
+    s.frame(b"\x20\x00\x00\x00", tail=1)  # 14
+    s.frame(b"\x02\x00\x00\x00\xA5")  # a program counts nothing
+    s.frame(b"\x20\x00\x00\x00")  # 11: it is busy
     s.wait(5000)
     s.frame(b"\x06")
-    assert s.frame(b"\x01\x04") == 0
+    s.frame(b"\x01\x04")
     s.wait(15000)
-    assert s.erase(0x20, 0) == 17
+    s.frame(b"\x06")
+    s.frame(b"\x20\x00\x00\x00")  # 17: BP is 1
+    s.wait(0)
     s.frame(b"\x04")
-    s.lines.append("20\t000000")
+    s.lines.append("20\t000000")  # 20: no line of a script
     s.lines.append("P")
-    s.chip.power_cycle()
-    return s
 
 
 def main():
@@ -79,7 +87,7 @@ def main():
     with open("crates/wear/stdin", "w", newline="") as f:
         f.write("\n".join(s.lines) + "\n")
     with open("crates/wear/stdout", "w", newline="") as f:
-        f.write(sheet(s.chip.wear))
+        f.write(sheet(s.wear))
 
 
 if __name__ == "__main__":

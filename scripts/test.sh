@@ -6,7 +6,7 @@
 # GWO_RUNNER is the runner (target/bin/runner), GWO_WEAR the other program (target/bin/wear): a program, or a command that starts it, as seen
 # from the project's folder.
 set -u
-cd "$(dirname "$0")/.." || exit
+cd "$(dirname "$0")/.." || exit 1
 
 runner=${GWO_RUNNER:-target/bin/runner} # never quoted: it may be several words
 wear=${GWO_WEAR:-target/bin/wear}       # nor this

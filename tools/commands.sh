@@ -3,7 +3,7 @@
 #   tools/commands.sh
 # target/bin/runner, target/bin/wear and the archive are built; a stand-in for rt says what rt would, so that nothing is proved here.
 set -u
-cd "$(dirname "$0")/.." || exit
+cd "$(dirname "$0")/.." || exit 1
 unset MAKEFLAGS MFLAGS MAKELEVEL SCRIPT LOG STRICT
 # On Arm the runner's emulator stands beside the real rt, which the stand-in hides.
 real=$(command -v rt) && export RATTLE_HOME="${RATTLE_HOME:-$(dirname "$(dirname "$(readlink -f "$real")")")}"

@@ -4,8 +4,8 @@
 
 The crates have to be proved (`rt check`). A crate is checked as it is, over a folder in which the checker keeps what it has
 found; then with each of its edits, over a copy of that folder, so that only what the edit reaches is checked again.
-`rt must-fail` tries the same edits, each from nothing, which takes more than twice as long. RT_JOBS is how many run at once (as many
-as there are processors, four at most). What the checker said of an edit stays in target/edits/CRATE/LABEL.log.
+This is the quick loop of whoever works on a crate; `rt ci`, which tries each edit from nothing, is the verdict. RT_JOBS is how many run
+at once (as many as there are processors, four at most). What the checker said of an edit stays in target/edits/CRATE/LABEL.log.
 """
 import os
 import queue
@@ -16,9 +16,12 @@ import sys
 import threading
 import time
 
+import refusals
+
 ROOT = os.path.dirname(os.path.dirname(os.path.abspath(__file__)))
 LOGS = os.path.join(ROOT, 'target', 'edits')
-PARTS = ('src', 'specs', 'proofs')  # what an edit may change
+PARTS = ('src', 'specs', 'proofs')  # what a crate is made of
+EDITED = ('src', 'specs')  # what an edit may change
 
 
 def say(text):
@@ -60,8 +63,8 @@ def apply_edit(path, crate):
     """Changes the crate in that folder. Each old text has to stand in its file once."""
     count = 0
     for name, old, new in pairs_of(path):
-        if name is None or name.split('/')[0] not in PARTS or '..' in name.split('/') or not os.path.isfile(os.path.join(crate, name)):
-            raise BadEdit("a 'file:' line names no file of the crate")
+        if name is None or name.split('/')[0] not in EDITED or '..' in name.split('/') or not os.path.isfile(os.path.join(crate, name)):
+            raise BadEdit("a 'file:' line names no file of the crate's src/ or specs/")
         with open(os.path.join(crate, name), encoding='utf-8') as file:
             text = file.read()
         if not old or text.count(old) != 1:
@@ -105,8 +108,8 @@ class Bench:
 
 def first_place(text, crate):
     """Where the first error stands."""
-    match = re.search(r'^([^ \n]*): error', text, re.M) or re.search(r'^note: ([^ \n]*:\d+:\d+):', text, re.M)
-    return match.group(1).replace(crate + '/', '') if match else 'no place'
+    match = re.search(r'[^ ]*:\d+:\d+', refusals.first_error(text))
+    return match.group(0).replace(crate + '/', '') if match else 'no place'
 
 
 class Crate:
@@ -173,6 +176,10 @@ class Run:
         with open(os.path.join(LOGS, name, label + '.log'), 'w', encoding='utf-8') as log:
             log.write(text)
         if status == 1 and re.search(r'^logic=not-proved', text, re.M):
+            why = refusals.shape(text)
+            if why:
+                self.count(False, f'{name}/{label}: SHOWS NOTHING: {why}: {refusals.first_error(text)[:300]}')
+                return
             self.count(True, f'{name}/{label}: refused, as it must be (first at {first_place(text, bench.crate(name))}; {took})')
         elif status == 0:
             self.count(False, f'{name}/{label}: NOT REFUSED: the crate is still proved with this edit ({took})')
@@ -211,6 +218,9 @@ class Run:
 
 
 def main(words):
+    if not os.path.isdir(os.path.join(ROOT, 'target', 'rlib')):
+        say('nothing is proved here yet: run rt check first')
+        return 2
     crates = words or sorted(os.listdir(os.path.join(ROOT, 'crates')))
     shutil.rmtree(LOGS, ignore_errors=True)
     run = Run(crates)

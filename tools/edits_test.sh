@@ -1,8 +1,8 @@
 #!/usr/bin/env bash
 # What tools/edits.py says of edits that it must not let pass: one that changes no answer, one whose text is not there, one that
-# stands twice, one that does not compile; and of a crate that is not proved.
+# stands twice, one that does not compile, one that only breaks a proof's shape; and of a crate that is not proved.
 set -u
-cd "$(dirname "$0")/.." || exit
+cd "$(dirname "$0")/.." || exit 1
 work=$(mktemp -d)
 trap 'rm -rf "$work"' EXIT
 passed=0
@@ -11,7 +11,7 @@ failed=0
 mkdir -p "$work/crates" "$work/tools" "$work/target"
 echo 'answers:' >"$work/crates.txt"
 cp -r crates/answers "$work/crates/answers"
-cp tools/edits.py "$work/tools/edits.py"
+cp tools/edits.py tools/refusals.py "$work/tools/"
 mkdir "$work/target/rlib" "$work/target/stamp" "$work/target/log"
 edits=$work/crates/answers/must-fail
 

@@ -1,5 +1,5 @@
 /*
- * Random calls to the archive and to the independent model, side by side: the answer,
+ * Random calls to the archive and to the independent model, side by side, single ones and histories: the answer,
  * state, array, counts, output, frame and results must agree after every one; the 16 MiB of model 3 around the
  * addressed block, and whole now and then, after the end of a chip erase and at the end. Only a call that ends a
  * program or an erase can write to the array, and only a frame that starts an erase to the counts. Arguments: how many

@@ -22,6 +22,7 @@ struct call {
     struct gwo_record record;
     size_t state_len, array_len, wear_len, frame_len, out_len, pattern_len;
     uint32_t tail, wp, strict, us;
+    int history; /* whether it is a call of a history */
 };
 
 /* What is lent to one of the two: each call takes the last bytes of them. */
@@ -54,6 +55,17 @@ void choose_frame(struct call *c);
 /* An address around an end of something, for a model or for what is none. */
 uint32_t any_address(uint32_t chip);
 
+/* A valid record: bench values, or any times. */
+void valid_record(struct gwo_record *r);
+
+/*
+ * Whether the call is one of a history: then it has the history's record, and state, array and table are as the last
+ * call left them. Where its frames aim, and with which command, for any one that was drawn.
+ */
+int in_history(struct call *c);
+uint32_t address_in_history(void);
+uint8_t command_in_history(uint8_t any);
+
 /* Lays random cells into both rooms. */
 void fill_cells(size_t at, size_t n);
 
@@ -66,28 +78,34 @@ void refresh_cells(const struct call *c, uint32_t address);
 /* Whether a frame is strict; the cells of a program that is are mostly such as hold its bytes, all or nearly all. */
 void choose_strict(struct call *c);
 
-/* The wear table of a frame or of a report; and all counts anew. */
+/* The wear table of a frame or of a report; all counts anew; all 0. */
 void choose_wear(struct call *c);
 void fresh_counts(void);
+void factory_counts(void);
 
 /* Whether the call has counted sectors, by its answer; and whether all counts that could be lent agree. */
 int has_counted(const struct call *c, uint32_t number);
 int same_counts(void);
 
-/* Counts what a call met of the tables, and of the setting; a failure unless all of it was met on a model. */
+/*
+ * Counts what a call met of the tables, of the setting, and of histories; a failure unless all of it was met on a
+ * model.
+ */
 void note_wear(const struct call *c, uint32_t number);
 void note_strict(const struct call *c, uint32_t number);
+void note_history(const struct call *c, uint32_t number);
 void wear_met(uint32_t chip);
 void strict_met(uint32_t chip);
+void history_met(uint32_t chip);
 
 /* Counts a call, by the packed state before it and its answer. */
 void note(const struct call *c, const uint8_t *state, uint32_t number);
 
 /*
  * A failure unless on each model every number was met, by each kind of call that can be answered so, every command
- * accepted, every operation completed and cut, programs ended on both sides of their page's end, and every kind of
- * wear table and of strict program; and unless all
- * that only model 3 has was met, and all that sleep takes.
+ * accepted, every operation completed and cut, programs ended on both sides of their page's end, every kind of
+ * wear table and of strict program, and a history with many operations; and unless all that only model 3 has was met,
+ * and all that sleep takes.
  */
 void check_variety(void);
 

@@ -24,8 +24,7 @@ static uint32_t no_time(void)
     return ONE_OF(outside);
 }
 
-/* A valid record: bench values, or any times. */
-static void valid_record(struct gwo_record *r)
+void valid_record(struct gwo_record *r)
 {
     static const struct gwo_record *const benches[] = {&gwo_bench_model_1, &gwo_bench_model_1, &gwo_bench_model_2,
                                                        &gwo_bench_model_3, &gwo_bench_model_3};
@@ -218,17 +217,19 @@ void choose(struct call *c)
 
     memset(c, 0, sizeof *c);
     c->kind = chance(&dice, 78) ? FRAME : ONE_OF(others);
-    choose_record(&c->record);
-    choose_state(c);
-    choose_array(c);
+    if (!in_history(c)) {
+        choose_record(&c->record);
+        choose_state(c);
+        choose_array(c);
+    }
     if (c->kind == WAIT)
         choose_wait(c);
     if (c->kind == CUT)
         choose_pattern(c);
     if (c->kind == FRAME)
         choose_frame(c);
-    else if (c->kind != REPORT && chance(&dice, 60))
+    else if (c->kind != REPORT && !c->history && chance(&dice, 60))
         refresh_cells(c, get_place(last_of(&model.state, STATE)));
-    if (c->kind == FRAME || c->kind == REPORT)
+    if ((c->kind == FRAME || c->kind == REPORT) && !c->history)
         choose_wear(c);
 }

@@ -74,16 +74,19 @@ static size_t fitting_length(uint32_t chip, uint8_t command, uint32_t address)
     }
 }
 
+/* In a history a status write is mostly of zeros, so that what it works at is seldom protected. */
 static void choose_bytes(struct call *c)
 {
-    uint32_t chip = c->record.model, address = any_address(chip);
-    uint8_t command = any_command(chip), *frame;
+    uint32_t chip = c->record.model, address = c->history ? address_in_history() : any_address(chip);
+    uint8_t any = any_command(chip), command = c->history ? command_in_history(any) : any, *frame;
 
     c->frame_len = chance(&dice, 75) ? fitting_length(chip, command, address) : any_length();
     frame = last_of(&model.frame, c->frame_len);
     scatter(&dice, frame, c->frame_len);
     if (c->frame_len > 0)
         frame[0] = command;
+    if (c->frame_len > 1 && c->history && command == 0x01 && chance(&dice, 80))
+        memset(frame + 1, 0, c->frame_len - 1);
     if (c->frame_len > 3) {
         frame[1] = (uint8_t)(address >> 16);
         frame[2] = (uint8_t)(address >> 8);
@@ -148,7 +151,7 @@ void choose_frame(struct call *c)
     choose_bytes(c);
     choose_pins(c);
     choose_output(c);
-    if (chance(&dice, 5))
+    if (!c->history && chance(&dice, 5))
         refresh_cells(c, addressed(c));
     choose_strict(c);
 }

@@ -103,6 +103,7 @@ void note(const struct call *c, const uint8_t *state, uint32_t number)
     note_operation(c, state, number);
     note_wear(c, number);
     note_strict(c, number);
+    note_history(c, number);
     if (c->kind != FRAME || (number != 0 && number != 17))
         return;
     if (number == 0)
@@ -212,6 +213,7 @@ void check_variety(void)
         endings_met(chip);
         wear_met(chip);
         strict_met(chip);
+        history_met(chip);
     }
     for (i = 0; i < RARE; i++) {
         printf("%s%s: %lu", i == 0 ? "  on model 3: " : ", ", names[i], met[i]);

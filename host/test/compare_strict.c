@@ -73,7 +73,7 @@ void choose_strict(struct call *c)
     static const uint32_t on[] = {1, 1, 1, 1, 2, 256, 0x80000000, 0xFFFFFFFF};
 
     c->strict = chance(&dice, 50) ? ONE_OF(on) : 0;
-    if (chance(&dice, c->strict != 0 ? 70 : 10))
+    if (!c->history && chance(&dice, c->strict != 0 ? 70 : 10))
         fit_cells(c);
 }
 

@@ -44,6 +44,13 @@ void fresh_counts(void)
     lay_counts(WEAR_ROOM, 0, WEAR_ROOM, chance(&dice, 70));
 }
 
+void factory_counts(void)
+{
+    guard_lift(&over_wear);
+    memset(counts_of(&model, WEAR_ROOM), 0, WEAR_ROOM * sizeof(uint32_t));
+    memset(counts_of(&ours, WEAR_ROOM), 0, WEAR_ROOM * sizeof(uint32_t));
+}
+
 /* The sector that a frame aims at, or any. */
 static size_t aimed_at(const struct call *c)
 {

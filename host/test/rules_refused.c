@@ -161,6 +161,24 @@ static void number_4(void)
     }
 }
 
+/* Whatever the command: one byte too many is 4, with room for it or not; of the longest frame a byte of room is missing. */
+static void longest_of_every_command(uint32_t model)
+{
+    unsigned command;
+
+    for (command = 0; command < 256; command++) {
+        jig_model(model);
+        jig_state(enabled);
+        jig_filled((uint8_t)command, LONGEST_FRAME + 1, 0);
+        frame_gives(4, named("%02X of 65,542 bytes", command));
+        given.out_len = 1;
+        frame_gives(4, named("%02X of 65,542 bytes with a short output", command));
+        jig_filled((uint8_t)command, LONGEST_FRAME, 0);
+        given.out_len = LONGEST_FRAME - 1;
+        frame_gives(5, named("%02X of 65,541 bytes, output one shorter", command));
+    }
+}
+
 static void number_5(void)
 {
     static const size_t lengths[] = {1, 2, 5, 256, 300, 65541};
@@ -220,6 +238,10 @@ static void number_10(void)
 
 void refused_before_the_command(void)
 {
+    uint32_t model;
+
+    for (model = 1; model <= MODELS; model++)
+        longest_of_every_command(model);
     number_1();
     number_2();
     number_4();

@@ -89,6 +89,10 @@ static void folding(void)
     frame_gives(0, "fresh page, 257 data bytes at 0");
     want_cells(0, PAGE, 0x22);
     completes(power_on, "after the wait all 256 hold 22");
+    jig_next();
+    jig_addressed(0x03, 0, PAGE, 0x00);
+    want_repeated(4, "22");
+    frame_gives(0, "03 drives 22 from all 256");
     given_frame(1, enabled, "020000003C");
     jig_cells(0, 1, 0xF0);
     want_state(state(0, 0, 1, 0, 5000));
@@ -102,7 +106,7 @@ static void status_lock(void)
     given_frame(1, state(1, 0, 1, 0, 0), "0100");
     given.wp = 0;
     frame_gives(16, "SRWD 1, WEL 1, 01 00, WP# low");
-    given_frame(1, state(1, 0, 1, 0, 0), "0100");
+    next_frame("0100");
     want_state(state(1, 0, 1, 0, 15000));
     frame_gives(0, "SRWD 1, WEL 1, 01 00, WP# high");
     completes(power_on, "after the wait SRWD 0");
@@ -138,12 +142,14 @@ static void sleeping(void)
     frame_gives(0, "deep power-down, AB and four bytes drives 05");
 }
 
-/* The same from power-on, with the waits. */
+/* The same from power-on, with the waits, and what is answered before them. */
 static void sleeping_with_waits(void)
 {
     given_frame(1, power_on, "B9");
     want_state(settling(1, 10));
     frame_gives(0, "power-on, B9");
+    next_frame("0500");
+    frame_gives(22, "05 00 right after B9");
     jig_next();
     want_state(settling(1, 0));
     wait_gives(10, 0, "10 us after B9");
@@ -153,6 +159,8 @@ static void sleeping_with_waits(void)
     want_state(settling(0, 10));
     want_hex(4, "05");
     frame_gives(0, "AB and four bytes after the wait drives 05");
+    next_frame("0500");
+    frame_gives(22, "05 00 right after AB and four bytes");
     jig_next();
     want_state(power_on);
     wait_gives(10, 0, "10 us after AB and four bytes");
@@ -168,9 +176,13 @@ static void last_cell_then_first(void)
     frame_gives(0, "03 00FFFF and two bytes");
 }
 
+/* The wear table is from the factory: one erase is counted, in sector 0. */
 static void sector_erase_time(void)
 {
+    static const struct report one = {1, 0, 1, 0, 0, 1};
+
     given_frame(1, enabled, "20000000");
+    jig_wear(0, 16, 0);
     want_state(state(0, 0, 1, 0, 120000));
     frame_gives(0, "20");
     jig_next();
@@ -186,11 +198,15 @@ static void sector_erase_time(void)
     next_frame("0500");
     want_hex(1, "00");
     frame_gives(0, "status 120,000 us after 20");
+    report_gives(0, one, "the report after 20");
 }
 
 static void last_line(void)
 {
-    given_frame(1, state(0, 0, 1, 0, 9), "FF");
+    given_frame(1, enabled, "20000000");
+    want_state(state(0, 0, 1, 0, 120000));
+    frame_gives(0, "20 of an enabled chip");
+    next_frame("FF");
     frame_gives(11, "busy and unknown");
     jig_model(1);
     jig_filled(0x03, LONGEST_FRAME + 1, 0);

@@ -6,7 +6,7 @@ use mathlib.Core.Logic.{⊎-elim}
 use Prim.Native.Nat.{ℕ, suc, _+_, _-_, _≤_, _<_}
 use native.Mathlib.Omega.{arith}
 use lib.Dec.{eqb, leb, ltb, lit≤, eqb·suc-zero}
-use lib.ListN.{length, getD, drop, replicate}
+use lib.ListN.{length, getD, replicate}
 use borrow.Author.Tests.{eq-eqb, ne-eqb, le-ltb, leb-true}
 use Rattle.units.specs.declared.Address.{Address}
 use Rattle.units.specs.declared.Block.{Block}
@@ -15,22 +15,23 @@ use Rattle.models.specs.Models.{modelOf, addressOf, rangeOf, isProtected}
 use Rattle.models.proofs.Rules.{range-none, half-erase-model}
 use Rattle.parts.proofs.Lay.{lay-none}
 use Rattle.answers.specs.Answers.{isDone}
-use Rattle.commands.specs.Commands.{decodeOf, traitsOf, lengthOk, operationOf}
+use Rattle.commands.specs.Commands.{decodeOf, traitsOf, lengthOk}
 use Rattle.commands.specs.declared.Command.{Command}
 use Rattle.commands.specs.declared.Command.the-variants.{EraseHalf, Read, Program, WriteStatus}
 use Rattle.commands.proofs.Rows.{between, least-on, one-byte-write}
-use Rattle.states.specs.States.{recordOk, stateOk, pageOk, noAddress, tbOf, Chip, chipOf}
+use Rattle.states.specs.States.{recordOk, tbOf, Chip, chipOf}
 use Rattle.states.specs.declared.Record.{Record}
 use Rattle.states.specs.declared.State.{State}
 use Rattle.answers.specs.declared.Answer.{Answer}
 use Rattle.answers.specs.declared.Answer.the-variants.{Done, Settling, Busy}
 use Rattle.states.proofs.States.{sound, valid}
-use Rattle.ladder.specs.Ladder.{ladder, refusalOf, asks}
+use Rattle.ladder.specs.Ladder.{refusalOf}
+use Rattle.ladder.specs.Stages.{givenOf, saidOf, dataOf}
 use Rattle.ladder.specs.declared.Head.{Head}
-use Rattle.ladder.proofs.Passed.{Clear, unrefused}
+use Rattle.ladder.proofs.Stages.{all-pass, stops-said}
 use Rattle.commands.specs.declared.Operation.the-variants.{ErasesSector, ErasesHalf, ErasesBlock, ErasesChip}
 use Rattle.counts.specs.Counts.{covered, wornOut, counted}
-use Rattle.effects.specs.Effects.{Effect, stateOnly, turned, started, shown, drives, latched, dozing, writeEnable, writeStatus, eraseStarts, programPage, programsOver, goesOver, readFrom, wake, wakingTime, sleep}
+use Rattle.effects.specs.Effects.{Effect, stateOnly, turned, started, shown, drives, latched, dozing, writeEnable, writeStatus, eraseStarts, nowhere, programPage, programsOver, readFrom, wake, wakingTime, sleep}
 use Rattle.chip.specs.Frames.{Sent, headFor, headOf, acceptedOf, refusedOf, frameOf}
 use Rattle.time.specs.Time.{Aftermath, later, waited, waitOf}
 use Rattle.time.proofs.Time.{Fit, fit-taken}
@@ -47,52 +48,48 @@ module _ (rec : Record) (x : Chip) (b : Bench rec x) (f : Sent) where
   abbrev h : Head
   h = headOf rec x f
 
-  -- the first six rows of the table ask for a bench, a table, a short enough frame and room; where the others stop nothing it is accepted
-  pub taken : length (f .bytes) ≤ 65541 → f .tail ≤ 7 → Roomy f → Tabled rec f → Clear (drop 6 (ladder rec (x .state) h (asks rec h)))
+  -- the rows of what the call is given ask for a bench, a table, a short enough frame and room
+  first-pass : length (f .bytes) ≤ 65541 → f .tail ≤ 7 → Roomy f → Tabled rec f → givenOf rec (x .state) h ≡ Done
+  unfolding givenOf headFor
+  first-pass l t r k =
+      rw (
+        b .right,
+        eq-eqb (length (x .cells)) (modelOf (rec .model) .length) (b .whole),
+        eq-eqb (length (f .wear)) (modelOf (rec .model) .sectors) k,
+        b .valid,
+        b .page,
+        le-ltb 65541 (length (f .bytes)) l,
+        le-ltb 7 (f .tail) t,
+        le-ltb (length (f .out)) (length (f .bytes)) r,
+      )
+
+  -- where the others stop nothing it is accepted
+  pub taken : length (f .bytes) ≤ 65541 → f .tail ≤ 7 → Roomy f → Tabled rec f → saidOf rec (x .state) h ≡ Done → dataOf rec (x .state) h ≡ Done
       → frameOf rec x f ≡ acceptedOf rec x (h .command) (h .address) (f .bytes) (f .wear) (f .out)
-  unfolding frameOf refusalOf headFor
-  taken l t r w c =
-      let long : (ltb 65541 (length (f .bytes)) || ltb 7 (f .tail)) ≡ false = rw (le-ltb 65541 (length (f .bytes)) l, le-ltb 7 (f .tail) t) in
-      let valid-page : (stateOk rec (x .state) && pageOk (rec .model) (x .state) (x .page)) ≡ true = rw (b .valid, b .page) in
-      rw (unrefused (ladder rec (x .state) h (asks rec h))
-      (ap not (b .right), (ap not (eq-eqb (length (x .cells)) (modelOf (rec .model) .length) (b .whole)), (ap not (eq-eqb (length (f .wear)) (modelOf (rec .model) .sectors) w), (ap not valid-page, (long, (le-ltb (length (f .out)) (length (f .bytes)) r, c)))))))
+  unfolding frameOf
+  taken l t r k p q = rw (all-pass rec (x .state) h (first-pass l t r k) p q)
+
+  -- where one of them stops it
+  stopped-by : (a : Answer) → isDone a ≡ false → length (f .bytes) ≤ 65541 → f .tail ≤ 7 → Roomy f → Tabled rec f → saidOf rec (x .state) h ≡ a → refusalOf rec (x .state) h ≡ a
+  stopped-by a d l t r k e = stops-said rec (x .state) h (ap isDone (first-pass l t r k)) (ap isDone e ∙ d) ∙ e
 
   -- on a busy chip it is answered 11, unless its command is taken while busy
   busy-refusal : 0 < x .state .busy → 0 < length (f .bytes) → length (f .bytes) ≤ 65541 → f .tail ≤ 7 → Roomy f → Tabled rec f
       → traitsOf (modelOf (rec .model) .register) (decodeOf (rec .model) (getD (f .bytes) 0 0)) .«while_busy» ≡ false → refusalOf rec (x .state) h ≡ Busy
-  unfolding refusalOf headFor
+  unfolding saidOf headFor
   busy-refusal busy some l t r k w =
-      rw (
-        b .right,
-        eq-eqb (length (x .cells)) (modelOf (rec .model) .length) (b .whole),
-        eq-eqb (length (f .wear)) (modelOf (rec .model) .sectors) k,
-        b .valid,
-        b .page,
-        le-ltb 65541 (length (f .bytes)) l,
-        le-ltb 7 (f .tail) t,
-        le-ltb (length (f .out)) (length (f .bytes)) r,
+      stopped-by Busy refl l t r k
+      (rw (
         ne-eqb (length (f .bytes)) 0 (λ z. omega arith),
         eq-eqb (x .state .settle) 0 (busy-settled rec x b busy),
         ne-eqb (x .state .busy) 0 (λ z. omega arith),
         w,
-      )
+      ))
 
   -- on a settling chip it is answered 22, whatever its command
   settling-refusal : 0 < x .state .settle → 0 < length (f .bytes) → length (f .bytes) ≤ 65541 → f .tail ≤ 7 → Roomy f → Tabled rec f → refusalOf rec (x .state) h ≡ Settling
-  unfolding refusalOf headFor
-  settling-refusal settling some l t r k =
-      rw (
-        b .right,
-        eq-eqb (length (x .cells)) (modelOf (rec .model) .length) (b .whole),
-        eq-eqb (length (f .wear)) (modelOf (rec .model) .sectors) k,
-        b .valid,
-        b .page,
-        le-ltb 65541 (length (f .bytes)) l,
-        le-ltb 7 (f .tail) t,
-        le-ltb (length (f .out)) (length (f .bytes)) r,
-        ne-eqb (length (f .bytes)) 0 (λ z. omega arith),
-        ne-eqb (x .state .settle) 0 (λ z. omega arith),
-      )
+  unfolding saidOf headFor
+  settling-refusal settling some l t r k = stopped-by Settling refl l t r k (rw (ne-eqb (length (f .bytes)) 0 (λ z. omega arith), ne-eqb (x .state .settle) 0 (λ z. omega arith)))
 
 -- a refused frame leaves what a refusal leaves
 pub refused-frame : (rec : Record) (x : Chip) (f : Sent) (a : Answer) → refusalOf rec (x .state) (headOf rec x f) ≡ a → isDone a ≡ false
@@ -118,10 +115,10 @@ while-settling rec x b bytes strict wear out settling some l r k =
 -- at BP 0 no block is protected
 pub unprotected : (n : ℕ) (tb : Bool) (b : Block) → isProtected n tb 0 b ≡ false
 unfolding isProtected
-unprotected n tb b = go (leb (rangeOf n tb 0 .0) (b .0)) refl
+unprotected n tb b = go (leb (rangeOf n tb 0 .0 .0) (b .0)) refl
   where
-    go : (t : Bool) → leb (rangeOf n tb 0 .0) (b .0) ≡ t → (t && ltb (b .0) (rangeOf n tb 0 .0 + rangeOf n tb 0 .1)) ≡ false
-    go true e = le-ltb (b .0) (rangeOf n tb 0 .0 + rangeOf n tb 0 .1) (omega (arith, range-none n tb, leb-true (rangeOf n tb 0 .0) (b .0) e))
+    go : (t : Bool) → leb (rangeOf n tb 0 .0 .0) (b .0) ≡ t → (t && ltb (b .0) (rangeOf n tb 0 .0 .0 + rangeOf n tb 0 .1)) ≡ false
+    go true e = le-ltb (b .0) (rangeOf n tb 0 .0 .0 + rangeOf n tb 0 .1) (omega (arith, range-none n tb, leb-true (rangeOf n tb 0 .0 .0) (b .0) e))
     go false e = refl
 
 -- on model 3 the byte 52 erases a half block
@@ -129,104 +126,104 @@ decodes-half : (n : ℕ) → n ≡ 3 → decodeOf n 0x52 ≡ EraseHalf
 unfolding decodeOf
 decodes-half n e = rw e
 
--- the last eleven tests of the table, by name
-pub tests : {a q b c d e f g h o w : Bool} → a ≡ false → q ≡ false → b ≡ false → c ≡ false → d ≡ false → e ≡ false → f ≡ false → g ≡ false → h ≡ false → o ≡ false → w ≡ false
-    → (a ≡ false) × ((q ≡ false) × ((b ≡ false) × ((c ≡ false) × ((d ≡ false) × ((e ≡ false) × ((f ≡ false) × ((g ≡ false) × ((h ≡ false) × ((o ≡ false) × ((w ≡ false) × Unit {0}))))))))))
-tests a q b c d e f g h o w = (a, (q, (b, (c, (d, (e, (f, (g, (h, (o, (w, tt)))))))))))
-
 -- ---- the frames of the list
 module _ (rec : Record) (x : Chip) (b : Bench rec x) (z : x .state .busy ≡ 0) (q : x .state .settle ≡ 0) (strict : Bool) (wear out : List ℕ) (k : length wear ≡ modelOf (rec .model) .sectors) where
+  idle : eqb (x .state .busy) 0 ≡ true
+  idle = eq-eqb (x .state .busy) 0 z
+
+  still : eqb (x .state .settle) 0 ≡ true
+  still = eq-eqb (x .state .settle) 0 q
+
   pub wake-taken : 1 ≤ length out → frameOf rec x (frame (0xAB ∷ []) strict wear out) ≡ stateOnly Done (dozing (x .state) false (cond (x .state .asleep) (rec .wake) 0)) (x .page) wear out
-  unfolding acceptedOf decodeOf traitsOf headFor lengthOk wake wakingTime drives covered wornOut
+  unfolding acceptedOf decodeOf traitsOf headFor lengthOk wake wakingTime drives covered wornOut saidOf dataOf
   wake-taken r =
       taken rec x b (frame (0xAB ∷ []) strict wear out) (lit≤ tt) (lit≤ tt) r k
-      (tests refl (rw (eq-eqb (x .state .settle) 0 q)) (rw (eq-eqb (x .state .busy) 0 z)) (and-false (x .state .asleep)) refl refl refl refl refl refl refl)
+      (rw (still, idle, and-false (x .state .asleep))) refl
       ∙ rw (lay-none out 4)
 
   pub sign-taken : 5 ≤ length out → frameOf rec x (frame (0xAB ∷ 0 ∷ 0 ∷ 0 ∷ 0 ∷ []) strict wear out)
       ≡ shown (x .page) wear (wake rec (x .state) (0xAB ∷ 0 ∷ 0 ∷ 0 ∷ 0 ∷ []) out)
-  unfolding acceptedOf decodeOf traitsOf headFor lengthOk covered wornOut
+  unfolding acceptedOf decodeOf traitsOf headFor lengthOk covered wornOut saidOf dataOf
   sign-taken r =
       taken rec x b (frame (0xAB ∷ 0 ∷ 0 ∷ 0 ∷ 0 ∷ []) strict wear out) (lit≤ tt) (lit≤ tt) r k
-      (tests refl (rw (eq-eqb (x .state .settle) 0 q)) (rw (eq-eqb (x .state .busy) 0 z)) (and-false (x .state .asleep)) refl refl refl refl refl refl refl)
+      (rw (still, idle, and-false (x .state .asleep))) refl
 
   pub sleep-taken : x .state .asleep ≡ false → 1 ≤ length out
       → frameOf rec x (frame (0xB9 ∷ []) strict wear out) ≡ stateOnly Done (dozing (x .state) true (rec .sleep)) (x .page) wear out
-  unfolding acceptedOf sleep decodeOf traitsOf headFor lengthOk covered wornOut
+  unfolding acceptedOf sleep decodeOf traitsOf headFor lengthOk covered wornOut saidOf dataOf
   sleep-taken a r =
       taken rec x b (frame (0xB9 ∷ []) strict wear out) (lit≤ tt) (lit≤ tt) r k
-      (tests refl (rw (eq-eqb (x .state .settle) 0 q)) (rw (eq-eqb (x .state .busy) 0 z)) (rw a) refl refl refl refl refl refl refl)
+      (rw (still, idle, a)) refl
 
   pub enable-taken : x .state .asleep ≡ false → 1 ≤ length out
       → frameOf rec x (frame (0x06 ∷ []) strict wear out) ≡ stateOnly Done (latched (x .state) true) (x .page) wear out
-  unfolding acceptedOf writeEnable decodeOf traitsOf headFor lengthOk covered wornOut
+  unfolding acceptedOf writeEnable decodeOf traitsOf headFor lengthOk covered wornOut saidOf dataOf
   enable-taken a r =
       taken rec x b (frame (0x06 ∷ []) strict wear out) (lit≤ tt) (lit≤ tt) r k
-      (tests refl (rw (eq-eqb (x .state .settle) 0 q)) (rw (eq-eqb (x .state .busy) 0 z)) (rw a) refl refl refl refl refl refl refl)
+      (rw (still, idle, a)) refl
 
   pub write-taken : (v : ℕ) → x .state .asleep ≡ false → x .state .wel ≡ true → 2 ≤ length out
       → frameOf rec x (frame (0x01 ∷ v ∷ []) strict wear out) ≡ started wear out (writeStatus rec (x .state) (x .page) (0x01 ∷ v ∷ []))
-  unfolding acceptedOf decodeOf traitsOf headFor covered wornOut
+  unfolding acceptedOf decodeOf traitsOf headFor covered wornOut saidOf dataOf
   write-taken v a w r =
       let has = modelOf (rec .model) .register in
       taken rec x b (frame (0x01 ∷ v ∷ []) strict wear out) (lit≤ tt) (lit≤ tt) r k
-      (tests refl (rw (eq-eqb (x .state .settle) 0 q)) (rw (eq-eqb (x .state .busy) 0 z)) (rw a) refl (ap not (between (traitsOf has WriteStatus) 2 (lit≤ tt) (one-byte-write has))) (rw w) (and-false (x .state .srwd)) refl refl refl)
+      (rw (still, idle, a, between (traitsOf has WriteStatus) 2 (lit≤ tt) (one-byte-write has), w, and-false (x .state .srwd))) refl
 
   module _ (high middle low : ℕ) where
     abbrev pub to : Address
     to = addressOf (rec .model) high middle low
 
-    pub erase-taken : x .state .asleep ≡ false → x .state .wel ≡ true → x .state .bp ≡ 0 → 4 ≤ length out → wornOut ErasesSector (to .0) wear ≡ false
-        → frameOf rec x (frame (0x20 ∷ high ∷ middle ∷ low ∷ []) strict wear out) ≡ turned (x .page) (counted ErasesSector (to .0) wear) out (eraseStarts rec (x .state) ErasesSector (to .0) (0x20 ∷ high ∷ middle ∷ low ∷ []))
-    unfolding acceptedOf decodeOf traitsOf headFor lengthOk tbOf covered wornOut
+    pub erase-taken : x .state .asleep ≡ false → x .state .wel ≡ true → x .state .bp ≡ 0 → 4 ≤ length out → wornOut ErasesSector to wear ≡ false
+        → frameOf rec x (frame (0x20 ∷ high ∷ middle ∷ low ∷ []) strict wear out) ≡ turned (x .page) (counted ErasesSector to wear) out (eraseStarts rec (x .state) ErasesSector to (0x20 ∷ high ∷ middle ∷ low ∷ []))
+    unfolding acceptedOf decodeOf traitsOf headFor lengthOk tbOf covered wornOut saidOf dataOf
     erase-taken a w p r n =
         taken rec x b (frame (0x20 ∷ high ∷ middle ∷ low ∷ []) strict wear out) (lit≤ tt) (lit≤ tt) r k
-        (tests refl (rw (eq-eqb (x .state .settle) 0 q)) (rw (eq-eqb (x .state .busy) 0 z)) (rw a) refl refl (rw w) refl (rw (p, unprotected (rec .model) (tbOf (x .state)) (blockOf to))) refl n)
+        (rw (still, idle, a, w, p, unprotected (rec .model) (tbOf (x .state)) (blockOf to))) (rw n)
 
     pub program-taken : (sent : List ℕ) → x .state .asleep ≡ false → x .state .wel ≡ true → x .state .bp ≡ 0
         → 1 ≤ length sent → 4 + length sent ≤ 65541 → Roomy (frame (0x02 ∷ high ∷ middle ∷ low ∷ sent) strict wear out)
         → programsOver strict to (x .cells) (0x02 ∷ high ∷ middle ∷ low ∷ sent) ≡ false
         → frameOf rec x (frame (0x02 ∷ high ∷ middle ∷ low ∷ sent) strict wear out)
         ≡ started wear out (programPage rec (x .state) (x .page) to (0x02 ∷ high ∷ middle ∷ low ∷ sent))
-    unfolding acceptedOf decodeOf traitsOf headFor lengthOk tbOf covered wornOut
+    unfolding acceptedOf decodeOf traitsOf headFor lengthOk tbOf covered wornOut saidOf dataOf
     program-taken sent a w p n l r v =
         taken rec x b (frame (0x02 ∷ high ∷ middle ∷ low ∷ sent) strict wear out) (omega arith) (lit≤ tt) r k
-        (tests (eqb·suc-zero (suc (suc (suc (length sent))))) (rw (eq-eqb (x .state .settle) 0 q)) (rw (eq-eqb (x .state .busy) 0 z)) (rw a) refl (ap not (between (traitsOf (modelOf (rec .model) .register) Program) (suc (suc (suc (suc (length sent))))) (omega arith) (omega arith))) (rw w) refl
-        (rw (p, unprotected (rec .model) (tbOf (x .state)) (blockOf to))) v refl)
+        (rw (eqb·suc-zero (suc (suc (suc (length sent)))), still, idle, a, between (traitsOf (modelOf (rec .model) .register) Program) (suc (suc (suc (suc (length sent))))) (omega arith) (omega arith), w, p, unprotected (rec .model) (tbOf (x .state)) (blockOf to)))
+        (rw v)
 
     pub read-taken : (more : List ℕ) → x .state .asleep ≡ false → 4 + length more ≤ 65541 → Roomy (frame (0x03 ∷ high ∷ middle ∷ low ∷ more) strict wear out)
         → frameOf rec x (frame (0x03 ∷ high ∷ middle ∷ low ∷ more) strict wear out)
         ≡ shown (x .page) wear (readFrom 4 (x .state) (x .cells) to (0x03 ∷ high ∷ middle ∷ low ∷ more) out)
-    unfolding acceptedOf decodeOf traitsOf headFor lengthOk covered wornOut
+    unfolding acceptedOf decodeOf traitsOf headFor lengthOk covered wornOut saidOf dataOf
     read-taken more a l r =
         taken rec x b (frame (0x03 ∷ high ∷ middle ∷ low ∷ more) strict wear out) (omega arith) (lit≤ tt) r k
-        (tests (eqb·suc-zero (suc (suc (suc (length more))))) (rw (eq-eqb (x .state .settle) 0 q)) (rw (eq-eqb (x .state .busy) 0 z)) (rw a) refl (ap not (least-on (traitsOf (modelOf (rec .model) .register) Read) (suc (suc (suc (suc (length more))))) 0 (omega arith))) refl refl refl refl refl)
+        (rw (eqb·suc-zero (suc (suc (suc (length more)))), still, idle, a, least-on (traitsOf (modelOf (rec .model) .register) Read) (suc (suc (suc (suc (length more))))) 0 (omega arith))) refl
 
     -- the other operations, for a chip that waits too short a time after them
-    pub half-taken : modelOf (rec .model) .«half_erase» ≡ true → x .state .asleep ≡ false → x .state .wel ≡ true → x .state .bp ≡ 0 → 4 ≤ length out → wornOut ErasesHalf (to .0) wear ≡ false
-        → frameOf rec x (frame (0x52 ∷ high ∷ middle ∷ low ∷ []) strict wear out) ≡ turned (x .page) (counted ErasesHalf (to .0) wear) out (eraseStarts rec (x .state) ErasesHalf (to .0) (0x52 ∷ high ∷ middle ∷ low ∷ []))
-    unfolding acceptedOf traitsOf headFor lengthOk tbOf covered wornOut
+    pub half-taken : modelOf (rec .model) .«half_erase» ≡ true → x .state .asleep ≡ false → x .state .wel ≡ true → x .state .bp ≡ 0 → 4 ≤ length out → wornOut ErasesHalf to wear ≡ false
+        → frameOf rec x (frame (0x52 ∷ high ∷ middle ∷ low ∷ []) strict wear out) ≡ turned (x .page) (counted ErasesHalf to wear) out (eraseStarts rec (x .state) ErasesHalf to (0x52 ∷ high ∷ middle ∷ low ∷ []))
+    unfolding acceptedOf traitsOf headFor lengthOk tbOf covered wornOut saidOf dataOf
     half-taken m a w p r n =
         let sent : Sent = frame (0x52 ∷ high ∷ middle ∷ low ∷ []) strict wear out in
         let d : decodeOf (rec .model) 0x52 ≡ EraseHalf = decodes-half (rec .model) (half-erase-model (rec .model) m) in
         taken rec x b sent (lit≤ tt) (lit≤ tt) r k
-        (subst (λ (c : Command). Clear (drop 6 (ladder rec (x .state) (headOf rec x sent) (traitsOf (modelOf (rec .model) .register) c)))) (sym d)
-        (tests refl (rw (eq-eqb (x .state .settle) 0 q)) (rw (eq-eqb (x .state .busy) 0 z)) (rw a) refl refl (rw w) refl (rw (p, unprotected (rec .model) (tbOf (x .state)) (blockOf to))) (ap (λ (c : Command). goesOver (operationOf c) strict to (x .cells) (sent .bytes)) d) (ap (λ (c : Command). wornOut (operationOf c) (to .0) wear) d ∙ n)))
+        (rw (d, still, idle, a, w, p, unprotected (rec .model) (tbOf (x .state)) (blockOf to))) (rw (d, n))
         ∙ ap (λ (c : Command). acceptedOf rec x c to (sent .bytes) wear out) d
 
-    pub block-taken : x .state .asleep ≡ false → x .state .wel ≡ true → x .state .bp ≡ 0 → 4 ≤ length out → wornOut ErasesBlock (to .0) wear ≡ false
-        → frameOf rec x (frame (0xD8 ∷ high ∷ middle ∷ low ∷ []) strict wear out) ≡ turned (x .page) (counted ErasesBlock (to .0) wear) out (eraseStarts rec (x .state) ErasesBlock (to .0) (0xD8 ∷ high ∷ middle ∷ low ∷ []))
-    unfolding acceptedOf decodeOf traitsOf headFor lengthOk tbOf covered wornOut
+    pub block-taken : x .state .asleep ≡ false → x .state .wel ≡ true → x .state .bp ≡ 0 → 4 ≤ length out → wornOut ErasesBlock to wear ≡ false
+        → frameOf rec x (frame (0xD8 ∷ high ∷ middle ∷ low ∷ []) strict wear out) ≡ turned (x .page) (counted ErasesBlock to wear) out (eraseStarts rec (x .state) ErasesBlock to (0xD8 ∷ high ∷ middle ∷ low ∷ []))
+    unfolding acceptedOf decodeOf traitsOf headFor lengthOk tbOf covered wornOut saidOf dataOf
     block-taken a w p r n =
         taken rec x b (frame (0xD8 ∷ high ∷ middle ∷ low ∷ []) strict wear out) (lit≤ tt) (lit≤ tt) r k
-        (tests refl (rw (eq-eqb (x .state .settle) 0 q)) (rw (eq-eqb (x .state .busy) 0 z)) (rw a) refl refl (rw w) refl (rw (p, unprotected (rec .model) (tbOf (x .state)) (blockOf to))) refl n)
+        (rw (still, idle, a, w, p, unprotected (rec .model) (tbOf (x .state)) (blockOf to))) (rw n)
 
-  pub chip-taken : x .state .asleep ≡ false → x .state .wel ≡ true → x .state .bp ≡ 0 → 1 ≤ length out → wornOut ErasesChip noAddress wear ≡ false
-      → frameOf rec x (frame (0xC7 ∷ []) strict wear out) ≡ turned (x .page) (counted ErasesChip noAddress wear) out (eraseStarts rec (x .state) ErasesChip noAddress (0xC7 ∷ []))
-  unfolding acceptedOf decodeOf traitsOf headFor lengthOk covered wornOut
+  pub chip-taken : x .state .asleep ≡ false → x .state .wel ≡ true → x .state .bp ≡ 0 → 1 ≤ length out → wornOut ErasesChip nowhere wear ≡ false
+      → frameOf rec x (frame (0xC7 ∷ []) strict wear out) ≡ turned (x .page) (counted ErasesChip nowhere wear) out (eraseStarts rec (x .state) ErasesChip nowhere (0xC7 ∷ []))
+  unfolding acceptedOf decodeOf traitsOf headFor lengthOk covered wornOut saidOf dataOf
   chip-taken a w p r n =
       taken rec x b (frame (0xC7 ∷ []) strict wear out) (lit≤ tt) (lit≤ tt) r k
-      (tests refl (rw (eq-eqb (x .state .settle) 0 q)) (rw (eq-eqb (x .state .busy) 0 z)) (rw a) refl refl (rw w) refl (rw p) refl n)
+      (rw (still, idle, a, w, p)) (rw n)
 
 -- ---- one call
 -- our model does not look at the calls seen

@@ -28,7 +28,7 @@ use Rattle.chip.specs.Frames.{Sent, frameOf}
 use Rattle.chip.proofs.Sorts.{Move, stays, latches, dozes, Begun, Turn, moved, begun, moves}
 use Rattle.chip.proofs.Cases.{head, frame-cases, sort, shown-asked, refused-moves}
 use Rattle.time.specs.Time.{later, waited, cycled, cutOff, chipRefusal, powerRefusal, cutRefusal, waitOf, powerOf, powerCutOf}
-use Rattle.time.proofs.Time.{chip-fits, ready, cuttable, idle-cycle}
+use Rattle.time.proofs.Time.{chip-fits, ready, cuttable, cyclable}
 use Rattle.calls.specs.Calls.{Call, sends, waits, cycles, cuts, ours, after}
 
 -- a valid state, and page data that fit it
@@ -170,10 +170,7 @@ module _ (rec : Record) (x : Chip) where
   cycle-fine p = go (isDone (powerRefusal rec (x .state) (x .page))) refl
     where
       go : (b : Bool) → isDone (powerRefusal rec (x .state) (x .page)) ≡ b → Fine rec (cond b (cycled (x .state)) (x .state)) (x .page)
-      go true d = record { sound = cycled-sound rec (x .state) (p .sound); page-data = still-idle (rec .model) (x .state) (cycled (x .state)) (x .page) (resting d) refl (p .page-data) }
-        where
-          resting : isDone (powerRefusal rec (x .state) (x .page)) ≡ true → x .state .busy ≡ 0
-          resting d = idle-cycle rec (x .state) (x .page) d
+      go true d = record { sound = cycled-sound rec (x .state) (p .sound); page-data = still-idle (rec .model) (x .state) (cycled (x .state)) (x .page) (cyclable rec (x .state) (x .page) d .idle) refl (p .page-data) }
       go false d = p
 
   cut-call-fine : (pattern : List ℕ) → Fine rec (x .state) (x .page) → Fine rec (powerCutOf rec x pattern .chip .state) (powerCutOf rec x pattern .chip .page)

@@ -99,12 +99,12 @@ missed-bit old byte l e = bit-of 8 old byte l (eqb-false (bitAnd old byte) byte 
 
 -- ---- a byte that was cut
 -- bit by bit
-torn-shr : (o n p b : ℕ) → torn o n p / 2 ^ b ≡ torn (o / 2 ^ b) (n / 2 ^ b) (p / 2 ^ b)
+pub torn-shr : (o n p b : ℕ) → torn o n p / 2 ^ b ≡ torn (o / 2 ^ b) (n / 2 ^ b) (p / 2 ^ b)
 torn-shr o n p b =
     or-shr (bitAnd p (bitXor o n)) (bitAnd o n) b
     ∙ ap₂ bitOr (and-shr p (bitXor o n) b ∙ ap (bitAnd (p / 2 ^ b)) (xor-shr o n b)) (and-shr o n b)
 
-torn-mod : (o n p k : ℕ) → torn o n p % 2 ^ k ≡ torn (o % 2 ^ k) (n % 2 ^ k) (p % 2 ^ k)
+pub torn-mod : (o n p k : ℕ) → torn o n p % 2 ^ k ≡ torn (o % 2 ^ k) (n % 2 ^ k) (p % 2 ^ k)
 torn-mod o n p k =
     or-mod (bitAnd p (bitXor o n)) (bitAnd o n) k
     ∙ ap₂ bitOr (and-mod p (bitXor o n) k ∙ ap (bitAnd (p % 2 ^ k)) (xor-mod o n k)) (and-mod o n k)
@@ -170,6 +170,9 @@ torn-new o n = bin-ind (λ (n : ℕ). (o : ℕ) → torn o n n ≡ n) (λ o. ap�
             either true e = eqb-true (o % 2) (n % 2) e
             either false e = refl
 
--- a cut byte is a byte
-pub torn-byte : (o n p : ℕ) → o < 256 → n < 256 → p < 256 → torn o n p < 256
-torn-byte o n p a b c = or-lt 8 (bitAnd p (bitXor o n)) (bitAnd o n) (and-lt 8 p (bitXor o n) c (xor-lt 8 o n a b)) (and-lt 8 o n a b)
+-- what lies between two numbers of k bits has k bits, whatever the pattern, and looks only at the pattern's k lowest
+pub torn-lt : (k o n p : ℕ) → o < 2 ^ k → n < 2 ^ k → torn o n p < 2 ^ k
+torn-lt k o n p a b = or-lt k (bitAnd p (bitXor o n)) (bitAnd o n) (omega (arith, and-le-r p (bitXor o n), xor-lt k o n a b)) (and-lt k o n a b)
+
+pub torn-low : (k o n p : ℕ) → o < 2 ^ k → n < 2 ^ k → torn o n (p % 2 ^ k) ≡ torn o n p
+torn-low k o n p a b = sym (torn-mod o n p k ∙ ap₂ (λ (x y : ℕ). torn x y (p % 2 ^ k)) (mod-eq-of-lt a) (mod-eq-of-lt b)) ∙ mod-eq-of-lt (torn-lt k o n p a b)

@@ -11,7 +11,8 @@ use Rattle.ladder.specs.Ladder.{refusalOf}
 use Rattle.ladder.specs.declared.Head.{Head}
 use Rattle.ladder.proofs.Passed.{passed, stopped}
 use Rattle.effects.specs.Effects.{Effect, refusalLeaves}
-use Rattle.chip.specs.Frames.{Sent, Ready, headFor, headOf, acceptedOf, refusedOf, frameOf, wornBy, overBy}
+use Rattle.chip.specs.Frames.{Sent, headFor, headOf, acceptedOf, refusedOf, frameOf, wornBy, overBy}
+use Rattle.chip.specs.Contracts.{Ready}
 use Rattle.chip.specs.Driven.{drivenBytes, foldOf}
 use Rattle.models.specs.Models.{modelOf}
 use Rattle.commands.specs.Commands.{traitsOf, lengthOk, operationOf}
@@ -72,22 +73,22 @@ module _ (rec : Record) (x : Chip) (f : Sent) where
   frame-within = frame-cases (λ (e : Effect). e .reply .from + e .reply .count ≤ length (f .bytes)) (λ e. within sort) (λ e. omega arith)
 
   -- the wear table after any frame
-  pub table-frame : frameOf rec x f .wear ≡ cond (isDone (frameOf rec x f .reply .answer)) (counted (operationOf (head .command)) (head .address .0) (f .wear)) (f .wear)
+  pub table-frame : frameOf rec x f .wear ≡ cond (isDone (frameOf rec x f .reply .answer)) (counted (operationOf (head .command)) (head .address) (f .wear)) (f .wear)
   table-frame =
-      frame-cases (λ (e : Effect). e .wear ≡ cond (isDone (e .reply .answer)) (counted (operationOf (head .command)) (head .address .0) (f .wear)) (f .wear))
+      frame-cases (λ (e : Effect). e .wear ≡ cond (isDone (e .reply .answer)) (counted (operationOf (head .command)) (head .address) (f .wear)) (f .wear))
       (λ d. rw (is-done sort) (table-after rec x (head .address) (f .bytes) (f .wear) (f .out) (head .command))) (λ d. rw d)
 
   -- an accepted frame covers only sectors of the table
-  pub covers : isDone refusal ≡ true → InTable (operationOf (head .command)) (head .address .0) (f .wear)
+  pub covers : isDone refusal ≡ true → InTable (operationOf (head .command)) (head .address) (f .wear)
   unfolding headFor
   covers e =
       let r = shown-ready e in
-      in-table (rec .model) (operationOf (head .command)) (head .address .0) (f .wear) (passed rec (x .state) head e .table) (omega (arith, r .inside, r .whole))
+      in-table (rec .model) (operationOf (head .command)) (head .address) (f .wear) (passed rec (x .state) head e .table) (omega (arith, r .inside, r .whole))
 
   -- the sum after any frame
   pub total-frame : totalOf (frameOf rec x f .wear)
-      ≡ totalOf (f .wear) + cond (isDone (frameOf rec x f .reply .answer)) (covered (operationOf (head .command)) (head .address .0) (length (f .wear)) .count) 0
+      ≡ totalOf (f .wear) + cond (isDone (frameOf rec x f .reply .answer)) (covered (operationOf (head .command)) (head .address) (length (f .wear)) .count) 0
   total-frame =
-      frame-cases (λ (e : Effect). totalOf (e .wear) ≡ totalOf (f .wear) + cond (isDone (e .reply .answer)) (covered (operationOf (head .command)) (head .address .0) (length (f .wear)) .count) 0)
-      (λ d. rw (is-done sort) (ap totalOf (table-after rec x (head .address) (f .bytes) (f .wear) (f .out) (head .command)) ∙ total-counted (operationOf (head .command)) (head .address .0) (f .wear) (covers d)))
+      frame-cases (λ (e : Effect). totalOf (e .wear) ≡ totalOf (f .wear) + cond (isDone (e .reply .answer)) (covered (operationOf (head .command)) (head .address) (length (f .wear)) .count) 0)
+      (λ d. rw (is-done sort) (ap totalOf (table-after rec x (head .address) (f .bytes) (f .wear) (f .out) (head .command)) ∙ total-counted (operationOf (head .command)) (head .address) (f .wear) (covers d)))
       (λ d. rw d (omega arith))

@@ -26,14 +26,16 @@ use Rattle.counts.proofs.Laws.{in-table}
 use Rattle.states.specs.States.{pageOk, Chip}
 use Rattle.states.proofs.States.{sound, page-length}
 use Rattle.ladder.specs.Ladder.{refusalOf}
-use Rattle.ladder.specs.Stages.{givenOf, saidOf, lastRows}
-use Rattle.ladder.proofs.Stages.{stops-given, stops-said, goes-on, last-is}
+use Rattle.ladder.specs.Stages.{givenOf, saidOf, dataOf}
+use Rattle.ladder.proofs.Stages.{stops-given, stops-said, goes-on, data-is}
 use Rattle.ladder.specs.declared.Head.{Head}
 use Rattle.ladder.proofs.Passed.{Passed, passed, given-spares, given-page}
 use Rattle.effects.specs.declared.Reply.{Reply}
-use Rattle.effects.specs.Effects.{Effect, Gives, Room, quiet, stateOnly, refusalLeaves, goesOver}
+use Rattle.effects.specs.Effects.{Effect, quiet, stateOnly, refusalLeaves, goesOver}
+use Rattle.effects.specs.Contracts.{Gives, Room}
 use Rattle.effects.proofs.Replies.{leaves-all}
-use Rattle.chip.specs.Frames.{Sent, Does, Ready, Heard, headFor, headOf, acceptedOf, takenOf, refusedOf, frameOf}
+use Rattle.chip.specs.Frames.{Sent, headFor, headOf, acceptedOf, takenOf, refusedOf, frameOf}
+use Rattle.chip.specs.Contracts.{Does, Ready, Heard}
 use borrow.Author.Tests.{not-true, not-false}
 use Rattle.chip.proofs.Sorts.{table-after}
 
@@ -108,9 +110,9 @@ module _ (rec : Record) (x : Chip) (f : Sent) where
   unfolding saidOf headFor
   said-unworn = refl
 
-  spared-unworn : lastRows rec (x .state) unworn ≡ Done
+  spared-unworn : dataOf rec (x .state) unworn ≡ Done
   unfolding headFor
-  spared-unworn = last-is rec (x .state) unworn
+  spared-unworn = data-is rec (x .state) unworn
 
   -- what the frame says, as the code finds it
   said : {h : Head} {a : Answer} → h ≡ unworn → a ≡ saidOf rec (x .state) h → a ≡ saidOf rec (x .state) H
@@ -146,20 +148,20 @@ module _ (rec : Record) (x : Chip) (f : Sent) where
       )
 
   -- the sectors that it covers lie in the table
-  pub countable : {h : Head} {a : Answer} {op : Operation} → Found h a op → InTable op (h .address .0) (f .wear)
+  pub countable : {h : Head} {a : Answer} {op : Operation} → Found h a op → InTable op (h .address) (f .wear)
   unfolding headFor
   countable {h} k =
       let p = all-but-last k in
       let r = arrived false false p in
-      subst (λ (q : Operation). InTable q (h .address .0) (f .wear)) (sym (k .op-is))
-      (subst (λ (q : Head). InTable (operationOf (q .command)) (q .address .0) (f .wear)) (sym (k .read))
-      (in-table (rec .model) (operationOf (unworn .command)) (unworn .address .0) (f .wear) (p .table) (omega (arith, r .inside, r .whole))))
+      subst (λ (q : Operation). InTable q (h .address) (f .wear)) (sym (k .op-is))
+      (subst (λ (q : Head). InTable (operationOf (q .command)) (q .address) (f .wear)) (sym (k .read))
+      (in-table (rec .model) (operationOf (unworn .command)) (unworn .address) (f .wear) (p .table) (omega (arith, r .inside, r .whole))))
 
   -- the last two rows are left: the frame is refused for the cells or for its counts, or it is what its command does
   taken-is : isDone (givenOf rec (x .state) H) ≡ true → isDone (saidOf rec (x .state) H) ≡ true
       → takenOf rec x (unworn .command) (unworn .address) (f .strict) (f .bytes) (f .wear) (f .out) ≡ frameOf rec x f
   unfolding frameOf headFor
-  taken-is p q = go (H .over) (H .worn) (goes-on rec (x .state) H p q ∙ last-is rec (x .state) H)
+  taken-is p q = go (H .over) (H .worn) (goes-on rec (x .state) H p q ∙ data-is rec (x .state) H)
     where
       refused-as : (a : Answer) → saysProtected a ≡ false → stateOnly a (x .state) (x .page) (f .wear) (f .out) ≡ refusedOf rec a x f
       refused-as a e = ap (λ (s : State). stateOnly a s (x .page) (f .wear) (f .out)) (sym (leaves-all (rec .model) a (x .state) e))
@@ -175,7 +177,7 @@ module _ (rec : Record) (x : Chip) (f : Sent) where
   abbrev takenAs : Head → Operation → Effect
   takenAs h op =
       cond (goesOver op (f .strict) (h .address) (x .cells) (f .bytes)) (stateOnly NotErased (x .state) (x .page) (f .wear) (f .out))
-      (cond (wornOut op (h .address .0) (f .wear)) (stateOnly WornOut (x .state) (x .page) (f .wear) (f .out)) (acceptedOf rec x (h .command) (h .address) (f .bytes) (f .wear) (f .out)))
+      (cond (wornOut op (h .address) (f .wear)) (stateOnly WornOut (x .state) (x .page) (f .wear) (f .out)) (acceptedOf rec x (h .command) (h .address) (f .bytes) (f .wear) (f .out)))
 
   frame-is : {h : Head} {a : Answer} {op : Operation} → Found h a op → takenAs h op ≡ frameOf rec x f
   frame-is {h} k = ap (takenAs h) (k .op-is) ∙ ap (λ (q : Head). takenOf rec x (q .command) (q .address) (f .strict) (f .bytes) (f .wear) (f .out)) (k .read) ∙ taken-is (k .first) (all-said k)
@@ -188,18 +190,18 @@ module _ (rec : Record) (x : Chip) (f : Sent) where
         subst (λ (e : Effect). Gives e r (x .page) (f .wear) (f .out)) (sym turned-away ∙ frame-is k) (record { reply = q; page-is = refl; wear-is = refl; out = refl })
 
     module _ {done : Bool} {ws : List ℕ} {r : Reply} (t : over ≡ false)
-        (n : done ≡ not (wornOut op (h .address .0) (f .wear))) (w : ws ≡ cond done (counted op (h .address .0) (f .wear)) (f .wear)) where
+        (n : done ≡ not (wornOut op (h .address) (f .wear))) (w : ws ≡ cond done (counted op (h .address) (f .wear)) (f .wear)) where
       -- refused for its counts
       pub worn-out : done ≡ false → r ≡ quiet WornOut (x .state) → Gives (frameOf rec x f) r (x .page) ws (f .out)
       worn-out y q =
-          let turned-away : takenAs h op ≡ stateOnly WornOut (x .state) (x .page) (f .wear) (f .out) = rw (sym o ∙ t, not-false (wornOut op (h .address .0) (f .wear)) (sym n ∙ y)) in
+          let turned-away : takenAs h op ≡ stateOnly WornOut (x .state) (x .page) (f .wear) (f .out) = rw (sym o ∙ t, not-false (wornOut op (h .address) (f .wear)) (sym n ∙ y)) in
           subst (λ (e : Effect). Gives e r (x .page) ws (f .out)) (sym turned-away ∙ frame-is k) (record { reply = q; page-is = refl; wear-is = w ∙ rw y; out = refl })
 
       -- counted and done
       pub accept : {xs os : List ℕ} → done ≡ true → Does (acceptedOf rec x (h .command) (h .address) (f .bytes) [] (f .out)) r xs os → Gives (frameOf rec x f) r xs ws os
       accept {xs} {os} y q =
-          let table : acceptedOf rec x (h .command) (h .address) (f .bytes) (f .wear) (f .out) .wear ≡ ws = table-after rec x (h .address) (f .bytes) (f .wear) (f .out) (h .command) ∙ ap (λ (p : Operation). counted p (h .address .0) (f .wear)) (sym (k .op-is)) ∙ sym (w ∙ rw y) in
-          let taken : takenAs h op ≡ acceptedOf rec x (h .command) (h .address) (f .bytes) (f .wear) (f .out) = rw (sym o ∙ t, not-true (wornOut op (h .address .0) (f .wear)) (sym n ∙ y)) in
+          let table : acceptedOf rec x (h .command) (h .address) (f .bytes) (f .wear) (f .out) .wear ≡ ws = table-after rec x (h .address) (f .bytes) (f .wear) (f .out) (h .command) ∙ ap (λ (p : Operation). counted p (h .address) (f .wear)) (sym (k .op-is)) ∙ sym (w ∙ rw y) in
+          let taken : takenAs h op ≡ acceptedOf rec x (h .command) (h .address) (f .bytes) (f .wear) (f .out) = rw (sym o ∙ t, not-true (wornOut op (h .address) (f .wear)) (sym n ∙ y)) in
           subst (λ (e : Effect). Gives e r xs ws os) (sym taken ∙ frame-is k)
           (subst (λ (us : List ℕ). Gives (acceptedOf rec x (h .command) (h .address) (f .bytes) (f .wear) (f .out)) r xs us os) table (with-table rec x (h .address) (f .bytes) (f .wear) (f .out) (h .command) q))
 

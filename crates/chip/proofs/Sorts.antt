@@ -30,8 +30,8 @@ use Rattle.commands.specs.declared.Command.{Command}
 use Rattle.commands.specs.declared.Command.the-variants.{WriteEnable, WriteDisable, ReadStatus, ReadConfig, WriteStatus, Read, FastRead, EraseSector, EraseHalf, EraseBlock, EraseChip, Program, ReadId, Wake, ReadMaker, Sleep, Unknown}
 use Rattle.commands.proofs.Rows.{half-only-3}
 use Rattle.states.proofs.States.{sleep-le, wake-le, sign-le, times, half-some}
-use Rattle.counts.specs.Counts.{counted, covered, sectors}
-use Rattle.effects.specs.Effects.{Effect, stateOnly, turned, drives, folding, latched, dozing, starting, refusalLeaves, writeEnable, writeDisable, writeStatus, eraseStarts, sleep, idBytes, makerBytes, readStatus, readConfig, readFrom, programPage, readId, wakingTime, wake, readMaker}
+use Rattle.counts.specs.Counts.{sectorAt, counted, covered, sectors}
+use Rattle.effects.specs.Effects.{Effect, stateOnly, turned, drives, folding, latched, dozing, starting, refusalLeaves, writeEnable, writeDisable, writeStatus, eraseStarts, nowhere, sleep, idBytes, makerBytes, readStatus, readConfig, readFrom, programPage, readId, wakingTime, wake, readMaker}
 use Rattle.chip.specs.Frames.{acceptedOf}
 use Rattle.chip.specs.Driven.{drivenBytes, foldOf}
 use Rattle.counts.proofs.Laws.{uncounted, all-counted}
@@ -185,10 +185,10 @@ module _ (rec : Record) (x : Chip) (at : Address) (bytes wear out : List ℕ) wh
       → traitsOf (modelOf (rec .model) .register) c .«while_busy» ≡ false → traitsOf (modelOf (rec .model) .register) c .«while_asleep» ≡ false
       → placeOk (rec .model) op (at .0) ≡ ltb (at .0) (modelOf (rec .model) .length) → usedBytes op (at .0) ≡ 0
       → (Asked rec s c at bytes → recordOk rec ≡ true → 0 < operationTime rec op)
-      → Kind rec x c at bytes wear out 0 false (turned (x .page) (counted op (at .0) wear) out (eraseStarts rec s op (at .0) bytes))
+      → Kind rec x c at bytes wear out 0 false (turned (x .page) (counted op at wear) out (eraseStarts rec s op at bytes))
   unfolding eraseStarts
   erases op c e l b a p u t =
-      begins op (starting s (getD bytes 0 0) (at .0) (operationTime rec op)) (x .page) (counted op (at .0) wear) false
+      begins op (starting s (getD bytes 0 0) (at .0) (operationTime rec op)) (x .page) (counted op at wear) false
       (λ q. begin rec x at bytes c l q op (at .0) (x .page) e (p ∙ lt-ltb (at .0) (modelOf (rec .model) .length) (q .inside)) (t q) b a (λ z. rw u (blank-stays z)))
 
   pub kind : (c : Command) → Kind rec x c at bytes wear out (drivenBytes c (length bytes)) (foldOf c at (length bytes)) (acceptedOf rec x c at bytes wear out)
@@ -206,7 +206,7 @@ module _ (rec : Record) (x : Chip) (at : Address) (bytes wear out : List ℕ) wh
   kind EraseHalf = erases ErasesHalf EraseHalf refl refl refl refl refl refl (λ q r. half-some rec r (half-only-3 (rec .model) (getD bytes 0 0) (q .means)))
   kind EraseBlock = erases ErasesBlock EraseBlock refl refl refl refl refl refl (λ q r. times rec r .block)
   kind EraseChip =
-      begins ErasesChip (starting s (getD bytes 0 0) noAddress (operationTime rec ErasesChip)) (x .page) (counted ErasesChip noAddress wear) false
+      begins ErasesChip (starting s (getD bytes 0 0) noAddress (operationTime rec ErasesChip)) (x .page) (counted ErasesChip nowhere wear) false
       (λ q. begin rec x at bytes EraseChip refl q ErasesChip noAddress (x .page) refl refl (λ r. times rec r .chip) refl refl (λ z. blank-stays z))
   kind Program =
       rw (← (length-drop 4 bytes))
@@ -265,10 +265,10 @@ module _ {rec : Record} {x : Chip} {c : Command} {at : Address} {bytes wear out 
 
 -- ---- the wear table of an accepted frame: the counts of the sectors that its operation covers are one more; only an erase covers any
 module _ (rec : Record) (x : Chip) (at : Address) (bytes wear out : List ℕ) where
-  none : (op : Operation) → covered op (at .0) (length wear) ≡ sectors 0 0 → wear ≡ counted op (at .0) wear
-  none op e = sym (uncounted op (at .0) wear e)
+  none : (op : Operation) → covered op at (length wear) ≡ sectors (sectorAt 0) 0 → wear ≡ counted op at wear
+  none op e = sym (uncounted op at wear e)
 
-  pub table-after : (c : Command) → acceptedOf rec x c at bytes wear out .wear ≡ counted (operationOf c) (at .0) wear
+  pub table-after : (c : Command) → acceptedOf rec x c at bytes wear out .wear ≡ counted (operationOf c) at wear
   unfolding acceptedOf covered
   table-after WriteEnable = none Idle refl
   table-after WriteDisable = none Idle refl
@@ -280,7 +280,7 @@ module _ (rec : Record) (x : Chip) (at : Address) (bytes wear out : List ℕ) wh
   table-after EraseSector = refl
   table-after EraseHalf = refl
   table-after EraseBlock = refl
-  table-after EraseChip = all-counted noAddress (at .0) wear
+  table-after EraseChip = all-counted nowhere at wear
   table-after Program = none Programs refl
   table-after ReadId = none Idle refl
   table-after Wake = none Idle refl

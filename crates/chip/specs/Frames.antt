@@ -1,27 +1,23 @@
 -- Any frame: its head, the refusals, and what its command does. Assumes nothing.
-use mathlib.Core.Bool.{Bool, true, cond}
+use mathlib.Core.Bool.{Bool, cond}
 use mathlib.Core.List.{List}
-use mathlib.Core.Path.{_≡_}
-use Prim.Native.Nat.{ℕ, _≤_, _<_}
+use Prim.Native.Nat.{ℕ}
 use lib.ListN.{length, getD}
 use Rattle.units.specs.declared.Address.{Address}
-use Rattle.models.specs.Models.{modelOf, addressOf}
+use Rattle.models.specs.Models.{addressOf}
 use Rattle.answers.specs.Answers.{isDone}
-use Rattle.commands.specs.Commands.{decodeOf, traitsOf, fewest, mostWritten, operationOf, startedBy}
-use Rattle.states.specs.States.{pageOk, noAddress, Chip}
+use Rattle.commands.specs.Commands.{decodeOf, operationOf, startedBy}
+use Rattle.states.specs.States.{pageOk, Chip}
 use Rattle.commands.specs.declared.Operation.the-variants.{ErasesSector, ErasesHalf, ErasesBlock, ErasesChip}
 use Rattle.states.specs.declared.Record.{Record}
-use Rattle.states.specs.declared.State.{State}
 use Rattle.commands.specs.declared.Command.{Command}
 use Rattle.commands.specs.declared.Command.the-variants.{WriteEnable, WriteDisable, ReadStatus, ReadConfig, WriteStatus, Read, FastRead, EraseSector, EraseHalf, EraseBlock, EraseChip, Program, ReadId, Wake, ReadMaker, Sleep, Unknown}
 use Rattle.answers.specs.declared.Answer.{Answer}
 use Rattle.answers.specs.declared.Answer.the-variants.{Done, WornOut, NotErased}
 use Rattle.ladder.specs.Ladder.{refusalOf}
-use Rattle.ladder.specs.Stages.{givenOf}
 use Rattle.ladder.specs.declared.Head.{Head}
-use Rattle.effects.specs.declared.Reply.{Reply}
 use Rattle.counts.specs.Counts.{wornOut, counted}
-use Rattle.effects.specs.Effects.{Effect, shown, started, turned, stateOnly, writeEnable, writeDisable, writeStatus, eraseStarts, sleep, refusalLeaves, readStatus, readConfig, readFrom, programPage, goesOver, readId, wake, readMaker, Room}
+use Rattle.effects.specs.Effects.{Effect, shown, started, turned, stateOnly, writeEnable, writeDisable, writeStatus, eraseStarts, nowhere, sleep, refusalLeaves, readStatus, readConfig, readFrom, programPage, goesOver, readId, wake, readMaker}
 
 -- what a frame sends: its whole bytes, the tail bits after them, the WP# level and the strict setting; and the wear table and the output lent to it
 pub record Sent : Type 0 where
@@ -59,7 +55,7 @@ overBy model cells f =
 
 -- whether the frame of those bytes covers a sector whose count would pass its top
 abbrev pub wornBy : ℕ → List ℕ → List ℕ → Bool
-wornBy model bytes wear = wornOut (startedBy model (getD bytes 0 0)) (addressOf model (getD bytes 1 0) (getD bytes 2 0) (getD bytes 3 0) .0) wear
+wornBy model bytes wear = wornOut (startedBy model (getD bytes 0 0)) (addressOf model (getD bytes 1 0) (getD bytes 2 0) (getD bytes 3 0)) wear
 
 abbrev pub headOf : Record → Chip → Sent → Head
 headOf rec x f =
@@ -75,10 +71,10 @@ acceptedOf rec x ReadConfig at bytes wear out = shown (x .page) wear (readConfig
 acceptedOf rec x WriteStatus at bytes wear out = started wear out (writeStatus rec (x .state) (x .page) bytes)
 acceptedOf rec x Read at bytes wear out = shown (x .page) wear (readFrom 4 (x .state) (x .cells) at bytes out)
 acceptedOf rec x FastRead at bytes wear out = shown (x .page) wear (readFrom 5 (x .state) (x .cells) at bytes out)
-acceptedOf rec x EraseSector at bytes wear out = turned (x .page) (counted ErasesSector (at .0) wear) out (eraseStarts rec (x .state) ErasesSector (at .0) bytes)
-acceptedOf rec x EraseHalf at bytes wear out = turned (x .page) (counted ErasesHalf (at .0) wear) out (eraseStarts rec (x .state) ErasesHalf (at .0) bytes)
-acceptedOf rec x EraseBlock at bytes wear out = turned (x .page) (counted ErasesBlock (at .0) wear) out (eraseStarts rec (x .state) ErasesBlock (at .0) bytes)
-acceptedOf rec x EraseChip at bytes wear out = turned (x .page) (counted ErasesChip noAddress wear) out (eraseStarts rec (x .state) ErasesChip noAddress bytes)
+acceptedOf rec x EraseSector at bytes wear out = turned (x .page) (counted ErasesSector at wear) out (eraseStarts rec (x .state) ErasesSector at bytes)
+acceptedOf rec x EraseHalf at bytes wear out = turned (x .page) (counted ErasesHalf at wear) out (eraseStarts rec (x .state) ErasesHalf at bytes)
+acceptedOf rec x EraseBlock at bytes wear out = turned (x .page) (counted ErasesBlock at wear) out (eraseStarts rec (x .state) ErasesBlock at bytes)
+acceptedOf rec x EraseChip at bytes wear out = turned (x .page) (counted ErasesChip nowhere wear) out (eraseStarts rec (x .state) ErasesChip nowhere bytes)
 acceptedOf rec x Program at bytes wear out = started wear out (programPage rec (x .state) (x .page) at bytes)
 acceptedOf rec x ReadId at bytes wear out = shown (x .page) wear (readId rec (x .state) bytes out)
 acceptedOf rec x Wake at bytes wear out = shown (x .page) wear (wake rec (x .state) bytes out)
@@ -101,24 +97,4 @@ frameOf rec x f =
 abbrev pub takenOf : Record → Chip → Command → Address → Bool → List ℕ → List ℕ → List ℕ → Effect
 takenOf rec x c at strict bytes wear out =
     cond (goesOver (operationOf c) strict at (x .cells) bytes) (stateOnly NotErased (x .state) (x .page) wear out)
-    (cond (wornOut (operationOf c) (at .0) wear) (stateOnly WornOut (x .state) (x .page) wear out) (acceptedOf rec x c at bytes wear out))
-
--- the reply, the page data and the output of an effect: what the code of the commands gives; the wear table is not lent to it
-pub record Does (e : Effect) (r : Reply) (page os : List ℕ) : Type 0 where
-  pub reply : r ≡ e .reply
-  pub page-is : page ≡ e .page
-  pub out : os ≡ e .out
-
--- what those rows have shown of it, for the code below them
-pub record Ready (rec : Record) (x : Chip) (c : Command) (at : Address) (bytes out : List ℕ) : Type 0 where
-  pub level : x .state .bp ≤ 15
-  pub whole : length (x .cells) ≡ modelOf (rec .model) .length
-  pub inside : at .0 < length (x .cells)
-  pub page-data : length (x .page) ≡ 256
-  pub written : c ≡ WriteStatus → length bytes ≤ mostWritten (modelOf (rec .model) .register)
-  pub fits : Room (fewest (traitsOf (modelOf (rec .model) .register) c)) bytes out
-
--- the first six rows of the table have let the frame pass
-pub record Heard (rec : Record) (x : Chip) (f : Sent) : Type 0 where
-  pub given : isDone (givenOf rec (x .state) (headOf rec x f)) ≡ true
-  pub fits : pageOk (rec .model) (x .state) (x .page) ≡ true
+    (cond (wornOut (operationOf c) at wear) (stateOnly WornOut (x .state) (x .page) wear out) (acceptedOf rec x c at bytes wear out))

@@ -1,2 +1,3 @@
 pub mod Frames
 pub mod Driven
+pub mod Contracts

@@ -3,8 +3,9 @@ ghost use mathlib.Core.Path.{_≡_};
 ghost use mathlib.Core.Bool.{false};
 ghost use mathlib.Core.List.{[]};
 ghost use Rattle.states.specs.States.{chipOf};
-ghost use Rattle.effects.specs.Effects.{Gives};
-ghost use Rattle.chip.specs.Frames.{sentOf, headFor, acceptedOf, frameOf, Does, Ready, Heard};
+ghost use Rattle.effects.specs.Contracts.{Gives};
+ghost use Rattle.chip.specs.Frames.{sentOf, headFor, acceptedOf, frameOf};
+ghost use Rattle.chip.specs.Contracts.{Does, Ready, Heard};
 use answers::Answer;
 use commands::Command;
 use commands::Operation;
@@ -71,10 +72,16 @@ fn accepted(
         Command::WriteStatus => starts::write_status(rec, st, page, bytes),
         Command::Read => shows::read_from(4, st, array, at, bytes, out),
         Command::FastRead => shows::read_from(5, st, array, at, bytes, out),
-        Command::EraseSector => effects::erase(rec, st, Operation::ErasesSector, at.0, bytes),
-        Command::EraseHalf => effects::erase(rec, st, Operation::ErasesHalf, at.0, bytes),
-        Command::EraseBlock => effects::erase(rec, st, Operation::ErasesBlock, at.0, bytes),
-        Command::EraseChip => effects::erase(rec, st, Operation::ErasesChip, 0xFFFFFF, bytes),
+        Command::EraseSector => effects::erase(rec, st, Operation::ErasesSector, at, bytes),
+        Command::EraseHalf => effects::erase(rec, st, Operation::ErasesHalf, at, bytes),
+        Command::EraseBlock => effects::erase(rec, st, Operation::ErasesBlock, at, bytes),
+        Command::EraseChip => effects::erase(
+            rec,
+            st,
+            Operation::ErasesChip,
+            Address(0xFFFFFF),
+            bytes,
+        ),
         Command::Program => starts::program_page(rec, st, page, at, bytes),
         Command::ReadId => shows::read_id(rec, st, bytes, out),
         Command::Wake => shows::wake(rec, st, bytes, out),
@@ -118,7 +125,7 @@ fn spoken(
         if starts::is_over(op, strict, array, at, bytes) {
             return effects::quiet(Answer::NotErased, st);
         }
-        if !counts::count(wear, op, at.0) {
+        if !counts::count(wear, op, at) {
             return effects::quiet(Answer::WornOut, st);
         }
         accepted(rec, st, c, page, array, at, bytes, out)

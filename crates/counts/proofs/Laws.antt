@@ -8,9 +8,12 @@ use lib.Dec.{eqb, leb, ltb}
 use lib.ListN.{length, getD, take, drop, replicate}
 use borrow.Author.Tests.{leb-false, eq-eqb, ne-eqb, eqb-true, lt-leb, ltb-true, ltb-false, eqb-false}
 use mathlib.Core.Logic.{⊎-elim}
+use Rattle.units.specs.declared.Address.{Address}
+use Rattle.units.specs.declared.Sector.{Sector}
+use Rattle.units.specs.Kinds.{sectorOf}
 use Rattle.units.proofs.Bools.{neither, either}
 use Rattle.models.specs.Models.{isSectors, modelOf}
-use Rattle.counts.specs.Counts.{topCount, atTop, firstWith, covered, InTable, counted, sectors, wornOut, OneMore, raised, totalOf}
+use Rattle.counts.specs.Counts.{sectorAt, countOf, topCount, atTop, firstWith, covered, InTable, counted, sectors, wornOut, OneMore, raised, totalOf}
 use Rattle.commands.specs.declared.Operation.{Operation}
 use Rattle.commands.specs.declared.Operation.the-variants.{Idle, WritesStatus, Programs, ErasesSector, ErasesHalf, ErasesBlock, ErasesChip}
 use Rattle.models.proofs.Rules.{row-rules}
@@ -45,25 +48,25 @@ sectors-range n e =
     (either (eqb n 16) (eqb n 64 || (eqb n 4096 || false)) e)
 
 -- ---- the covered sectors lie in the table of the chip
-pub in-table : (n : ℕ) (op : Operation) (place : ℕ) (wear : List ℕ) → length wear ≡ modelOf n .sectors → place < modelOf n .length → InTable op place wear
+pub in-table : (n : ℕ) (op : Operation) (at : Address) (wear : List ℕ) → length wear ≡ modelOf n .sectors → at .0 < modelOf n .length → InTable op at wear
 unfolding covered
-in-table n Idle place wear e l = omega arith
-in-table n WritesStatus place wear e l = omega arith
-in-table n Programs place wear e l = omega arith
-in-table n ErasesSector place wear e l = omega (arith, row-rules n .sectors)
-in-table n ErasesHalf place wear e l = omega (arith, row-rules n .sectors, row-rules n .half-blocks)
-in-table n ErasesBlock place wear e l = omega (arith, row-rules n .sectors, row-rules n .blocks)
-in-table n ErasesChip place wear e l = omega arith
+in-table n Idle at wear e l = omega arith
+in-table n WritesStatus at wear e l = omega arith
+in-table n Programs at wear e l = omega arith
+in-table n ErasesSector at wear e l = omega (arith, row-rules n .sectors)
+in-table n ErasesHalf at wear e l = omega (arith, row-rules n .sectors, row-rules n .half-blocks)
+in-table n ErasesBlock at wear e l = omega (arith, row-rules n .sectors, row-rules n .blocks)
+in-table n ErasesChip at wear e l = omega arith
 
 -- an erase of the chip lies in every table
-pub chip-in-table : (place : ℕ) (wear : List ℕ) → InTable ErasesChip place wear
+pub chip-in-table : (at : Address) (wear : List ℕ) → InTable ErasesChip at wear
 unfolding covered
-chip-in-table place wear = omega arith
+chip-in-table at wear = omega arith
 
 -- an operation that covers no sector counts nothing
-pub uncounted : (op : Operation) (place : ℕ) (wear : List ℕ) → covered op place (length wear) ≡ sectors 0 0 → counted op place wear ≡ wear
+pub uncounted : (op : Operation) (at : Address) (wear : List ℕ) → covered op at (length wear) ≡ sectors (sectorAt 0) 0 → counted op at wear ≡ wear
 unfolding counted
-uncounted op place wear e = rw e (lay-none wear 0)
+uncounted op at wear e = rw e (lay-none wear 0)
 
 -- ---- no count at its top
 -- nor in a part of the table
@@ -77,9 +80,9 @@ none-dropped zero xs e = e
 none-dropped (suc n) [] e = refl
 none-dropped (suc n) (x ∷ xs) e = none-dropped n xs (neither (leb topCount x) (atTop xs) e .1)
 
-pub none-worn : (op : Operation) (place : ℕ) (wear : List ℕ) → atTop wear ≡ false → wornOut op place wear ≡ false
+pub none-worn : (op : Operation) (at : Address) (wear : List ℕ) → atTop wear ≡ false → wornOut op at wear ≡ false
 unfolding wornOut
-none-worn op place wear e = let s = covered op place (length wear) in none-taken (s .count) (drop (s .first) wear) (none-dropped (s .first) wear e)
+none-worn op at wear e = let s = covered op at (length wear) in none-taken (s .count) (drop (s .first .0) wear) (none-dropped (s .first .0) wear e)
 
 -- a table from the factory
 pub new-table : (n : ℕ) → atTop (replicate n 0) ≡ false
@@ -90,32 +93,34 @@ new-table (suc n) = new-table n
 one-count : (k : ℕ) (wear : List ℕ) → k < length wear → part wear k 1 ≡ getD wear k 0 ∷ []
 one-count k wear l = rw (drop-cons wear k 0 l)
 
-pub sector-spared : (place : ℕ) (wear : List ℕ) → place / 4096 < length wear → getD wear (place / 4096) 0 < topCount → wornOut ErasesSector place wear ≡ false
+pub sector-spared : (at : Address) (wear : List ℕ) → sectorOf at .0 < length wear → countOf wear (sectorOf at) < topCount → wornOut ErasesSector at wear ≡ false
 unfolding wornOut covered
-sector-spared place wear l b = ap atTop (one-count (place / 4096) wear l) ∙ rw (lt-leb topCount (getD wear (place / 4096) 0) b)
+sector-spared at wear l b = ap atTop (one-count (sectorOf at .0) wear l) ∙ rw (lt-leb topCount (countOf wear (sectorOf at)) b)
 
 head-of : (k v : ℕ) → getD (v ∷ []) (k - k) 0 ≡ v
 head-of k v = let z : k - k ≡ 0 = omega arith in rw z
 
-pub sector-counted : (place : ℕ) (wear after : List ℕ) → place / 4096 < length wear → OneMore (place / 4096) wear after → counted ErasesSector place wear ≡ after
-unfolding counted covered
-sector-counted place wear after l h =
-    let k = place / 4096 in
-    let e : lay wear k (raised (part wear k 1)) ≡ lay wear k ((getD wear k 0 + 1) ∷ []) = ap (λ (ys : List ℕ). lay wear k (raised ys)) (one-count k wear l) in
-    e ∙ ext-getD 0 (lay wear k ((getD wear k 0 + 1) ∷ [])) after (length-lay wear k ((getD wear k 0 + 1) ∷ []) (omega arith) ∙ sym (h .same)) (λ i m. at i (ltb i k) (eqb i k) refl refl)
+-- the count of one sector is one more, and the others are as they were
+one-more : (k : ℕ) (wear after : List ℕ) → k < length wear → OneMore (sectorAt k) wear after → lay wear k ((getD wear k 0 + 1) ∷ []) ≡ after
+one-more k wear after l h = ext-getD 0 (lay wear k ys) after (length-lay wear k ys (omega arith) ∙ sym (h .same)) (λ i m. at i (ltb i k) (eqb i k) refl refl)
   where
-    at : (i : ℕ) (b c : Bool) → ltb i (place / 4096) ≡ b → eqb i (place / 4096) ≡ c → getD (lay wear (place / 4096) ((getD wear (place / 4096) 0 + 1) ∷ [])) i 0 ≡ getD after i 0
+    ys : List ℕ
+    ys = (getD wear k 0 + 1) ∷ []
+
+    at : (i : ℕ) (b c : Bool) → ltb i k ≡ b → eqb i k ≡ c → getD (lay wear k ys) i 0 ≡ getD after i 0
     at i true c e f =
-        let m : i < place / 4096 = ltb-true i (place / 4096) e in
-        lay-before wear (place / 4096) ((getD wear (place / 4096) 0 + 1) ∷ []) i (omega arith) m ∙ sym (h .others i (λ z. omega arith))
+        let m : i < k = ltb-true i k e in
+        lay-before wear k ys i (omega arith) m ∙ sym (h .others (sectorAt i) (λ z. omega (arith, ap (λ (s : Sector). s .0) z)))
     at i false true e f =
-        let z : i ≡ place / 4096 = eqb-true i (place / 4096) f in
-        rw z
-        (lay-inside wear (place / 4096) ((getD wear (place / 4096) 0 + 1) ∷ []) (place / 4096) (omega arith) (omega arith) (omega arith)
-        ∙ head-of (place / 4096) (getD wear (place / 4096) 0 + 1) ∙ sym (h .one))
+        let z : i ≡ k = eqb-true i k f in
+        rw z (lay-inside wear k ys k (omega arith) (omega arith) (omega arith) ∙ head-of k (getD wear k 0 + 1) ∙ sym (h .one))
     at i false false e f =
-        let z : i ≡ place / 4096 → ⊥ = eqb-false i (place / 4096) f in
-        lay-after wear (place / 4096) ((getD wear (place / 4096) 0 + 1) ∷ []) i (omega arith) (omega (arith, ltb-false i (place / 4096) e)) ∙ sym (h .others i z)
+        let z : i ≡ k → ⊥ = eqb-false i k f in
+        lay-after wear k ys i (omega arith) (omega (arith, ltb-false i k e)) ∙ sym (h .others (sectorAt i) (λ y. z (ap (λ (s : Sector). s .0) y)))
+
+pub sector-counted : (at : Address) (wear after : List ℕ) → sectorOf at .0 < length wear → OneMore (sectorOf at) wear after → counted ErasesSector at wear ≡ after
+unfolding counted covered
+sector-counted at wear after l h = ap (λ (ys : List ℕ). lay wear (sectorOf at .0) (raised ys)) (one-count (sectorOf at .0) wear l) ∙ one-more (sectorOf at .0) wear after l h
 
 -- ---- the sum
 total-join : (xs ys : List ℕ) → totalOf (xs ++ ys) ≡ totalOf xs + totalOf ys
@@ -131,22 +136,22 @@ unfolding lay
 total-lay xs at ys = total-join (take at xs) (ys ++ drop (at + length ys) xs) ∙ ap (λ (n : ℕ). totalOf (take at xs) + n) (total-join ys (drop (at + length ys) xs))
 
 -- a counted operation adds as many as it covers sectors
-pub total-counted : (op : Operation) (place : ℕ) (wear : List ℕ) → InTable op place wear
-    → totalOf (counted op place wear) ≡ totalOf wear + covered op place (length wear) .count
+pub total-counted : (op : Operation) (at : Address) (wear : List ℕ) → InTable op at wear
+    → totalOf (counted op at wear) ≡ totalOf wear + covered op at (length wear) .count
 unfolding counted
-total-counted op place wear l =
-    let s = covered op place (length wear) in
-    let ys = part wear (s .first) (s .count) in
-    let n : length ys ≡ s .count = length-part wear (s .first) (s .count) l in
+total-counted op at wear l =
+    let s = covered op at (length wear) in
+    let ys = part wear (s .first .0) (s .count) in
+    let n : length ys ≡ s .count = length-part wear (s .first .0) (s .count) l in
     let m : length (raised ys) ≡ length ys = length-byIndex (λ (k old : ℕ). old + 1) ys in
-    let up = total-lay wear (s .first) (raised ys) in
-    let was = total-lay wear (s .first) ys in
-    let back : totalOf (lay wear (s .first) ys) ≡ totalOf wear = ap totalOf (lay-part wear (s .first) (s .count) l) in
+    let up = total-lay wear (s .first .0) (raised ys) in
+    let was = total-lay wear (s .first .0) ys in
+    let back : totalOf (lay wear (s .first .0) ys) ≡ totalOf wear = ap totalOf (lay-part wear (s .first .0) (s .count) l) in
     let more : totalOf (raised ys) ≡ totalOf ys + length ys = total-raised 0 ys in
     let raise = rw m at up in
     omega (arith, raise, was, back, more, n)
 
 -- an erase of the chip has no address
-pub all-counted : (p q : ℕ) (wear : List ℕ) → counted ErasesChip p wear ≡ counted ErasesChip q wear
+pub all-counted : (p q : Address) (wear : List ℕ) → counted ErasesChip p wear ≡ counted ErasesChip q wear
 unfolding counted covered
 all-counted p q wear = refl

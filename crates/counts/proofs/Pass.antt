@@ -9,8 +9,9 @@ use lib.Dec.{ltb, eqb}
 use lib.ListN.{length, getD, drop, drop-of-length-le}
 use lib.Seq.{drop-cons}
 use borrow.Author.Tests.{ltb-true, ltb-false, eqb-true, eqb-false}
+use Rattle.units.specs.declared.Sector.{Sector}
 use Rattle.counts.specs.declared.Sums.{Sums}
-use Rattle.counts.specs.Counts.{totalOf, leastFrom, mostFrom, smallestOf, largestOf, firstWith, withOne, sumsOf}
+use Rattle.counts.specs.Counts.{sectorAt, countOf, totalOf, leastFrom, mostFrom, smallestOf, largestOf, firstWith, withOne, sumsOf}
 use Rattle.counts.proofs.Laws.{first-is}
 
 -- what s says of the first i counts, and what those still to come add
@@ -18,12 +19,12 @@ pub record Seen (wear : List ℕ) (i : ℕ) (s : Sums) : Type 0 where
   pub total : s .total + totalOf (drop i wear) ≡ totalOf wear
   pub smallest : leastFrom (s .smallest) (drop i wear) ≡ smallestOf wear
   pub largest : mostFrom (s .largest) (drop i wear) ≡ largestOf wear
-  pub has-it : getD wear (s .sector) 0 ≡ s .largest
-  pub first : (k : ℕ) → k < s .sector → getD wear k 0 < s .largest
+  pub has-it : countOf wear (s .sector) ≡ s .largest
+  pub first : (k : ℕ) → k < s .sector .0 → getD wear k 0 < s .largest
   pub most : (k : ℕ) → k < i → getD wear k 0 ≤ s .largest
 
 -- of a table that has a first count
-pub seen-none : (wear : List ℕ) → 0 < length wear → Seen wear 0 (record { total = 0; smallest = getD wear 0 0; largest = getD wear 0 0; sector = 0 })
+pub seen-none : (wear : List ℕ) → 0 < length wear → Seen wear 0 (record { total = 0; smallest = getD wear 0 0; largest = getD wear 0 0; sector = sectorAt 0 })
 seen-none [] l = absurd (omega arith)
 seen-none (x ∷ xs) l =
     let low : min x x ≡ x = omega arith in
@@ -37,8 +38,8 @@ module _ (wear : List ℕ) (i : ℕ) (s : Sums) (h : Seen wear i s) where
   -- the sector with the largest count of the first i + 1
   abbrev Peak : Bool → Type 0
   Peak b =
-      (getD wear (cond b i (s .sector)) 0 ≡ max (s .largest) x)
-      × ((k : ℕ) → k < cond b i (s .sector) → getD wear k 0 < max (s .largest) x)
+      (countOf wear (cond b (sectorAt i) (s .sector)) ≡ max (s .largest) x)
+      × ((k : ℕ) → k < cond b (sectorAt i) (s .sector) .0 → getD wear k 0 < max (s .largest) x)
 
   peak : (b : Bool) → ltb (s .largest) x ≡ b → Peak b
   peak true e =
@@ -48,7 +49,7 @@ module _ (wear : List ℕ) (i : ℕ) (s : Sums) (h : Seen wear i s) where
       let l : x ≤ s .largest = ltb-false (s .largest) x e in
       (omega (arith, h .has-it), λ k m. omega (arith, h .first k m))
 
-  pub seen-one : i < length wear → Seen wear (i + 1) (withOne s x i)
+  pub seen-one : i < length wear → Seen wear (i + 1) (withOne s x (sectorAt i))
   seen-one l =
       let next : i + 1 ≡ suc i = omega arith in
       let d : drop i wear ≡ x ∷ drop (suc i) wear = drop-cons wear i 0 l in
@@ -79,11 +80,11 @@ module _ (wear : List ℕ) (i : ℕ) (s : Sums) (h : Seen wear i s) where
       let most : s .largest ≡ largestOf wear = sym (ap (mostFrom (s .largest)) d) ∙ h .largest in
       let least : s .smallest ≡ smallestOf wear = sym (ap (leastFrom (s .smallest)) d) ∙ h .smallest in
       let total : s .total ≡ totalOf wear = add-none (s .total) ∙ sym (ap (λ (z : List ℕ). s .total + totalOf z) d) ∙ h .total in
-      let at : s .sector ≡ firstWith (largestOf wear) wear = sym (first-is (largestOf wear) wear (s .sector) (h .has-it ∙ most) (λ k m. rw (← most) (h .first k m))) in
+      let at : s .sector ≡ sectorAt (firstWith (largestOf wear) wear) = ap sectorAt (sym (first-is (largestOf wear) wear (s .sector .0) (h .has-it ∙ most) (λ k m. rw (← most) (h .first k m)))) in
       same total least most at
     where
       add-none : (n : ℕ) → n ≡ n + 0
       add-none n = omega arith
 
-      same : {a b c e : ℕ} → s .total ≡ a → s .smallest ≡ b → s .largest ≡ c → s .sector ≡ e → s ≡ record { total = a; smallest = b; largest = c; sector = e }
+      same : {a b c : ℕ} {e : Sector} → s .total ≡ a → s .smallest ≡ b → s .largest ≡ c → s .sector ≡ e → s ≡ record { total = a; smallest = b; largest = c; sector = e }
       same p q r t = rw (← p, ← q, ← r, ← t)

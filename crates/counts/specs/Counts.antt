@@ -2,9 +2,12 @@
 use mathlib.Core.Bool.{Bool, true, false, _||_, cond}
 use mathlib.Core.List.{List, [], _∷_}
 use mathlib.Core.Path.{_≡_}
-use Prim.Native.Nat.{ℕ, suc, _+_, _*_, _/_, _%_, _≤_, min, max}
+use Prim.Native.Nat.{ℕ, suc, _+_, _/_, _%_, _≤_, min, max}
 use lib.Dec.{eqb, leb, ltb}
 use lib.ListN.{length, getD}
+use Rattle.units.specs.declared.Address.{Address}
+use Rattle.units.specs.declared.Sector.{Sector}
+use Rattle.units.specs.Kinds.{sectorOf, halfBlockOf, blockOf, firstOfHalf, firstOfBlock}
 use Rattle.models.specs.Models.{isSectors}
 use Rattle.parts.specs.Parts.{part, lay, byIndex}
 use Rattle.commands.specs.declared.Operation.{Operation}
@@ -14,22 +17,29 @@ use Rattle.counts.specs.declared.Sectors.{Sectors}
 use Rattle.counts.specs.declared.Figures.{Figures}
 use Rattle.counts.specs.declared.Sums.{Sums}
 
+-- ---- a table: the count of sector k stands at place k
+abbrev pub sectorAt : ℕ → Sector
+sectorAt k = record { 0 = k }
+
+abbrev pub countOf : List ℕ → Sector → ℕ
+countOf wear sector = getD wear (sector .0) 0
+
 -- ---- the sectors that an operation at that address covers, of n: the first, and how many. Only an erase covers any
-abbrev pub sectors : ℕ → ℕ → Sectors
+abbrev pub sectors : Sector → ℕ → Sectors
 sectors first count = record { first = first; count = count }
 
-unfoldable pub covered : Operation → ℕ → ℕ → Sectors
-covered Idle place n = sectors 0 0
-covered WritesStatus place n = sectors 0 0
-covered Programs place n = sectors 0 0
-covered ErasesSector place n = sectors (place / 4096) 1
-covered ErasesHalf place n = sectors (8 * (place / 32768)) 8
-covered ErasesBlock place n = sectors (16 * (place / 65536)) 16
-covered ErasesChip place n = sectors 0 n
+unfoldable pub covered : Operation → Address → ℕ → Sectors
+covered Idle at n = sectors (sectorAt 0) 0
+covered WritesStatus at n = sectors (sectorAt 0) 0
+covered Programs at n = sectors (sectorAt 0) 0
+covered ErasesSector at n = sectors (sectorOf at) 1
+covered ErasesHalf at n = sectors (firstOfHalf (halfBlockOf at)) 8
+covered ErasesBlock at n = sectors (firstOfBlock (blockOf at)) 16
+covered ErasesChip at n = sectors (sectorAt 0) n
 
 -- their counts in a table
-abbrev pub coveredCounts : Operation → ℕ → List ℕ → List ℕ
-coveredCounts op place wear = part wear (covered op place (length wear) .first) (covered op place (length wear) .count)
+abbrev pub coveredCounts : Operation → Address → List ℕ → List ℕ
+coveredCounts op at wear = part wear (covered op at (length wear) .first .0) (covered op at (length wear) .count)
 
 -- ---- an erase
 -- the highest count
@@ -41,26 +51,26 @@ abbrev pub atTop : List ℕ → Bool
 atTop [] = false
 atTop (x ∷ xs) = leb topCount x || atTop xs
 
-unfoldable pub wornOut : Operation → ℕ → List ℕ → Bool
-wornOut op place wear = atTop (coveredCounts op place wear)
+unfoldable pub wornOut : Operation → Address → List ℕ → Bool
+wornOut op at wear = atTop (coveredCounts op at wear)
 
 -- each count of a run is one more
 abbrev pub raised : List ℕ → List ℕ
 raised counts = byIndex (λ (k old : ℕ). old + 1) counts
 
 -- the table after: the counts of the covered sectors are raised, the others are as they were
-unfoldable pub counted : Operation → ℕ → List ℕ → List ℕ
-counted op place wear = lay wear (covered op place (length wear) .first) (raised (coveredCounts op place wear))
+unfoldable pub counted : Operation → Address → List ℕ → List ℕ
+counted op at wear = lay wear (covered op at (length wear) .first .0) (raised (coveredCounts op at wear))
 
 -- the covered sectors lie in the table
-abbrev pub InTable : Operation → ℕ → List ℕ → Type 0
-InTable op place wear = covered op place (length wear) .first + covered op place (length wear) .count ≤ length wear
+abbrev pub InTable : Operation → Address → List ℕ → Type 0
+InTable op at wear = covered op at (length wear) .first .0 + covered op at (length wear) .count ≤ length wear
 
 -- a table after it, where the count of one sector is one more and no other has moved
-pub record OneMore (sector : ℕ) (before after : List ℕ) : Type 0 where
+pub record OneMore (sector : Sector) (before after : List ℕ) : Type 0 where
   pub same : length after ≡ length before
-  pub one : getD after sector 0 ≡ getD before sector 0 + 1
-  pub others : (k : ℕ) → (k ≡ sector → ⊥) → getD after k 0 ≡ getD before k 0
+  pub one : countOf after sector ≡ countOf before sector + 1
+  pub others : (k : Sector) → (k ≡ sector → ⊥) → countOf after k ≡ countOf before k
 
 -- ---- the report
 abbrev pub totalOf : List ℕ → ℕ
@@ -84,13 +94,13 @@ abbrev pub largestOf : List ℕ → ℕ
 largestOf [] = 0
 largestOf (x ∷ xs) = mostFrom x xs
 
--- the first sector with that count
+-- the place of the first count that is v
 abbrev pub firstWith : ℕ → List ℕ → ℕ
 firstWith v [] = 0
 firstWith v (x ∷ xs) = cond (eqb x v) 0 (suc (firstWith v xs))
 
 -- what is known of the counts looked at so far, and of one more, the count of sector k
-abbrev pub withOne : Sums → ℕ → ℕ → Sums
+abbrev pub withOne : Sums → ℕ → Sector → Sums
 withOne s x k =
     record {
       total = s .total + x;
@@ -106,7 +116,7 @@ sumsOf wear =
       total = totalOf wear;
       smallest = smallestOf wear;
       largest = largestOf wear;
-      sector = firstWith (largestOf wear) wear;
+      sector = sectorAt (firstWith (largestOf wear) wear);
     }
 
 -- 24 where the length is no chip's, and then no figure
@@ -118,8 +128,8 @@ reportOf wear =
       total = totalOf wear;
       smallest = smallestOf wear;
       largest = largestOf wear;
-      sector = firstWith (largestOf wear) wear;
+      sector = sectorAt (firstWith (largestOf wear) wear);
       mean = totalOf wear / length wear;
       remainder = totalOf wear % length wear;
     })
-    (record { answer = BadTable; total = 0; smallest = 0; largest = 0; sector = 0; mean = 0; remainder = 0 })
+    (record { answer = BadTable; total = 0; smallest = 0; largest = 0; sector = sectorAt 0; mean = 0; remainder = 0 })

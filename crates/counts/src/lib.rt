@@ -1,41 +1,46 @@
 // The wear table: one count of erases a sector, which the caller lends. An erase raises those of the sectors that it covers; a report sums it up.
 ghost use mathlib.Core.Path.{_≡_};
-ghost use mathlib.Core.Bool.{false, not, cond};
+ghost use mathlib.Core.Bool.{false, cond};
 ghost use Prim.Native.Nat.{_+_, _*_, _≤_, _<_, min, max};
 ghost use lib.Dec.{ltb};
 ghost use lib.ListN.{length};
-ghost use Rattle.counts.specs.Counts.{covered, atTop, wornOut, raised, counted, InTable, withOne, sumsOf, reportOf};
+ghost use Rattle.counts.specs.Counts.{sectors, covered, atTop, raised, InTable, withOne, sumsOf, reportOf};
+ghost use Rattle.counts.specs.Contracts.{Counting};
 use answers::Answer;
 use commands::Operation;
+use units::Address;
+use units::Sector;
 
 // A run of sectors: the first, and how many.
 pub struct Sectors {
-    pub first: usize,
+    pub first: Sector,
     pub count: usize,
 }
 
-// The sectors that an operation at that address covers, in a table of n counts.
-fn sectors_of(op: Operation, place: u32, n: usize) -> Sectors
-    ensures { λ r. ⌜ r ≡ covered op place n ⌝ }
+fn run(first: Sector, count: usize) -> Sectors
+    ensures { λ r. ⌜ r ≡ sectors first count ⌝ }
 {
-    let at = place as usize;
+    Sectors { first, count }
+}
+
+// The sectors that an operation at that address covers, in a table of n counts.
+fn sectors_of(op: Operation, at: Address, n: usize) -> Sectors
+    ensures { λ r. ⌜ r ≡ covered op at n ⌝ }
+{
     match op {
-        Operation::Idle => Sectors { first: 0, count: 0 },
-        Operation::WritesStatus => Sectors { first: 0, count: 0 },
-        Operation::Programs => Sectors { first: 0, count: 0 },
-        Operation::ErasesSector => Sectors {
-            first: at / 4096,
-            count: 1,
-        },
-        Operation::ErasesHalf => Sectors {
-            first: 8 * (at / 32768),
-            count: 8,
-        },
-        Operation::ErasesBlock => Sectors {
-            first: 16 * (at / 65536),
-            count: 16,
-        },
-        Operation::ErasesChip => Sectors { first: 0, count: n },
+        Operation::Idle => run(Sector(0), 0),
+        Operation::WritesStatus => run(Sector(0), 0),
+        Operation::Programs => run(Sector(0), 0),
+        Operation::ErasesSector => run(at.in_sector(), 1),
+        Operation::ErasesHalf => {
+            let unit = at.in_half_block();
+            run(unit.first_sector(), 8)
+        }
+        Operation::ErasesBlock => {
+            let unit = at.in_block();
+            run(unit.first_sector(), 16)
+        }
+        Operation::ErasesChip => run(Sector(0), n),
     }
 }
 
@@ -62,13 +67,14 @@ fn raise(counts: &mut [u32])
 }
 
 // Counts an erase, unless a count would pass the highest one: whether it did. Only the counts of the covered sectors are passed on.
-pub fn count(wear: &mut [u32], op: Operation, place: u32) -> bool
-    requires { ⌜ InTable op place (now wear) ⌝ }
-    ensures { λ r. ⌜ (r ≡ not (wornOut op place (now (wear .entry)))) × (now (wear .exit) ≡ cond r (counted op place (now (wear .entry))) (now (wear .entry))) ⌝ }
+pub fn count(wear: &mut [u32], op: Operation, at: Address) -> bool
+    requires { ⌜ InTable op at (now wear) ⌝ }
+    ensures { λ r. ⌜ Counting op at (now (wear .entry)) r (now (wear .exit)) ⌝ }
 {
-    let run = sectors_of(op, place, wear.len());
-    let first = run.first;
-    let end = first + run.count;
+    let unit = sectors_of(op, at, wear.len());
+    let start = unit.first;
+    let first = start.0 as usize;
+    let end = first + unit.count;
     if at_top(&wear[first..end]) {
         return false;
     }
@@ -83,7 +89,7 @@ pub struct Sums {
     pub total: u64,
     pub smallest: u32,
     pub largest: u32,
-    pub sector: u32,
+    pub sector: Sector,
 }
 
 // The smaller of two counts, and the larger.
@@ -100,14 +106,14 @@ fn higher(a: u32, b: u32) -> u32
 }
 
 // The sector with the largest count: the one at hand only where its count is larger than all before it.
-fn largest_at(largest: u32, sector: u32, count: u32, at: u32) -> u32
+fn largest_at(largest: u32, sector: Sector, count: u32, at: Sector) -> Sector
     ensures { λ r. ⌜ r ≡ cond (ltb largest count) at sector ⌝ }
 {
     if largest < count { at } else { sector }
 }
 
 // One count more, that of the sector at.
-fn with_one(s: Sums, count: u32, at: u32) -> Sums
+fn with_one(s: Sums, count: u32, at: Sector) -> Sums
     requires { ⌜ s .total + count ≤ 18446744073709551615 ⌝ }
     ensures { λ r. ⌜ r ≡ withOne s count at ⌝ }
 {
@@ -129,10 +135,10 @@ fn sum_up(wear: &[u32]) -> Sums
         total: 0,
         smallest: first,
         largest: first,
-        sector: 0,
+        sector: Sector(0),
     };
     for i in 0..wear.len() {
-        s = with_one(s, wear[i], i as u32);
+        s = with_one(s, wear[i], Sector(i as u32));
     }
     s
 }
@@ -143,7 +149,7 @@ pub struct Figures {
     pub total: u64,
     pub smallest: u32,
     pub largest: u32,
-    pub sector: u32,
+    pub sector: Sector,
     pub mean: u32,
     pub remainder: u32,
 }
@@ -159,7 +165,7 @@ pub fn report(wear: &[u32]) -> Figures
             total: 0,
             smallest: 0,
             largest: 0,
-            sector: 0,
+            sector: Sector(0),
             mean: 0,
             remainder: 0,
         };
@@ -168,12 +174,13 @@ pub fn report(wear: &[u32]) -> Figures
     let sectors = n as u64;
     let mean = s.total / sectors;
     let remainder = s.total % sectors;
+    let sector = s.sector;
     Figures {
         answer: Answer::Done,
         total: s.total,
         smallest: s.smallest,
         largest: s.largest,
-        sector: s.sector,
+        sector,
         mean: mean as u32,
         remainder: remainder as u32,
     }

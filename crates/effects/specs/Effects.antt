@@ -1,9 +1,8 @@
 -- What each command does once it is accepted, one definition a command in the order of 01's list. Assumes nothing.
-use mathlib.Core.Bool.{Bool, true, false, _&&_, _||_, cond}
+use mathlib.Core.Bool.{Bool, true, false, _&&_, cond}
 use mathlib.Core.List.{List, [], _∷_}
-use mathlib.Core.Path.{_≡_}
-use Prim.Native.Nat.{ℕ, _+_, _-_, _*_, _/_, _%_, _≤_}
-use lib.Dec.{eqb, ltb, leb}
+use Prim.Native.Nat.{ℕ, _-_, _%_}
+use lib.Dec.{eqb, ltb}
 use lib.ListN.{length, getD, drop, replicate}
 use Rattle.units.specs.declared.Address.{Address}
 use Rattle.models.specs.declared.Model.{Model}
@@ -15,7 +14,7 @@ use Rattle.fold.specs.Fold.{folds, pageAfter}
 use Rattle.fold.specs.Strict.{overOld}
 use Rattle.commands.specs.declared.Operation.{Operation}
 use Rattle.commands.specs.declared.Operation.the-variants.{Idle, WritesStatus, Programs, ErasesSector, ErasesHalf, ErasesBlock, ErasesChip}
-use Rattle.states.specs.States.{statusOf, operationTime}
+use Rattle.states.specs.States.{statusOf, operationTime, noAddress}
 use Rattle.states.specs.declared.Record.{Record}
 use Rattle.states.specs.declared.State.{State}
 use Rattle.answers.specs.Answers.{saysProtected}
@@ -45,21 +44,6 @@ shown page wear e = record { reply = e .reply; page = page; wear = wear; out = e
 
 abbrev pub started : List ℕ → List ℕ → Started → Effect
 started wear out e = record { reply = e .reply; page = e .page; wear = wear; out = out }
-
--- what a function's result and its lent buffers at exit have to be
-pub record Gives (e : Effect) (r : Reply) (page wear os : List ℕ) : Type 0 where
-  pub reply : r ≡ e .reply
-  pub page-is : page ≡ e .page
-  pub wear-is : wear ≡ e .wear
-  pub out : os ≡ e .out
-
-pub record Shows (e : Shown) (r : Reply) (os : List ℕ) : Type 0 where
-  pub reply : r ≡ e .reply
-  pub out : os ≡ e .out
-
-pub record Starts (e : Started) (r : Reply) (page : List ℕ) : Type 0 where
-  pub reply : r ≡ e .reply
-  pub page-is : page ≡ e .page
 
 -- ---- replies
 -- nothing is driven
@@ -131,8 +115,12 @@ readFrom first s cells at bytes out =
     record { reply = drives s first (length bytes); out = lay out first (ring cells (at .0) (length bytes - first)) }
 
 -- 20, 52, D8, 60 and C7: the erase starts; the cells change when its time has run out (000 L315, L327, L335, 003 L1233)
-unfoldable pub eraseStarts : Record → State → Operation → ℕ → List ℕ → Reply
-eraseStarts rec s op place bytes = quiet Done (starting s (getD bytes 0 0) place (operationTime rec op))
+unfoldable pub eraseStarts : Record → State → Operation → Address → List ℕ → Reply
+eraseStarts rec s op at bytes = quiet Done (starting s (getD bytes 0 0) (at .0) (operationTime rec op))
+
+-- an erase of the chip has no address
+abbrev pub nowhere : Address
+nowhere = record { 0 = noAddress }
 
 -- 02: the bytes from position 4 on fold into the page data; the cells change when the time has run out (000 L343)
 unfoldable pub programPage : Record → State → List ℕ → Address → List ℕ → Started
@@ -190,10 +178,3 @@ readMaker rec s bytes out =
 -- B9: enters deep power-down, and settles (000 L359, 002 L802)
 unfoldable pub sleep : Record → State → Reply
 sleep rec s = quiet Done (dozing s true (rec .sleep))
-
--- ---- what the functions ask of a frame
--- a frame of at least `first` bytes, none longer than is allowed, and room for it in the output
-pub record Room (first : ℕ) (bytes out : List ℕ) : Type 0 where
-  pub long : first ≤ length bytes
-  pub short : length bytes ≤ 65541
-  pub room : length bytes ≤ length out

@@ -6,6 +6,7 @@ use answers::Answer;
 use commands::Operation;
 use states::Record;
 use states::State;
+use units::Address;
 
 // What a frame is answered: the answer, the first driven position and how many bytes are driven, the state after, and whether a program folded.
 pub struct Reply {
@@ -112,13 +113,13 @@ pub fn write_disable(st: State) -> Reply
 }
 
 // 20, 52, D8, 60 and C7
-pub fn erase(rec: Record, st: State, op: Operation, place: u32, bytes: &[u8]) -> Reply
-    ensures { λ r. ⌜ r ≡ Effects·erase rec st op place (now (bytes .entry)) ⌝ }
+pub fn erase(rec: Record, st: State, op: Operation, at: Address, bytes: &[u8]) -> Reply
+    ensures { λ r. ⌜ r ≡ Effects·erase rec st op at (now (bytes .entry)) ⌝ }
 {
     let time = states::operation_time(rec, op);
     quiet(
         Answer::Done,
-        start(st, parts::byte_at(bytes, 0), place, time),
+        start(st, parts::byte_at(bytes, 0), at.0, time),
     )
 }
 

@@ -1,12 +1,10 @@
--- What a frame that nothing refuses has shown, by name: a new row moves only this place. Assumes nothing.
-use mathlib.Core.Path.{_≡_, refl, sym, ap, _∙_}
-use mathlib.Core.Bool.{Bool, true, false, not, _&&_, cond, true≢false, false≢true}
-use mathlib.Core.List.{List, [], _∷_, _++_}
+-- What a frame that nothing refuses has shown, by name, each row told by its answer: a new row moves only this place. Assumes nothing.
+use mathlib.Core.Path.{_≡_, refl, ap, _∙_}
+use mathlib.Core.Bool.{Bool, true, false, not, _&&_, cond, false≢true}
 use Prim.Native.Nat.{_≤_, _<_}
 use native.Mathlib.Nat.{pos-of-ne-zero}
 use lib.Dec.{eqb}
-use lib.ListN.{take, drop}
-use borrow.Author.Tests.{eqb-true, eqb-false, ltb-false, not-true, not-false}
+use borrow.Author.Tests.{eqb-true, eqb-false, ltb-false, not-false}
 use Rattle.units.proofs.Bools.{both, neither, only-if}
 use Rattle.models.specs.Models.{modelOf}
 use Rattle.answers.specs.Answers.{numberOf, isDone, saysProtected}
@@ -16,31 +14,12 @@ use Rattle.states.specs.States.{recordOk, stateOk}
 use Rattle.states.specs.declared.Record.{Record}
 use Rattle.states.specs.declared.State.{State}
 use Rattle.answers.specs.declared.Answer.{Answer}
-use Rattle.answers.specs.declared.Answer.the-variants.{Done, Protected, WornOut, NotErased}
+use Rattle.answers.specs.declared.Answer.the-variants.{Done, BadRecord, BadArray, BadTable, BadState, BadFrame, ShortOut, Empty, Settling, Busy, Asleep, NoCommand, BadLength, NotEnabled, Locked, Protected, NotErased, WornOut}
+use Rattle.answers.proofs.Tables.{testOf, before, row-clear, spared, earlier-clear, row-holds}
 use Rattle.ladder.specs.declared.Head.{Head}
-use Rattle.ladder.specs.Ladder.{Rung, firstOf, ladder, asks, guarded, refusalOf}
-use Rattle.ladder.specs.Stages.{givenOf, saidOf, lastRows}
-use Rattle.ladder.proofs.Stages.{honest, one-table, last-is}
-
--- no test of the table holds
-abbrev pub Clear : List Rung → Type 0
-Clear [] = Unit {0}
-Clear (r ∷ rs) = (r .bad ≡ false) × Clear rs
-
-step : (b : Bool) (x rest : Answer) → isDone x ≡ false → isDone (cond b x rest) ≡ true → (b ≡ false) × (isDone rest ≡ true)
-step true x rest n e = absurd (true≢false (sym e ∙ n))
-step false x rest n e = (refl, e)
-
-clear : (rs : List Rung) → honest rs ≡ true → isDone (firstOf rs) ≡ true → Clear rs
-clear [] h e = tt
-clear (r ∷ rs) h e =
-    let k = both (not (isDone (r .says))) (honest rs) h in
-    let s = step (r .bad) (r .says) (firstOf rs) (not-true _ (k .0)) e in
-    (s .0, clear rs (k .1) (s .1))
-
-pub unrefused : (rs : List Rung) → Clear rs → firstOf rs ≡ Done
-unrefused [] c = refl
-unrefused (r ∷ rs) c = rw (c .0) (unrefused rs (c .1))
+use Rattle.ladder.specs.Ladder.{givenRows, saidRows, ladder, asks, guarded, refusalOf}
+use Rattle.ladder.specs.Stages.{givenOf, saidOf, dataOf}
+use Rattle.ladder.proofs.Stages.{one-table, data-is}
 
 pub record Passed (rec : Record) (s : State) (h : Head) : Type 0 where
   pub right : recordOk rec ≡ true
@@ -67,75 +46,43 @@ pub passed : (rec : Record) (s : State) (h : Head) → isDone (refusalOf rec s h
     → Passed rec s h
 unfolding refusalOf
 passed rec s h e =
-    let c = clear (ladder rec s h (asks rec h)) refl e in
-    let v = c .1 .1 .1 in
-    let d = v .1 .1 .1 in
-    let g = d .1 .1 in
-    let f = g .1 .1 .1 .1 in
-    let long = neither _ _ (v .1 .0) in
-    let ok = both (stateOk rec s) (h .page) (not-false _ (v .0)) in
+    let rows = ladder rec s h (asks rec h) in
+    let clear : (a : Answer) → testOf a rows ≡ false = row-clear rows refl e in
+    let long = neither _ _ (clear BadFrame) in
+    let ok = both (stateOk rec s) (h .page) (not-false _ (clear BadState)) in
     record {
-      right = not-false _ (c .0);
-      table = eqb-true _ _ (not-false _ (c .1 .1 .0));
-      whole = eqb-true _ _ (not-false _ (c .1 .0));
+      right = not-false _ (clear BadRecord);
+      table = eqb-true _ _ (not-false _ (clear BadTable));
+      whole = eqb-true _ _ (not-false _ (clear BadArray));
       valid = ok .0;
       page = ok .1;
       short = ltb-false _ _ (long .0);
       tail = ltb-false _ _ (long .1);
-      roomy = ltb-false _ _ (v .1 .1 .0);
-      some = pos-of-ne-zero (eqb-false (h .count) 0 (d .0));
-      settled = eqb-true (s .settle) 0 (not-false _ (d .1 .0));
-      listens = g .0;
-      awake = g .1 .0;
-      known = not-false _ (g .1 .1 .0);
-      fits = not-false _ (g .1 .1 .1 .0);
-      enabled = f .0;
-      unlocked = f .1 .0;
-      free = f .1 .1 .0;
-      fresh = f .1 .1 .1 .0;
-      spare = f .1 .1 .1 .1 .0;
+      roomy = ltb-false _ _ (clear ShortOut);
+      some = pos-of-ne-zero (eqb-false (h .count) 0 (clear Empty));
+      settled = eqb-true (s .settle) 0 (not-false _ (clear Settling));
+      listens = clear Busy;
+      awake = clear Asleep;
+      known = not-false _ (clear NoCommand);
+      fits = not-false _ (clear BadLength);
+      enabled = clear NotEnabled;
+      unlocked = clear Locked;
+      free = clear Protected;
+      fresh = clear NotErased;
+      spare = clear WornOut;
     }
 
--- the first six rows have shown that the page data fit
+-- the first rows have shown that the page data fit
 pub given-page : (rec : Record) (s : State) (h : Head) → isDone (givenOf rec s h) ≡ true → h .page ≡ true
 unfolding givenOf
-given-page rec s h e =
-    let c = clear (take 6 (ladder rec s h (asks rec h))) refl e in
-    both (stateOk rec s) (h .page) (not-false _ (c .1 .1 .1 .0)) .1
+given-page rec s h e = both (stateOk rec s) (h .page) (not-false _ (row-clear (givenRows rec s h) refl e BadState)) .1
 
--- ---- what a frame that is answered 17 has shown
--- no row of a table gives such an answer
-abbrev spares : (Answer → Bool) → List Rung → Bool
-spares p [] = true
-spares p (r ∷ rs) = not (p (r .says)) && spares p rs
-
-past : (b : Bool) (x rest : Answer) → saysProtected x ≡ false → saysProtected (cond b x rest) ≡ true → (b ≡ false) × (saysProtected rest ≡ true)
-past true x rest n e = absurd (true≢false (sym e ∙ n))
-past false x rest n e = (refl, e)
-
-spared : (p : Answer → Bool) → p Done ≡ false → (rs : List Rung) → spares p rs ≡ true → p (firstOf rs) ≡ false
-spared p d [] h = d
-spared p d (r ∷ rs) h =
-    let k = both (not (p (r .says))) (spares p rs) h in
-    go (r .bad) (not-true _ (k .0)) (spared p d rs (k .1))
-  where
-    go : (b : Bool) → p (r .says) ≡ false → p (firstOf rs) ≡ false → p (cond b (r .says) (firstOf rs)) ≡ false
-    go true e f = e
-    go false e f = f
-
--- the first rows do not answer it
+-- and do not answer 17
 pub given-spares : (rec : Record) (s : State) (h : Head) → saysProtected (givenOf rec s h) ≡ false
 unfolding givenOf
-given-spares rec s h = spared saysProtected refl (take 6 (ladder rec s h (asks rec h))) refl
+given-spares rec s h = spared saysProtected refl (givenRows rec s h) refl
 
-clear-to : (rs ys : List Rung) → spares saysProtected rs ≡ true → saysProtected (firstOf (rs ++ ys)) ≡ true → Clear rs × (saysProtected (firstOf ys) ≡ true)
-clear-to [] ys h e = (tt, e)
-clear-to (r ∷ rs) ys h e =
-    let k = both (not (saysProtected (r .says))) (spares saysProtected rs) h in
-    let s = past (r .bad) (r .says) (firstOf (rs ++ ys)) (not-true _ (k .0)) e in
-    let c = clear-to rs ys (k .1) (s .1) in
-    ((s .0, c .0), c .1)
-
+-- ---- what a frame that is answered 17 has shown
 pub record Stopped (rec : Record) (s : State) (h : Head) : Type 0 where
   pub right : recordOk rec ≡ true
   pub valid : stateOk rec s ≡ true
@@ -155,24 +102,16 @@ pub stopped : (rec : Record) (s : State) (h : Head) → saysProtected (refusalOf
 unfolding refusalOf
 stopped rec s h e =
     let rows = ladder rec s h (asks rec h) in
-    let t = clear-to (take 14 rows) (drop 14 rows) refl e in
-    let c = t .0 in
-    let v = c .1 .1 .1 in
-    let ok = both (stateOk rec s) (h .page) (not-false _ (v .0)) in
-    let g : guarded rec s (asks rec h) h ≡ true = reached (guarded rec s (asks rec h) h) (h .over) (h .worn) (t .1) in
+    let clear : (a : Answer) → testOf a (before Protected rows) ≡ false = earlier-clear Protected refl rows e in
+    let g : guarded rec s (asks rec h) h ≡ true = row-holds Protected refl rows refl e in
+    let ok = both (stateOk rec s) (h .page) (not-false _ (clear BadState)) in
     record {
-      right = not-false _ (c .0);
+      right = not-false _ (clear BadRecord);
       valid = ok .0;
       page = ok .1;
-      idle = eqb-true (s .busy) 0 (not-false _ (only-if (not (eqb (s .busy) 0)) _ (v .1 .1 .1 .1 .1 .0) (waits-for rec s h g)));
-      settled = eqb-true (s .settle) 0 (not-false _ (v .1 .1 .1 .1 .0));
+      idle = eqb-true (s .busy) 0 (not-false _ (only-if (not (eqb (s .busy) 0)) _ (clear Busy) (waits-for rec s h g)));
+      settled = eqb-true (s .settle) 0 (not-false _ (clear Settling));
     }
-  where
-    reached : (b o w : Bool) → saysProtected (cond b Protected (cond o NotErased (cond w WornOut Done))) ≡ true → b ≡ true
-    reached true o w f = refl
-    reached false true w f = absurd (false≢true f)
-    reached false false true f = absurd (false≢true f)
-    reached false false false f = absurd (false≢true f)
 
 -- ---- 19
 abbrev saysNotErased : Answer → Bool
@@ -187,7 +126,7 @@ erased-spares rec s h o e = eqb-false _ _ (ap saysNotErased (one-table rec s h) 
     last true = refl
     last false = refl
 
-    go : (a b : Bool) → saysNotErased (cond a (cond b (lastRows rec s h) (saidOf rec s h)) (givenOf rec s h)) ≡ false
-    go true true = rw (last-is rec s h, o) (last (h .worn))
-    go true false = spared saysNotErased refl (take 9 (drop 6 (ladder rec s h (asks rec h)))) refl
-    go false b = spared saysNotErased refl (take 6 (ladder rec s h (asks rec h))) refl
+    go : (a b : Bool) → saysNotErased (cond a (cond b (dataOf rec s h) (saidOf rec s h)) (givenOf rec s h)) ≡ false
+    go true true = rw (data-is rec s h, o) (last (h .worn))
+    go true false = spared saysNotErased refl (saidRows rec s h (asks rec h)) refl
+    go false b = spared saysNotErased refl (givenRows rec s h) refl

@@ -1,10 +1,7 @@
 -- The stages, one after the other, are the one table. Assumes nothing.
 use mathlib.Core.Path.{_≡_, refl, sym, ap, _∙_}
-use mathlib.Core.Bool.{Bool, true, false, not, _&&_, cond, true≢false}
-use mathlib.Core.List.{List, [], _∷_, _++_}
-use lib.ListN.{take, drop}
-use borrow.Author.Tests.{not-true}
-use Rattle.units.proofs.Bools.{both}
+use mathlib.Core.Bool.{Bool, true, false, cond, true≢false}
+use mathlib.Core.List.{_++_}
 use Rattle.answers.specs.Answers.{isDone}
 use Rattle.states.specs.declared.Record.{Record}
 use Rattle.states.specs.declared.State.{State}
@@ -13,39 +10,25 @@ use Rattle.commands.proofs.Rows.{no-latch}
 use Rattle.answers.specs.declared.Answer.{Answer}
 use Rattle.answers.specs.declared.Answer.the-variants.{Done, WornOut, NotErased}
 use Rattle.ladder.specs.declared.Head.{Head}
-use Rattle.ladder.specs.Ladder.{Rung, firstOf, ladder, asks, refusalOf}
-use Rattle.ladder.specs.Stages.{givenOf, saidOf, heardOf, allowedOf, lastRows}
+use Rattle.answers.specs.Tables.{firstOf}
+use Rattle.answers.proofs.Tables.{joined}
+use Rattle.ladder.specs.Ladder.{givenRows, saidRows, heardRows, writeRows, dataRows, asks, refusalOf}
+use Rattle.ladder.specs.Stages.{givenOf, saidOf, heardOf, allowedOf, dataOf}
 
--- no row of a table answers 0
-abbrev pub honest : List Rung → Bool
-honest [] = true
-honest (r ∷ rs) = not (isDone (r .says)) && honest rs
-
-pub joined : (xs ys : List Rung) → honest xs ≡ true → firstOf (xs ++ ys) ≡ cond (isDone (firstOf xs)) (firstOf ys) (firstOf xs)
-joined [] ys h = refl
-joined (r ∷ rs) ys h = go (r .bad) (joined rs ys (k .1))
-  where
-    k : (not (isDone (r .says)) ≡ true) × (honest rs ≡ true)
-    k = both (not (isDone (r .says))) (honest rs) h
-
-    go : (b : Bool) → firstOf (rs ++ ys) ≡ cond (isDone (firstOf rs)) (firstOf ys) (firstOf rs)
-        → cond b (r .says) (firstOf (rs ++ ys)) ≡ cond (isDone (cond b (r .says) (firstOf rs))) (firstOf ys) (cond b (r .says) (firstOf rs))
-    go true e = rw (not-true (isDone (r .says)) (k .0))
-    go false e = e
-
+-- two stages, by the law of one table after the other
 pub one-table : (rec : Record) (s : State) (h : Head)
-    → refusalOf rec s h ≡ cond (isDone (givenOf rec s h)) (cond (isDone (saidOf rec s h)) (lastRows rec s h) (saidOf rec s h)) (givenOf rec s h)
-unfolding refusalOf givenOf saidOf lastRows
+    → refusalOf rec s h ≡ cond (isDone (givenOf rec s h)) (cond (isDone (saidOf rec s h)) (dataOf rec s h) (saidOf rec s h)) (givenOf rec s h)
+unfolding refusalOf givenOf saidOf dataOf
 one-table rec s h =
-    let rows = ladder rec s h (asks rec h) in
-    joined (take 6 rows) (drop 6 rows) refl
-    ∙ ap (λ (a : Answer). cond (isDone (firstOf (take 6 rows))) a (firstOf (take 6 rows))) (joined (take 9 (drop 6 rows)) (drop 15 rows) refl)
+    let said = saidRows rec s h (asks rec h) in
+    joined (givenRows rec s h) (said ++ dataRows h) refl
+    ∙ ap (λ (a : Answer). cond (isDone (firstOf (givenRows rec s h))) a (firstOf (givenRows rec s h))) (joined said (dataRows h) refl)
 
 pub two-stages : (rec : Record) (s : State) (h : Head)
     → (let k : Traits = asks rec h in
     saidOf rec s h ≡ cond (isDone (heardOf rec s h k)) (allowedOf rec s h k) (heardOf rec s h k))
 unfolding saidOf heardOf allowedOf
-two-stages rec s h = let rows = ladder rec s h (asks rec h) in joined (take 6 (drop 6 rows)) (take 3 (drop 12 rows)) refl
+two-stages rec s h = let k : Traits = asks rec h in joined (heardRows s h k) (writeRows rec s h k) refl
 
 -- ---- where the code stops
 module _ (rec : Record) (s : State) (h : Head) where
@@ -58,7 +41,7 @@ module _ (rec : Record) (s : State) (h : Head) where
   pub stops-said : isDone (givenOf rec s h) ≡ true → isDone (saidOf rec s h) ≡ false → refusalOf rec s h ≡ saidOf rec s h
   stops-said e f = one-table rec s h ∙ rw (e, f)
 
-  pub goes-on : isDone (givenOf rec s h) ≡ true → isDone (saidOf rec s h) ≡ true → refusalOf rec s h ≡ lastRows rec s h
+  pub goes-on : isDone (givenOf rec s h) ≡ true → isDone (saidOf rec s h) ≡ true → refusalOf rec s h ≡ dataOf rec s h
   goes-on e f = one-table rec s h ∙ rw (e, f)
 
   -- and a frame that nothing refuses has passed both
@@ -70,10 +53,10 @@ module _ (rec : Record) (s : State) (h : Head) where
       go true p false q = absurd (true≢false (sym e ∙ ap isDone (stops-said p q) ∙ q))
       go false p b q = absurd (true≢false (sym e ∙ ap isDone (stops-given p) ∙ p))
 
-  -- the last rows look at nothing but what the cells and the wear table say
-  pub last-is : lastRows rec s h ≡ cond (h .over) NotErased (cond (h .worn) WornOut Done)
-  unfolding lastRows
-  last-is = refl
+  -- the last group looks at nothing but what the cells and the wear table say
+  pub data-is : dataOf rec s h ≡ cond (h .over) NotErased (cond (h .worn) WornOut Done)
+  unfolding dataOf
+  data-is = refl
 
   pub stops-heard : isDone (heardOf rec s h k) ≡ false → saidOf rec s h ≡ heardOf rec s h k
   stops-heard e = two-stages rec s h ∙ rw e
@@ -81,7 +64,11 @@ module _ (rec : Record) (s : State) (h : Head) where
   pub passes-heard : isDone (heardOf rec s h k) ≡ true → saidOf rec s h ≡ allowedOf rec s h k
   passes-heard e = two-stages rec s h ∙ rw e
 
--- a command that needs no WEL is stopped by none of the last three rows
+-- a frame that no stage stops
+pub all-pass : (rec : Record) (s : State) (h : Head) → givenOf rec s h ≡ Done → saidOf rec s h ≡ Done → dataOf rec s h ≡ Done → refusalOf rec s h ≡ Done
+all-pass rec s h p q r = goes-on rec s h (ap isDone p) (ap isDone q) ∙ r
+
+-- a command that needs no WEL is stopped by no row of what a write needs
 pub harmless : (rec : Record) (s : State) (h : Head) → asks rec h .latch ≡ false → allowedOf rec s h (asks rec h) ≡ Done
 unfolding allowedOf
 harmless rec s h e = let k = no-latch _ (h .command) e in rw (k .latch, k .lock, k .unit, k .whole)

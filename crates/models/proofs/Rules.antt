@@ -51,8 +51,8 @@ has-levels p false h = refl
 -- the test of a range at its TB and BP, and of a part's whole list of them
 rangeTest : Part → Bool → ℕ → Range → Bool
 rangeTest p tb bp r =
-    leb (r .0 + r .1) (p .row .blocks)
-    && (cond tb (eqb (r .0) 0) (eqb (r .0 + r .1) (p .row .blocks))
+    leb (r .0 .0 + r .1) (p .row .blocks)
+    && (cond tb (eqb (r .0 .0) 0) (eqb (r .0 .0 + r .1) (p .row .blocks))
     && (leb (r .1) (getD (rangesOf p tb) (bp + 1) r .1) && cond (eqb bp 0) (eqb (r .1) 0) (ltb 0 (r .1))))
 
 rangesTest : Bool → Part → Bool
@@ -94,21 +94,21 @@ range-rules n tb bp h k =
     let l : length rs ≡ p .row .«highest_bp» + 1 = eqb-true _ _ (a .0) ∙ has-levels p tb k in
     let t = at (rangeTest p tb) rs (range 0 0) (a .1) bp (omega arith) in
     let r : Range = rangeOf n tb bp in
-    let i = both (leb (r .0 + r .1) (p .row .blocks)) _ t in
-    let b = both (cond tb (eqb (r .0) 0) (eqb (r .0 + r .1) (p .row .blocks))) _ (i .1) in
+    let i = both (leb (r .0 .0 + r .1) (p .row .blocks)) _ t in
+    let b = both (cond tb (eqb (r .0 .0) 0) (eqb (r .0 .0 + r .1) (p .row .blocks))) _ (i .1) in
     let d = both (leb (r .1) (getD rs (bp + 1) r .1)) _ (b .1) in
     record {
       inside = leb-true _ _ (i .0);
       none = λ e. empty-at-none (eqb bp 0) (r .1) (d .1) (eq-eqb bp 0 e);
       some = λ e. some-above (eqb bp 0) (r .1) (d .1) (ne-eqb bp 0 (λ z. omega arith));
-      top = λ e. eqb-true _ _ (at-top tb (eqb (r .0) 0) (eqb (r .0 + r .1) (p .row .blocks)) (b .0) e);
-      bottom = λ e. eqb-true _ _ (at-bottom tb (eqb (r .0) 0) (eqb (r .0 + r .1) (p .row .blocks)) (b .0) e);
+      top = λ e. eqb-true _ _ (at-top tb (eqb (r .0 .0) 0) (eqb (r .0 .0 + r .1) (p .row .blocks)) (b .0) e);
+      bottom = λ e. eqb-true _ _ (at-bottom tb (eqb (r .0 .0) 0) (eqb (r .0 .0 + r .1) (p .row .blocks)) (b .0) e);
       grows = λ e. subst (λ (x : Range). r .1 ≤ x .1) (other-default rs (bp + 1) r (range 0 0) (omega arith)) (leb-true _ _ (d .0));
     }
 
 -- no range reaches past 16,384 blocks, whatever the number, TB and BP
 small : ℕ → Range → Bool
-small bp r = leb (r .0 + r .1) 16384
+small bp r = leb (r .0 .0 + r .1) 16384
 
 rangesSmall : Bool → Part → Bool
 rangesSmall tb p = every small 0 (rangesOf p tb)
@@ -118,16 +118,16 @@ unfolding partOf rangesSmall small
 ranges-small true n = found (rangesSmall true) n kh25l512 models refl refl
 ranges-small false n = found (rangesSmall false) n kh25l512 models refl refl
 
-pub range-small : (n : ℕ) (tb : Bool) (bp : ℕ) → rangeOf n tb bp .0 + rangeOf n tb bp .1 ≤ 16384
+pub range-small : (n : ℕ) (tb : Bool) (bp : ℕ) → rangeOf n tb bp .0 .0 + rangeOf n tb bp .1 ≤ 16384
 unfolding rangesSmall small rangeOf
 range-small n tb bp = go (ltb bp (length rs)) refl
   where
     rs : List Range
     rs = rangesOf (partOf n) tb
 
-    go : (b : Bool) → ltb bp (length rs) ≡ b → rangeOf n tb bp .0 + rangeOf n tb bp .1 ≤ 16384
+    go : (b : Bool) → ltb bp (length rs) ≡ b → rangeOf n tb bp .0 .0 + rangeOf n tb bp .1 ≤ 16384
     go true e = leb-true _ 16384 (at small rs (range 0 0) (ranges-small tb n) bp (ltb-true bp _ e))
-    go false e = subst (λ (r : Range). r .0 + r .1 ≤ 16384) (sym (List·getD-eq-default rs (range 0 0) (ltb-false bp _ e))) (omega arith)
+    go false e = subst (λ (r : Range). r .0 .0 + r .1 ≤ 16384) (sym (List·getD-eq-default rs (range 0 0) (ltb-false bp _ e))) (omega arith)
 
 pub page-in-block : PageInBlock
 page-in-block a b e = ap (λ (x : ℕ). record { 0 = x }) {x = a .0 / 65536} {y = b .0 / 65536} (omega arith)
@@ -180,8 +180,8 @@ doubled bp = 1 * 2 ^ bp % 4294967296 / 2
 doublesTest : Part → Bool → ℕ → Range → Bool
 doublesTest p tb bp r =
     cond (ltb (doubled bp) (p .row .blocks))
-    (eqb (cond tb 0 (p .row .blocks - doubled bp)) (r .0) && eqb (doubled bp) (r .1))
-    (eqb 0 (r .0) && eqb (p .row .blocks) (r .1))
+    (eqb (cond tb 0 (p .row .blocks - doubled bp)) (r .0 .0) && eqb (doubled bp) (r .1))
+    (eqb 0 (r .0 .0) && eqb (p .row .blocks) (r .1))
 
 allDouble : Bool → Part → Bool
 allDouble tb p = every (doublesTest p tb) 0 (rangesOf p tb)
@@ -212,10 +212,10 @@ module _ (n : ℕ) (tb : Bool) where
     unfolding doublesTest
     range-below l =
         let t = at-bottom (ltb (doubled bp) (modelOf n .blocks)) _ _ doubles (lt-ltb (doubled bp) (modelOf n .blocks) (omega arith)) in
-        let b = both (eqb (cond tb 0 (modelOf n .blocks - doubled bp)) (rangeOf n tb bp .0)) _ t in
-        let f : cond tb 0 (blocks - doubled bp) ≡ rangeOf n tb bp .0 = ap (λ (k : ℕ). cond tb 0 (k - doubled bp)) e ∙ eqb-true _ _ (b .0) in
+        let b = both (eqb (cond tb 0 (modelOf n .blocks - doubled bp)) (rangeOf n tb bp .0 .0)) _ t in
+        let f : cond tb 0 (blocks - doubled bp) ≡ rangeOf n tb bp .0 .0 = ap (λ (k : ℕ). cond tb 0 (k - doubled bp)) e ∙ eqb-true _ _ (b .0) in
         let s : doubled bp ≡ rangeOf n tb bp .1 = eqb-true _ _ (b .1) in
-        ap (λ (k : ℕ). range k (doubled bp)) f ∙ ap (range (rangeOf n tb bp .0)) s
+        ap (λ (k : ℕ). range k (doubled bp)) f ∙ ap (range (rangeOf n tb bp .0 .0)) s
 
     pub range-bottom : tb ≡ true → doubled bp < blocks → range 0 (doubled bp) ≡ rangeOf n tb bp
     range-bottom t l = sym (ap (λ (b : Bool). range (cond b 0 (blocks - doubled bp)) (doubled bp)) t) ∙ range-below l
@@ -227,10 +227,10 @@ module _ (n : ℕ) (tb : Bool) where
     unfolding doublesTest
     range-all l =
         let t = at-top (ltb (doubled bp) (modelOf n .blocks)) _ _ doubles (le-ltb (doubled bp) (modelOf n .blocks) (omega arith)) in
-        let b = both (eqb 0 (rangeOf n tb bp .0)) _ t in
-        let f : 0 ≡ rangeOf n tb bp .0 = eqb-true _ _ (b .0) in
+        let b = both (eqb 0 (rangeOf n tb bp .0 .0)) _ t in
+        let f : 0 ≡ rangeOf n tb bp .0 .0 = eqb-true _ _ (b .0) in
         let s : blocks ≡ rangeOf n tb bp .1 = e ∙ eqb-true _ _ (b .1) in
-        ap (λ (k : ℕ). range k blocks) f ∙ ap (range (rangeOf n tb bp .0)) s
+        ap (λ (k : ℕ). range k blocks) f ∙ ap (range (rangeOf n tb bp .0 .0)) s
 
 -- at BP 0 nothing is protected, whatever TB is
 pub range-none : (n : ℕ) (tb : Bool) → rangeOf n tb 0 .1 ≡ 0

@@ -19,9 +19,9 @@ pub record Part : Type 0 where
 
 -- (first block, blocks)
 abbrev pub range : ℕ → ℕ → Range
-range first blocks = record { 0 = first; 1 = blocks }
+range first blocks = record { 0 = record { 0 = first }; 1 = blocks }
 
-abbrev pub firstBlock : Range → ℕ
+abbrev pub firstBlock : Range → Block
 firstBlock r = r .0
 
 abbrev pub blocksOf : Range → ℕ
@@ -163,4 +163,4 @@ rangeOf n tb bp = getD (rangesOf (partOf n) tb) bp (range 0 0)
 -- the block is one of the range
 unfoldable pub isProtected : ℕ → Bool → ℕ → Block → Bool
 isProtected n tb bp b =
-    leb (firstBlock (rangeOf n tb bp)) (b .0) && ltb (b .0) (firstBlock (rangeOf n tb bp) + blocksOf (rangeOf n tb bp))
+    leb (firstBlock (rangeOf n tb bp) .0) (b .0) && ltb (b .0) (firstBlock (rangeOf n tb bp) .0 + blocksOf (rangeOf n tb bp))

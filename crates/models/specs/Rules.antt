@@ -20,11 +20,11 @@ RowRules = (n : ℕ) → Whole n
 -- the protected range lies in the model's blocks, is empty exactly when BP is 0, ends at the top with TB 0 and starts at block 0 with TB 1, and
 -- grows with BP
 pub record Guards (n : ℕ) (tb : Bool) (bp : ℕ) : Type 0 where
-  pub inside : firstBlock (rangeOf n tb bp) + blocksOf (rangeOf n tb bp) ≤ modelOf n .blocks
+  pub inside : firstBlock (rangeOf n tb bp) .0 + blocksOf (rangeOf n tb bp) ≤ modelOf n .blocks
   pub none : bp ≡ 0 → blocksOf (rangeOf n tb bp) ≡ 0
   pub some : 0 < bp → 0 < blocksOf (rangeOf n tb bp)
-  pub top : tb ≡ false → firstBlock (rangeOf n tb bp) + blocksOf (rangeOf n tb bp) ≡ modelOf n .blocks
-  pub bottom : tb ≡ true → firstBlock (rangeOf n tb bp) ≡ 0
+  pub top : tb ≡ false → firstBlock (rangeOf n tb bp) .0 + blocksOf (rangeOf n tb bp) ≡ modelOf n .blocks
+  pub bottom : tb ≡ true → firstBlock (rangeOf n tb bp) .0 ≡ 0
   pub grows : bp < modelOf n .«highest_bp» → blocksOf (rangeOf n tb bp) ≤ blocksOf (rangeOf n tb (bp + 1))
 
 -- a part without the register has TB 0

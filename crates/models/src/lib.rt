@@ -23,7 +23,7 @@ pub struct Model {
 }
 
 // Protected blocks: the first, and how many.
-pub struct Range(pub u32, pub u32);
+pub struct Range(pub Block, pub u32);
 
 // The models' rows.
 const KH25L512: Model = Model {
@@ -117,16 +117,16 @@ pub fn range_of(number: u32, bottom: bool, bp: u8) -> Range
 {
     let row = model_of(number);
     if (row.highest_bp < bp) | (bottom & !row.register) {
-        return Range(0, 0);
+        return Range(Block(0), 0);
     }
     let most = (1 << bp as u32) / 2;
     if row.blocks <= most {
-        return Range(0, row.blocks);
+        return Range(Block(0), row.blocks);
     }
     if bottom {
-        return Range(0, most);
+        return Range(Block(0), most);
     }
-    Range(row.blocks - most, most)
+    Range(Block(row.blocks - most), most)
 }
 
 // Whether the block is in the protected range.
@@ -134,5 +134,6 @@ pub fn is_protected(number: u32, bottom: bool, bp: u8, block: Block) -> bool
     ensures { λ r. ⌜ r ≡ isProtected number bottom bp block ⌝ }
 {
     let range = range_of(number, bottom, bp);
-    (range.0 <= block.0) & (block.0 < range.0 + range.1)
+    let first = range.0;
+    (first.0 <= block.0) & (block.0 < first.0 + range.1)
 }

@@ -36,6 +36,9 @@ config-written old b =
     go false true = (omega arith, (omega arith, omega arith))
     go false false = (omega arith, (omega arith, omega arith))
 
+pub written-tb : (old b : ℕ) → configWritten old b / 8 % 2 ≡ flag (eqb (old / 8 % 2) 1 || eqb (b / 8 % 2) 1) 1
+written-tb old b = config-written old b .tb
+
 module _ (n : ℕ) (s : State) (page : List ℕ) where
   pub config-after-ok : configOk (modelOf n .register) (s .config) ≡ true → configOk (modelOf n .register) (configAfter n s page) ≡ true
   unfolding configAfter configOk

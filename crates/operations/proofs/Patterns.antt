@@ -31,8 +31,11 @@ module _ (xs : List ℕ) (start size : ℕ) (h : start + size ≤ length xs) whe
   laid-back : lay xs start (part xs start size) ≡ xs
   laid-back = lay-part xs start size h
 
+  pub laid-part : (ys : List ℕ) → length ys ≡ size → part (lay xs start ys) start size ≡ ys
+  laid-part ys e = ap (part (lay xs start ys) start) (sym e) ∙ part-lay xs start ys (omega arith)
+
   laid-again : (ys : List ℕ) → length ys ≡ size → lay xs start (part (lay xs start ys) start size) ≡ lay xs start ys
-  laid-again ys e = ap (lay xs start) (ap (part (lay xs start ys) start) (sym e) ∙ part-lay xs start ys (omega arith))
+  laid-again ys e = ap (lay xs start) (laid-part ys e)
 
 -- a list laid over one as long
 whole-lay : (xs ys : List ℕ) → length ys ≡ length xs → lay xs 0 ys ≡ ys
@@ -82,17 +85,25 @@ module _ (xs : List ℕ) (at : Address) (page : List ℕ) (h : pageStart at + 25
   unfolding programmed
   finished-page = rw (same-start, no-offset)
 
+  finished-part : part (programmed xs (pageAddress at) page) start 256 ≡ pageAfter 0 page cells
+  finished-part = ap (λ (z : List ℕ). part z start 256) finished-page ∙ laid-part xs start 256 h (pageAfter 0 page cells) (length-pageAfter 0 page cells ∙ long)
+
+  -- each cell of a page whose program was cut, by its old byte, its finished one and its pattern byte
+  pub torn-at : (pattern : List ℕ) (k : ℕ) → k < 256
+      → getD (part (pageTorn xs at page pattern) start 256) k 0 ≡ torn (getD cells k 0) (getD (part (programmed xs (pageAddress at) page) start 256) k 0) (getD pattern k 0)
+  unfolding pageTorn tornCells
+  torn-at pattern k l =
+      ap (λ (z : List ℕ). getD z k 0) (laid-part xs start 256 h (tornCells page pattern cells) (length-byIndex _ cells ∙ long))
+      ∙ byIndex-at _ cells k (omega (arith, long))
+      ∙ ap (λ (z : ℕ). torn (getD cells k 0) z (getD pattern k 0)) (sym (ap (λ (z : List ℕ). getD z k 0) finished-part ∙ at-offset k l))
+
   pub old-page : pageTorn xs at page cells ≡ xs
   unfolding pageTorn
   old-page = ap (lay xs start) torn-to-old ∙ laid-back xs start 256 h
 
   pub new-page : pageTorn xs at page (part (programmed xs (pageAddress at) page) start 256) ≡ programmed xs (pageAddress at) page
   unfolding pageTorn
-  new-page =
-      let m : length (pageAfter 0 page cells) ≡ 256 = length-pageAfter 0 page cells ∙ long in
-      ap (λ (z : List ℕ). lay xs start (tornCells page (part z start 256) cells)) finished-page
-      ∙ ap (λ (z : List ℕ). lay xs start (tornCells page z cells)) (ap (part (lay xs start (pageAfter 0 page cells)) start) (sym m) ∙ part-lay xs start (pageAfter 0 page cells) (omega arith))
-      ∙ ap (lay xs start) torn-to-new ∙ sym finished-page
+  new-page = ap (λ (z : List ℕ). lay xs start (tornCells page z cells)) finished-part ∙ ap (lay xs start) torn-to-new ∙ sym finished-page
 
 module _ (n : ℕ) (at : Address) (page cells : List ℕ) (e : length cells ≡ modelOf n .length) (p : length page ≡ 256) where
   in-array : ltb (at .0) (modelOf n .length) ≡ true → at .0 < length cells

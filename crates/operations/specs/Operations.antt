@@ -1,10 +1,9 @@
 -- What an operation does once its time has run out, and what a cut of the power leaves of it: 01, "Commands", and Req 05. Assumes nothing.
-use mathlib.Core.Bool.{Bool, true, false, _&&_, _||_, cond}
+use mathlib.Core.Bool.{Bool, false, _&&_, _||_, cond}
 use mathlib.Core.List.{List}
-use mathlib.Core.Path.{_≡_}
 use Prim.Native.Nat.{ℕ, _+_, _*_, _/_, _%_}
 use lib.Dec.{eqb, leb}
-use lib.ListN.{length, getD}
+use lib.ListN.{getD}
 use Rattle.parts.specs.Parts.{lay}
 use Rattle.cells.specs.Cell.{torn}
 use Rattle.units.specs.declared.Address.{Address}
@@ -14,7 +13,7 @@ use Rattle.flash.specs.Arrays.{sectorErased, halfBlockErased, blockErased, allE
 use Rattle.commands.specs.Commands.{startedBy}
 use Rattle.commands.specs.declared.Operation.{Operation}
 use Rattle.commands.specs.declared.Operation.the-variants.{Idle, WritesStatus, Programs, ErasesSector, ErasesHalf, ErasesBlock, ErasesChip}
-use Rattle.states.specs.States.{flag, placeOk, blankPage, noCommand, noAddress, Chip, chipOf}
+use Rattle.states.specs.States.{flag, blankPage, noCommand, noAddress, Chip, chipOf}
 use Rattle.states.specs.declared.State.{State}
 
 -- ---- the unit of an operation: where its cells start, and how many there are; n is the array's length
@@ -140,15 +139,3 @@ unfoldable pub tornChip : ℕ → Chip → List ℕ → Chip
 tornChip n x pattern =
     let s : State = x .state in
     chipOf (cutBits n (runs n s) s (x .page) pattern) blankPage (cutCells (runs n s) (runsAt s) (x .page) pattern (x .cells))
-
--- what a function's result and its lent buffers at exit have to be
-pub record Left (x : Chip) (s : State) (page cells : List ℕ) : Type 0 where
-  pub state-is : s ≡ x .state
-  pub page-is : page ≡ x .page
-  pub cells-are : cells ≡ x .cells
-
--- what the functions ask of a chip whose operation finishes or is cut: its address fits, and there are 256 page data bytes
-pub record Operable (n : ℕ) (s : State) (page cells : List ℕ) : Type 0 where
-  pub whole : length cells ≡ modelOf n .length
-  pub placed : placeOk n (runs n s) (s .address) ≡ true
-  pub page-data : length page ≡ 256

@@ -8,11 +8,11 @@ use lib.Dec.{eqb, leb}
 use lib.ListN.{length, getD, take, drop, take-append-drop}
 use lib.Seq.{sets, sets-eq, take-add, drop-drop}
 use mir.Val.{boolByte}
-use borrow.Author.Tests.{eqb-true, eq-eqb}
+use borrow.Author.Tests.{eqb-true, eq-eqb, ne-eqb}
 use Rattle.units.proofs.Bools.{both}
 use Rattle.states.specs.States.{flag, statusOf}
 use Rattle.states.specs.declared.State.{State}
-use Rattle.packing.specs.Packing.{bytesOf, spelt, timeAt, placeBytes, placeSpelt, packOf, packed, pageIn, readOf, same, isPacking, noState, unpackOf, Timed}
+use Rattle.packing.specs.Packing.{bytesOf, spelt, timeAt, placeBytes, placeSpelt, packOf, packed, pageIn, readOf, same, isPacking, noState, unpackOf, busyIn}
 use Rattle.packing.proofs.Bytes.{spelt-bytes, bytes-spelt, place-back, place-bytes, same-refl, same-eq, four-at}
 use Rattle.packing.proofs.Status.{flag-byte, flag-back, srwd-back, bp-back, wel-back, status-test, flag-test}
 
@@ -144,17 +144,25 @@ tests-right (a ∷ b ∷ c ∷ d ∷ ts) n h =
     let e = twelve ts (omega arith) (λ (i : ℕ). h (suc (suc (suc (suc i))))) in
     rw (eq-eqb (length (a ∷ b ∷ c ∷ d ∷ ts)) 272 n, e, same-refl (take 12 ts), flag-test b, eq-eqb c c refl, status-test a (h 0) (not (eqb (timeAt 0 ts) 0)), and-true, and-assoc)
 
--- the code's time
-pub timed : (xs : List ℕ) {time : ℕ} → time ≡ spelt (getD xs 4 0 ∷ getD xs 5 0 ∷ getD xs 6 0 ∷ getD xs 7 0 ∷ []) → Timed xs time
-timed xs e = record { is = λ n. e ∙ sym (ap spelt (four-at xs 4 (omega arith))) }
+-- the busy time
+busy-whole : (xs : List ℕ) → length xs ≡ 272 → busyIn xs ≡ timeAt 4 xs
+unfolding busyIn
+busy-whole xs n = rw (eq-eqb (length xs) 272 n)
 
-module _ (xs : List ℕ) (n : length xs ≡ 272) {time : ℕ} (e : Timed xs time) where
+pub busy-spelt : (xs : List ℕ) {time : ℕ} → length xs ≡ 272 → time ≡ spelt (getD xs 4 0 ∷ getD xs 5 0 ∷ getD xs 6 0 ∷ getD xs 7 0 ∷ []) → time ≡ busyIn xs
+busy-spelt xs n e = e ∙ sym (busy-whole xs n ∙ ap spelt (four-at xs 4 (omega arith)))
+
+pub busy-none : (xs : List ℕ) → (length xs ≡ 272 → ⊥) → 0 ≡ busyIn xs
+unfolding busyIn
+busy-none xs n = rw (ne-eqb (length xs) 272 n)
+
+module _ (xs : List ℕ) (n : length xs ≡ 272) {time : ℕ} (e : time ≡ busyIn xs) where
   pub tested : ((i : ℕ) → getD xs i 0 < 256) → tests xs (boolByte (not (eqb time 0))) ≡ isPacking xs
-  tested h = rw (flag-byte (not (eqb time 0)), e .is n) (sym (tests-right xs n h))
+  tested h = rw (flag-byte (not (eqb time 0)), e ∙ busy-whole xs n) (sym (tests-right xs n h))
 
   pub spells : {settle place : ℕ} → settle ≡ spelt (getD xs 8 0 ∷ getD xs 9 0 ∷ getD xs 10 0 ∷ getD xs 11 0 ∷ [])
       → place ≡ placeSpelt (getD xs 13 0) (getD xs 14 0) (getD xs 15 0)
       → record { srwd = leb 128 (getD xs 0 0); bp = getD xs 0 0 / 4 % 16; config = getD xs 2 0; wel = eqb (getD xs 0 0 / 2 % 2) 1; asleep = eqb (getD xs 1 0) 1; busy = time; settle = settle; command = getD xs 12 0; address = place }
       ≡ readOf xs
   unfolding readOf
-  spells s p = rw (e .is n, s, p, four-at xs 8 (omega arith))
+  spells s p = rw (e ∙ busy-whole xs n, s, p, four-at xs 8 (omega arith))

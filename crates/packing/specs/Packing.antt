@@ -79,6 +79,6 @@ noState = record { srwd = false; bp = 255; config = 0; wel = false; asleep = fal
 unfoldable pub unpackOf : List ℕ → State
 unpackOf xs = cond (isPacking xs) (readOf xs) noState
 
--- the busy time that the code has read: where there are 272 bytes, the four from place 4 on spell it
-pub record Timed (xs : List ℕ) (busy : ℕ) : Type 0 where
-  pub is : length xs ≡ 272 → busy ≡ timeAt 4 xs
+-- the busy time that bytes spell: the four from place 4 on where there are 272, and 0 otherwise
+unfoldable pub busyIn : List ℕ → ℕ
+busyIn xs = cond (eqb (length xs) 272) (timeAt 4 xs) 0

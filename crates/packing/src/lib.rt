@@ -3,7 +3,7 @@ ghost use mathlib.Core.Path.{_≡_};
 ghost use mathlib.Core.List.{_∷_, []};
 ghost use Prim.Native.Nat.{_≤_};
 ghost use lib.ListN.{length};
-ghost use Rattle.packing.specs.Packing.{spelt, placeSpelt, packed, pageIn, readOf, isPacking, Timed};
+ghost use Rattle.packing.specs.Packing.{spelt, placeSpelt, packed, pageIn, readOf, isPacking, busyIn};
 use parts::wide;
 use states::State;
 
@@ -23,7 +23,7 @@ fn place_of(high: u8, middle: u8, low: u8) -> u32
 
 // The busy time that 272 bytes spell; 0 of any other number of bytes.
 pub fn busy_in(state: &[u8]) -> u32
-    ensures { λ r. ⌜ Timed (now (state .entry)) r ⌝ }
+    ensures { λ r. ⌜ r ≡ busyIn (now (state .entry)) ⌝ }
 {
     if state.len() == 272 {
         return time_of(state[4], state[5], state[6], state[7]);
@@ -34,7 +34,7 @@ pub fn busy_in(state: &[u8]) -> u32
 // Whether the lent bytes, which spell that busy time, are a packing: 272 of them, bit 6 of the status clear, WIP as the time makes it, the flag 0 or 1, and a
 // zero.
 pub fn is_packed(state: &[u8], busy: u32) -> bool
-    requires { ⌜ Timed (now state) busy ⌝ }
+    requires { ⌜ busy ≡ busyIn (now state) ⌝ }
     ensures { λ r. ⌜ r ≡ isPacking (now (state .entry)) ⌝ }
 {
     if state.len() != 272 {
@@ -47,7 +47,7 @@ pub fn is_packed(state: &[u8], busy: u32) -> bool
 
 // The state that 272 bytes spell, with that busy time.
 pub fn unpack(state: &[u8], busy: u32) -> State
-    requires { ⌜ (length (now state) ≡ 272) × Timed (now state) busy ⌝ }
+    requires { ⌜ (length (now state) ≡ 272) × (busy ≡ busyIn (now state)) ⌝ }
     ensures { λ r. ⌜ r ≡ readOf (now (state .entry)) ⌝ }
 {
     let status = state[0];

@@ -10,11 +10,12 @@ use Rattle.answers.specs.Answers.{numberOf}
 use Rattle.answers.specs.declared.Answer.{Answer}
 use Rattle.states.specs.declared.Record.{Record}
 use Rattle.effects.specs.declared.Reply.{Reply}
-use Rattle.effects.specs.Effects.{Gives}
+use Rattle.effects.specs.Contracts.{Gives}
 use Rattle.states.specs.States.{Chip}
 use Rattle.states.specs.declared.State.{State}
 use Rattle.time.specs.declared.After.{After}
-use Rattle.time.specs.Time.{Aftermath, Ends}
+use Rattle.time.specs.Time.{Aftermath}
+use Rattle.time.specs.Contracts.{Ends}
 use Rattle.chip.specs.Frames.{sentOf, frameOf}
 use Rattle.chip.proofs.Cases.{frame-within}
 use Rattle.script.specs.declared.Line.{Line}

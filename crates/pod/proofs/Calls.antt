@@ -1,29 +1,32 @@
 -- The effects of the calls, from what the chip and the packing give. Assumes nothing.
 use mathlib.Core.Path.{_≡_, refl, sym, ap, _∙_}
-use mathlib.Core.Bool.{Bool, true, false, _&&_, cond}
+use mathlib.Core.Bool.{Bool, true, false, not, _&&_, cond}
 use mathlib.Core.List.{List, [], _++_, append-nil}
 use Prim.Native.Nat.{ℕ}
 use native.Mathlib.Omega.{arith}
-use lib.Dec.{eqb}
+use borrow.Author.Tests.{not-true}
+use Rattle.time.proofs.Time.{no-chip}
 use lib.ListN.{length, take, drop, length-append, length-drop, take-append-drop, drop-of-length-le}
 use lib.Seq.{length-take-le, take-all, drop-at}
 use mir.Val.{boolByte}
 use borrow.Rule.Slice.PartMut.{midOf, putMid}
-use Rattle.models.specs.Models.{modelOf}
 use Rattle.answers.specs.Answers.{numberOf, isDone, saysProtected}
 use Rattle.answers.specs.declared.Answer.{Answer}
-use Rattle.answers.specs.declared.Answer.the-variants.{BadRecord}
+use Rattle.answers.specs.declared.Answer.the-variants.{BadRecord, BadState}
+use Rattle.answers.specs.Tables.{firstOf}
+use Rattle.answers.proofs.Tables.{spared, by-then}
 use Rattle.states.specs.States.{flag, recordOk, stateOk, pageOk, Chip, chipOf}
 use Rattle.states.specs.declared.Record.{Record}
 use Rattle.states.specs.declared.State.{State}
-use Rattle.ladder.specs.Ladder.{refusalOf}
+use Rattle.ladder.specs.Ladder.{Loan, absent, sized, callRows, refusalOf}
 use Rattle.effects.specs.declared.Reply.{Reply}
-use Rattle.effects.specs.Effects.{Gives}
-use Rattle.chip.specs.Frames.{Sent, headFor, frameOf}
+use Rattle.effects.specs.Contracts.{Gives}
+use Rattle.chip.specs.Frames.{Sent, headFor, headOf, frameOf}
 use Rattle.time.specs.declared.After.{After}
-use Rattle.time.specs.Time.{waited, cutOff, chipRefusal, powerRefusal, cutRefusal, Aftermath, unless, waitOf, powerOf, powerCutOf, Ends}
+use Rattle.time.specs.Time.{waited, cutOff, chipRefusal, powerRefusal, cutRefusal, Aftermath, unless, waitOf, powerOf, powerCutOf}
+use Rattle.time.specs.Contracts.{Ends}
 use Rattle.packing.specs.Packing.{packed, pageIn, isPacking, unpackOf}
-use Rattle.pod.specs.Calls.{chipIn, cellsRefusal, bytesRefusal, tableRefusal, frameRefusal, mayMove, keptOf, called, calledFrame, altered, alteredOf, calledWait, calledCut, answered, calledCycle, Leaves, Alters, Answers, Packs}
+use Rattle.pod.specs.Calls.{chipIn, bytesRefusal, lentRefusal, mayMove, keptOf, called, calledFrame, altered, alteredOf, calledWait, calledCut, answered, calledCycle, Leaves, Alters, Answers, Packs}
 use Rattle.packing.proofs.Status.{flag-byte}
 use Rattle.packing.proofs.Valid.{invalid}
 use Rattle.pod.proofs.Valid.{Keeps, frame-keeps, chip-spared, power-spared, wait-keeps, cut-keeps, cycle-keeps}
@@ -169,50 +172,53 @@ pub refused-answered : (rec : Record) (xs : List ℕ) → isDone (powerRefusal r
 unfolding calledCycle powerOf keptOf
 refused-answered rec xs d = rw (d, power-spared rec (unpackOf xs) (pageIn xs))
 
+-- the row of the state refuses, or one before it
+never-done : (rec : Record) (array table : Loan) → isDone (firstOf (callRows rec array table false)) ≡ false
+never-done rec array table = not-true _ (by-then (λ (a : Answer). not (isDone a)) BadState (callRows rec array table false) refl refl)
+
+-- a frame that is refused, but not by 17
+refused-called : (rec : Record) (xs cells : List ℕ) (f : Sent) (a : Answer) → refusalOf rec (unpackOf xs) (headOf rec (chipIn xs cells) f) ≡ a → isDone a ≡ false → saysProtected a ≡ false
+    → calledFrame rec xs cells f ≡ called (numberOf a) xs (f .wear) (f .out) 0 0 0
+unfolding calledFrame frameOf keptOf
+refused-called rec xs cells f a e d p = rw (e, d, d, p)
+
 module _ (rec : Record) (xs cells : List ℕ) (u : Unfit rec xs) where
-  abbrev long : Bool
-  long = eqb (length cells) (modelOf (rec .model) .length)
+  unfit-refusal : (f : Sent) → refusalOf rec (unpackOf xs) (headOf rec (chipIn xs cells) f) ≡ firstOf (callRows rec (sized (length cells)) (sized (length (f .wear))) false)
+  unfolding refusalOf headFor
+  unfit-refusal f = rw u
 
-  pub unfit-frame : (f : Sent) → calledFrame rec xs cells f ≡ called (frameRefusal rec (length cells) (length (f .wear))) xs (f .wear) (f .out) 0 0 0
-  unfolding calledFrame frameOf refusalOf headFor keptOf
-  unfit-frame f = go (recordOk rec) long (eqb (length (f .wear)) (modelOf (rec .model) .sectors)) refl refl refl
-    where
-      go : (r l t : Bool) → recordOk rec ≡ r → long ≡ l → eqb (length (f .wear)) (modelOf (rec .model) .sectors) ≡ t
-          → calledFrame rec xs cells f ≡ called (cond r (cond l (cond t 3 24) 2) 1) xs (f .wear) (f .out) 0 0 0
-      go true true true e k w = rw (e, k, w, u)
-      go true true false e k w = rw (e, k, w)
-      go true false t e k w = rw (e, k)
-      go false l t e k w = rw e
+  pub unfit-frame : (f : Sent) → calledFrame rec xs cells f ≡ called (bytesRefusal rec (sized (length cells)) (sized (length (f .wear)))) xs (f .wear) (f .out) 0 0 0
+  unfit-frame f =
+      let table : Loan = sized (length (f .wear)) in
+      refused-called rec xs cells f _ (unfit-refusal f) (never-done rec (sized (length cells)) table) (spared saysProtected refl (callRows rec (sized (length cells)) table false) refl)
 
-  unfit-chip : (numberOf (chipRefusal rec (chipIn xs cells)) ≡ bytesRefusal rec (length cells)) × (isDone (chipRefusal rec (chipIn xs cells)) ≡ false)
+  unfit-chip : (numberOf (chipRefusal rec (chipIn xs cells)) ≡ bytesRefusal rec (sized (length cells)) absent) × (isDone (chipRefusal rec (chipIn xs cells)) ≡ false)
   unfolding chipRefusal
-  unfit-chip = go (recordOk rec) long refl refl
-    where
-      go : (r l : Bool) → recordOk rec ≡ r → long ≡ l → (numberOf (chipRefusal rec (chipIn xs cells)) ≡ cond r (cond l 3 2) 1) × (isDone (chipRefusal rec (chipIn xs cells)) ≡ false)
-      go true true e k = rw (e, k, u) (refl, refl)
-      go true false e k = rw (e, k) (refl, refl)
-      go false l e k = rw e (refl, refl)
+  unfit-chip = rw u (refl, never-done rec (sized (length cells)) absent)
 
-  unfit-altered : (a : Answer) (y : Chip) → a ≡ chipRefusal rec (chipIn xs cells) → alteredOf xs (unless a (chipIn xs cells) y) ≡ altered (bytesRefusal rec (length cells)) xs cells
+  unfit-altered : (a : Answer) (y : Chip) → a ≡ chipRefusal rec (chipIn xs cells) → alteredOf xs (unless a (chipIn xs cells) y) ≡ altered (bytesRefusal rec (sized (length cells)) absent) xs cells
   unfit-altered a y e =
       refused-altered xs cells a y (ap saysProtected e ∙ chip-spared rec (chipIn xs cells)) (ap isDone e ∙ unfit-chip .1)
       ∙ ap (λ (m : ℕ). altered m xs cells) (ap numberOf e ∙ unfit-chip .0)
 
-  pub unfit-wait : (us : ℕ) → calledWait rec xs cells us ≡ altered (bytesRefusal rec (length cells)) xs cells
+  pub unfit-wait : (us : ℕ) → calledWait rec xs cells us ≡ altered (bytesRefusal rec (sized (length cells)) absent) xs cells
   unfolding calledWait waitOf
   unfit-wait us = unfit-altered (chipRefusal rec (chipIn xs cells)) (waited (rec .model) (chipIn xs cells) us) refl
 
-  pub unfit-cut : (pattern : List ℕ) → calledCut rec xs cells pattern ≡ altered (bytesRefusal rec (length cells)) xs cells
-  unfolding calledCut powerCutOf cutRefusal
-  unfit-cut pattern = unfit-altered (cutRefusal rec (chipIn xs cells) pattern) (cutOff (rec .model) (chipIn xs cells) pattern) (rw (unfit-chip .1))
+  pub unfit-cut : (pattern : List ℕ) → calledCut rec xs cells pattern ≡ altered (bytesRefusal rec (sized (length cells)) absent) xs cells
+  unfolding calledCut powerCutOf
+  unfit-cut pattern = unfit-altered (cutRefusal rec (chipIn xs cells) pattern) (cutOff (rec .model) (chipIn xs cells) pattern) (sym (no-chip rec (chipIn xs cells) pattern (unfit-chip .1) refl))
 
-pub unfit-cycle : (rec : Record) (xs : List ℕ) → Unfit rec xs → calledCycle rec xs ≡ answered (cond (recordOk rec) 3 1) xs
-unfolding calledCycle powerOf powerRefusal keptOf
-unfit-cycle rec xs u = go (recordOk rec) refl
+power-row : (rec : Record) (s : State) (page : List ℕ) → (stateOk rec s && pageOk (rec .model) s page) ≡ false → powerRefusal rec s page ≡ firstOf (callRows rec absent absent false)
+unfolding powerRefusal
+power-row rec s page u = rw u
+
+pub unfit-cycle : (rec : Record) (xs : List ℕ) → Unfit rec xs → calledCycle rec xs ≡ answered (bytesRefusal rec absent absent) xs
+unfit-cycle rec xs u =
+    refused-answered rec xs (ap isDone unfit-power ∙ never-done rec absent absent) ∙ ap (λ (a : Answer). answered (numberOf a) xs) unfit-power
   where
-    go : (r : Bool) → recordOk rec ≡ r → calledCycle rec xs ≡ answered (cond r 3 1) xs
-    go true e = rw (e, u)
-    go false e = rw e
+    unfit-power : powerRefusal rec (unpackOf xs) (pageIn xs) ≡ firstOf (callRows rec absent absent false)
+    unfit-power = power-row rec (unpackOf xs) (pageIn xs) u
 
 -- a record that is not right is refused before anything else is looked at
 module _ (rec : Record) (xs : List ℕ) {r : Record} (re : r ≡ rec) (b : recordOk r ≡ false) where
@@ -232,8 +238,8 @@ module _ (rec : Record) (xs : List ℕ) {r : Record} (re : r ≡ rec) (b : recor
   record-wait cells us = rw (record-chip cells) (refused-altered xs cells BadRecord (waited (rec .model) (chipIn xs cells) us) refl refl)
 
   record-cut : (cells pattern : List ℕ) → calledCut rec xs cells pattern ≡ altered 1 xs cells
-  unfolding calledCut powerCutOf cutRefusal
-  record-cut cells pattern = rw (record-chip cells) (refused-altered xs cells BadRecord (cutOff (rec .model) (chipIn xs cells) pattern) refl refl)
+  unfolding calledCut powerCutOf
+  record-cut cells pattern = rw (← (no-chip rec (chipIn xs cells) pattern refl (sym (record-chip cells)))) (refused-altered xs cells BadRecord (cutOff (rec .model) (chipIn xs cells) pattern) refl refl)
 
   record-cycle : calledCycle rec xs ≡ answered 1 xs
   unfolding calledCycle powerOf powerRefusal keptOf
@@ -256,9 +262,9 @@ module _ (rec : Record) (xs : List ℕ) (n : isPacking xs ≡ false) {r : Record
   good : recordOk rec ≡ true
   good = sym (ap recordOk re) ∙ k
 
-  module _ (cells : List ℕ) {m : ℕ} (e : m ≡ cellsRefusal (r .model) (length cells)) where
-    same-number : m ≡ bytesRefusal rec (length cells)
-    same-number = rw good (e ∙ ap (λ (x : Record). cellsRefusal (x .model) (length cells)) re)
+  module _ (cells : List ℕ) {m : ℕ} (e : m ≡ lentRefusal (r .model) (sized (length cells)) absent) where
+    same-number : m ≡ bytesRefusal rec (sized (length cells)) absent
+    same-number = rw good (e ∙ ap (λ (x : Record). lentRefusal (x .model) (sized (length cells)) absent) re)
 
     pub bad-bytes-wait : (us : ℕ) → Alters (calledWait rec xs cells us) m xs cells
     bad-bytes-wait us = rw (unfit-wait rec xs cells (no-packing rec xs n) us) (record { number-is = same-number; state-is = refl; cells-are = refl })
@@ -266,10 +272,10 @@ module _ (rec : Record) (xs : List ℕ) (n : isPacking xs ≡ false) {r : Record
     pub bad-bytes-cut : (pattern : List ℕ) → Alters (calledCut rec xs cells pattern) m xs cells
     bad-bytes-cut pattern = rw (unfit-cut rec xs cells (no-packing rec xs n) pattern) (record { number-is = same-number; state-is = refl; cells-are = refl })
 
-  pub bad-bytes-frame : (cells : List ℕ) (f : Sent) {m : ℕ} → m ≡ tableRefusal (r .model) (length cells) (length (f .wear)) → Leaves (calledFrame rec xs cells f) m xs (f .wear) (f .out) 0 0 0
+  pub bad-bytes-frame : (cells : List ℕ) (f : Sent) {m : ℕ} → m ≡ lentRefusal (r .model) (sized (length cells)) (sized (length (f .wear))) → Leaves (calledFrame rec xs cells f) m xs (f .wear) (f .out) 0 0 0
   bad-bytes-frame cells f e =
       rw (unfit-frame rec xs cells (no-packing rec xs n) f, good)
-      (record { number-is = e ∙ ap (λ (x : Record). tableRefusal (x .model) (length cells) (length (f .wear))) re; state-is = refl; wear-is = refl; out-is = refl; from-is = refl; count-is = refl; fold-is = refl })
+      (record { number-is = e ∙ ap (λ (x : Record). lentRefusal (x .model) (sized (length cells)) (sized (length (f .wear)))) re; state-is = refl; wear-is = refl; out-is = refl; from-is = refl; count-is = refl; fold-is = refl })
 
   pub bad-bytes-cycle : Answers (calledCycle rec xs) 3 xs
   bad-bytes-cycle = rw (unfit-cycle rec xs (no-packing rec xs n), good) (record { number-is = refl; state-is = refl })

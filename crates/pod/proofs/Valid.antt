@@ -1,17 +1,15 @@
 -- What a call that may move the state shows of it, and that the state and the page data after fit their bytes. Assumes nothing.
 use mathlib.Core.Path.{_≡_, refl, sym, _∙_}
-use mathlib.Core.Bool.{Bool, true, false, _&&_, _||_, cond, or-false, true≢false, false≢true}
-use mathlib.Core.List.{List}
+use mathlib.Core.Bool.{Bool, true, false, _||_, cond, or-false, true≢false}
+use mathlib.Core.List.{List, _++_}
 use Prim.Native.Nat.{ℕ, _^_, _≤_, _<_}
 use native.Mathlib.Omega.{arith}
 use lib.Dec.{eqb, ltb}
 use lib.ListN.{length}
 use Rattle.units.proofs.Bools.{neither}
-use Rattle.models.specs.Models.{modelOf}
 use Rattle.models.proofs.Rules.{highest-bp}
 use Rattle.answers.specs.Answers.{isDone, saysProtected}
 use Rattle.answers.specs.declared.Answer.{Answer}
-use Rattle.answers.specs.declared.Answer.the-variants.{Done, BadRecord, BadArray, BadState, Busy, BadPattern}
 use Rattle.commands.specs.declared.Operation.{Operation}
 use Rattle.commands.specs.declared.Operation.the-variants.{Idle, WritesStatus, Programs, ErasesSector, ErasesHalf, ErasesBlock, ErasesChip}
 use Rattle.states.specs.States.{recordOk, longestSettle, operationTime, stateOk, pageOk, Chip, chipOf}
@@ -21,13 +19,14 @@ use Rattle.states.proofs.States.{operation-le, page-length, blank-page, longest
 use Rattle.ladder.proofs.Passed.{passed, Stopped, stopped}
 use Rattle.effects.specs.Effects.{latched, dozing, starting, refusalLeaves, Effect}
 use Rattle.effects.proofs.Replies.{leaves-all}
-use Rattle.operations.specs.Operations.{runs, patternLength, written, finishedBits, forgotten, finished, cutBits, tornChip}
+use Rattle.operations.specs.Operations.{runs, written, finishedBits, forgotten, finished, cutBits, tornChip}
 use Rattle.operations.proofs.Kept.{written-level, torn-level}
 use Rattle.chip.specs.Frames.{Sent, headFor, headOf, refusedOf, frameOf}
 use Rattle.chip.proofs.Cases.{refusal, accepted, frame-cases, sort, shown-asked, refused-moves}
 use Rattle.chip.proofs.Sorts.{Move, stays, latches, dozes, Begun, Turn, moved, begun, is-done, moves}
-use Rattle.time.specs.Time.{later, waited, cycled, cutOff, chipRefusal, powerRefusal, cutRefusal, waitOf, powerOf, powerCutOf}
-use Rattle.time.proofs.Time.{Fit, chip-fits, cuttable}
+use Rattle.time.specs.Time.{later, waited, cycled, cutOff, chipRows, chipRefusal, powerRows, powerRefusal, patternRows, cutRefusal, waitOf, powerOf, powerCutOf}
+use Rattle.time.proofs.Time.{Fit, chip-fits, cuttable, cyclable}
+use Rattle.answers.proofs.Tables.{spared}
 use Rattle.pod.specs.Calls.{mayMove}
 use Rattle.packing.proofs.Packing.{Small}
 use Rattle.packing.proofs.Valid.{place-near, valid-small}
@@ -102,32 +101,15 @@ module _ (rec : Record) (x : Chip) (f : Sent) where
 -- none is answered 17
 pub chip-spared : (rec : Record) (x : Chip) → saysProtected (chipRefusal rec x) ≡ false
 unfolding chipRefusal
-chip-spared rec x = go (recordOk rec) (eqb (length (x .cells)) (modelOf (rec .model) .length)) (stateOk rec (x .state) && pageOk (rec .model) (x .state) (x .page))
-  where
-    go : (a b c : Bool) → saysProtected (cond a (cond b (cond c Done BadState) BadArray) BadRecord) ≡ false
-    go true true true = refl
-    go true true false = refl
-    go true false c = refl
-    go false b c = refl
+chip-spared rec x = spared saysProtected refl (chipRows rec x) refl
 
 pub cut-spared : (rec : Record) (x : Chip) (pattern : List ℕ) → saysProtected (cutRefusal rec x pattern) ≡ false
 unfolding cutRefusal
-cut-spared rec x pattern = go (isDone (chipRefusal rec x)) (eqb (length pattern) (patternLength (runs (rec .model) (x .state)) (x .state .address) (length (x .cells))))
-  where
-    go : (a b : Bool) → saysProtected (cond a (cond b Done BadPattern) (chipRefusal rec x)) ≡ false
-    go true true = refl
-    go true false = refl
-    go false b = chip-spared rec x
+cut-spared rec x pattern = spared saysProtected refl (chipRows rec x ++ patternRows rec x pattern) refl
 
 pub power-spared : (rec : Record) (s : State) (page : List ℕ) → saysProtected (powerRefusal rec s page) ≡ false
 unfolding powerRefusal
-power-spared rec s page = go (recordOk rec) (stateOk rec s && pageOk (rec .model) s page) (eqb (s .busy) 0)
-  where
-    go : (a b c : Bool) → saysProtected (cond a (cond b (cond c Done Busy) BadState) BadRecord) ≡ false
-    go true true true = refl
-    go true true false = refl
-    go true false c = refl
-    go false b c = refl
+power-spared rec s page = spared saysProtected refl (powerRows rec s page) refl
 
 pub moves-as-done : (a : Answer) → saysProtected a ≡ false → mayMove a ≡ isDone a
 moves-as-done a e = rw e (or-false (isDone a))
@@ -201,28 +183,12 @@ cut-keeps rec x pattern =
     (λ d. let f = cuttable rec x pattern d .fit in rw d (f .valid, cut-fits rec x (fit-small rec x f) pattern))
     (λ n. rw n (refl, refl))
 
--- what a power cycle that is taken has shown
-record Powered (rec : Record) (s : State) (page : List ℕ) : Type 0 where
-  right : recordOk rec ≡ true
-  valid : stateOk rec s ≡ true
-  page-data : pageOk (rec .model) s page ≡ true
-
-powered : (rec : Record) (s : State) (page : List ℕ) → isDone (powerRefusal rec s page) ≡ true → Powered rec s page
-unfolding powerRefusal
-powered rec s page d = go (recordOk rec) (stateOk rec s) (pageOk (rec .model) s page) refl refl refl
-  where
-    go : (a b c : Bool) → recordOk rec ≡ a → stateOk rec s ≡ b → pageOk (rec .model) s page ≡ c → Powered rec s page
-    go true true true p q r = record { right = p; valid = q; page-data = r }
-    go true true false p q r = absurd (false≢true (rw (p, q, r) at d))
-    go true false c p q r = absurd (false≢true (rw (p, q) at d))
-    go false b c p q r = absurd (false≢true (rw p at d))
-
 pub cycle-keeps : (rec : Record) (x : Chip) → Keeps rec x (powerOf rec (x .state) (x .page) .answer) (powerOf rec (x .state) (x .page) .state) (x .page)
 unfolding powerOf
 cycle-keeps rec x =
     keeps-by rec x (powerRefusal rec (x .state) (x .page)) _ (x .page) (power-spared rec (x .state) (x .page))
     (λ d.
-    let p = powered rec (x .state) (x .page) d in
+    let p = cyclable rec (x .state) (x .page) d in
     let h = valid-small rec (x .state) (p .right) (p .valid) in
     rw d (p .valid, (cycled-small (x .state) (h .level), page-length (rec .model) (x .state) (x .page) (p .page-data))))
     (λ n. rw n (refl, refl))

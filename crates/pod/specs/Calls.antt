@@ -1,13 +1,14 @@
 -- What C calls, one effect a call: the number returned and what each lent place holds after. Assumes nothing.
-use mathlib.Core.Bool.{Bool, true, not, _||_, cond}
+use mathlib.Core.Bool.{Bool, true, false, not, _||_, cond}
 use mathlib.Core.List.{List}
 use mathlib.Core.Path.{_≡_}
 use Prim.Native.Nat.{ℕ, _≤_}
 use lib.Dec.{eqb}
 use lib.ListN.{length}
-use Rattle.models.specs.Models.{modelOf}
 use Rattle.answers.specs.Answers.{numberOf, isDone, saysProtected}
-use Rattle.states.specs.States.{flag, recordOk, Chip, chipOf}
+use Rattle.answers.specs.Tables.{firstOf}
+use Rattle.ladder.specs.Ladder.{Loan, lentRows, callRows}
+use Rattle.states.specs.States.{flag, Chip, chipOf}
 use Rattle.states.specs.declared.Record.{Record}
 use Rattle.states.specs.declared.State.{State}
 use Rattle.answers.specs.declared.Answer.{Answer}
@@ -28,19 +29,12 @@ recordOf model status page sector block chip half sleep wake sign =
 abbrev pub chipIn : List ℕ → List ℕ → Chip
 chipIn state cells = chipOf (unpackOf state) (pageIn state) cells
 
--- what bytes that pack no valid state are answered: the first of 1, 2 and 3 that applies, n being the array's length
-abbrev pub cellsRefusal : ℕ → ℕ → ℕ
-cellsRefusal model n = cond (eqb n (modelOf model .length)) 3 2
+-- what bytes that pack no valid state are answered: the first row of every call (`callRows`) that applies, to a call with such an array and such a wear table; and the same under a right record
+abbrev pub bytesRefusal : Record → Loan → Loan → ℕ
+bytesRefusal rec array table = numberOf (firstOf (callRows rec array table false))
 
-abbrev pub bytesRefusal : Record → ℕ → ℕ
-bytesRefusal rec n = cond (recordOk rec) (cellsRefusal (rec .model) n) 1
-
--- a frame has a wear table of s counts too: 24 stands between 2 and 3
-abbrev pub tableRefusal : ℕ → ℕ → ℕ → ℕ
-tableRefusal model n s = cond (eqb n (modelOf model .length)) (cond (eqb s (modelOf model .sectors)) 3 24) 2
-
-abbrev pub frameRefusal : Record → ℕ → ℕ → ℕ
-frameRefusal rec n s = cond (recordOk rec) (tableRefusal (rec .model) n s) 1
+abbrev pub lentRefusal : ℕ → Loan → Loan → ℕ
+lentRefusal model array table = numberOf (firstOf (lentRows model array table false))
 
 -- the answers after which the state may differ: 0, and 17 where it clears WEL
 abbrev pub mayMove : Answer → Bool
@@ -143,7 +137,7 @@ reported number total smallest largest sector mean remainder =
 unfoldable pub calledReport : List ℕ → ℕ → ℕ → ℕ → ℕ → ℕ → ℕ → Reported
 calledReport wear total smallest largest sector mean remainder =
     let r : Figures = reportOf wear in
-    cond (isDone (r .answer)) (reported 0 (r .total) (r .smallest) (r .largest) (r .sector) (r .mean) (r .remainder))
+    cond (isDone (r .answer)) (reported 0 (r .total) (r .smallest) (r .largest) (r .sector .0) (r .mean) (r .remainder))
     (reported (numberOf (r .answer)) total smallest largest sector mean remainder)
 
 pub record Reports (c : Reported) (number total smallest largest sector mean remainder : ℕ) : Type 0 where

@@ -1,19 +1,20 @@
 -- What is shown of the calls; proofs/Promises.antt proves each under its name in small letters. Assumes nothing.
-use mathlib.Core.Bool.{true, false, cond}
+use mathlib.Core.Bool.{true, false}
 use mathlib.Core.List.{List}
 use mathlib.Core.Logic.{_⊎_}
 use mathlib.Core.Path.{_≡_}
 use Prim.Native.Nat.{ℕ}
 use lib.ListN.{length}
 use Rattle.models.specs.Models.{modelOf}
-use Rattle.states.specs.States.{recordOk, stateOk, pageOk, chipOf}
+use Rattle.ladder.specs.Ladder.{absent, sized}
+use Rattle.states.specs.States.{stateOk, pageOk, chipOf}
 use Rattle.states.specs.declared.Record.{Record}
 use Rattle.states.specs.declared.State.{State}
 use Rattle.effects.specs.Effects.{latched}
 use Rattle.chip.specs.Frames.{Sent, frameOf}
 use Rattle.time.specs.Time.{waitOf, powerOf, powerCutOf}
 use Rattle.packing.specs.Packing.{packed, pageIn, unpackOf}
-use Rattle.pod.specs.Calls.{chipIn, bytesRefusal, frameRefusal, Called, Altered, Answered, Reported, Reports, reported, calledReport, called, altered, answered, calledFrame, calledWait, calledCut, calledCycle, Leaves, Alters, Answers}
+use Rattle.pod.specs.Calls.{chipIn, bytesRefusal, Called, Altered, Answered, Reported, Reports, reported, calledReport, called, altered, answered, calledFrame, calledWait, calledCut, calledCycle, Leaves, Alters, Answers}
 
 -- ---- bytes that pack no state and page data valid under the record are refused, by the first of 1, 2 and 3 that applies; a frame has 24 before 3, and a power cycle no 2
 abbrev pub NoPacking : Record → List ℕ → Type 0
@@ -21,16 +22,16 @@ NoPacking rec xs = (s : State) (page : List ℕ) → stateOk rec s ≡ true → 
 
 abbrev pub FrameRefusesBytes : Type 0
 FrameRefusesBytes =
-    (rec : Record) (xs cells : List ℕ) (f : Sent) → NoPacking rec xs → calledFrame rec xs cells f ≡ called (frameRefusal rec (length cells) (length (f .wear))) xs (f .wear) (f .out) 0 0 0
+    (rec : Record) (xs cells : List ℕ) (f : Sent) → NoPacking rec xs → calledFrame rec xs cells f ≡ called (bytesRefusal rec (sized (length cells)) (sized (length (f .wear)))) xs (f .wear) (f .out) 0 0 0
 
 abbrev pub WaitRefusesBytes : Type 0
-WaitRefusesBytes = (rec : Record) (xs cells : List ℕ) (us : ℕ) → NoPacking rec xs → calledWait rec xs cells us ≡ altered (bytesRefusal rec (length cells)) xs cells
+WaitRefusesBytes = (rec : Record) (xs cells : List ℕ) (us : ℕ) → NoPacking rec xs → calledWait rec xs cells us ≡ altered (bytesRefusal rec (sized (length cells)) absent) xs cells
 
 abbrev pub CutRefusesBytes : Type 0
-CutRefusesBytes = (rec : Record) (xs cells pattern : List ℕ) → NoPacking rec xs → calledCut rec xs cells pattern ≡ altered (bytesRefusal rec (length cells)) xs cells
+CutRefusesBytes = (rec : Record) (xs cells pattern : List ℕ) → NoPacking rec xs → calledCut rec xs cells pattern ≡ altered (bytesRefusal rec (sized (length cells)) absent) xs cells
 
 abbrev pub CycleRefusesBytes : Type 0
-CycleRefusesBytes = (rec : Record) (xs : List ℕ) → NoPacking rec xs → calledCycle rec xs ≡ answered (cond (recordOk rec) 3 1) xs
+CycleRefusesBytes = (rec : Record) (xs : List ℕ) → NoPacking rec xs → calledCycle rec xs ≡ answered (bytesRefusal rec absent absent) xs
 
 -- ---- a refused call leaves everything as it was, and *from, *count and *fold 0; but on model 3 the answer 17 clears WEL in the state bytes
 abbrev pub RefusedFrameStays : Type 0

@@ -2,8 +2,9 @@
 // are the page data, and are lent on as they stand.
 ghost use mathlib.Core.Path.{_≡_};
 ghost use Rattle.answers.specs.Answers.{numberOf};
+ghost use Rattle.ladder.specs.Ladder.{absent, sized};
 ghost use Rattle.packing.specs.Packing.{pageIn};
-ghost use Rattle.pod.specs.Calls.{recordOf, cellsRefusal, tableRefusal, calledReport, Reports, keptOf, Packs, sentBy, Leaves, Alters, Answers, calledFrame, calledWait, calledCut, calledCycle};
+ghost use Rattle.pod.specs.Calls.{recordOf, lentRefusal, calledReport, Reports, keptOf, Packs, sentBy, Leaves, Alters, Answers, calledFrame, calledWait, calledCut, calledCycle};
 use answers::Answer;
 use states::Record;
 use states::State;
@@ -22,7 +23,7 @@ fn keep(answer: Answer, next: State, state: &mut [u8]) -> u32
 
 // What bytes that are no packing are answered under a right record, by a call with an array of that many cells: 2 or 3.
 fn bytes_refusal(model: u32, cells: usize) -> u32
-    ensures { λ r. ⌜ r ≡ cellsRefusal model cells ⌝ }
+    ensures { λ r. ⌜ r ≡ lentRefusal model (sized cells) absent ⌝ }
 {
     let row = models::model_of(model);
     if cells != row.length as usize {
@@ -33,7 +34,7 @@ fn bytes_refusal(model: u32, cells: usize) -> u32
 
 // The same of a frame, which has a wear table of so many counts too: 24 stands between 2 and 3.
 fn frame_refusal(model: u32, cells: usize, sectors: usize) -> u32
-    ensures { λ r. ⌜ r ≡ tableRefusal model cells sectors ⌝ }
+    ensures { λ r. ⌜ r ≡ lentRefusal model (sized cells) (sized sectors) ⌝ }
 {
     let row = models::model_of(model);
     if sectors == row.sectors as usize {
@@ -297,10 +298,11 @@ pub extern "C" fn gwo_wear_report(
     if !answers::is_done(answer) {
         return answers::number_of(answer);
     }
+    let first = said.sector;
     *total = said.total;
     *smallest = said.smallest;
     *largest = said.largest;
-    *sector = said.sector;
+    *sector = first.0;
     *mean = said.mean;
     *remainder = said.remainder;
     0

@@ -8,11 +8,10 @@ use native.Mathlib.Nat.{le-refl}
 use native.Mathlib.Omega.{arith}
 use lib.Dec.{eqb, ltb}
 use lib.ListN.{length, getD}
-use borrow.Author.Tests.{eqb-true, ltb-true, ltb-false, lt-ltb, le-ltb, ne-eqb, eq-eqb}
+use borrow.Author.Tests.{eqb-true, ltb-true, ltb-false, lt-ltb, le-ltb, ne-eqb, eq-eqb, not-true}
 use Rattle.units.specs.declared.Address.{Address}
 use Rattle.units.specs.Kinds.{pageStart, pageOffset}
-use Rattle.units.proofs.Bools.{neither}
-use Rattle.models.specs.Models.{modelOf}
+use Rattle.units.proofs.Bools.{both, neither}
 use Rattle.models.proofs.Rules.{latch-falls-model}
 use Rattle.cells.specs.Cell.{bit, torn}
 use Rattle.cells.proofs.Cell.{torn-bit}
@@ -22,17 +21,19 @@ use Rattle.fold.proofs.Counts.{only-falls}
 use Rattle.flash.proofs.Arrays.{page-folds, outside-stays}
 use Rattle.answers.specs.Answers.{numberOf, isDone, saysProtected}
 use Rattle.answers.specs.declared.Answer.{Answer}
-use Rattle.answers.specs.declared.Answer.the-variants.{BadRecord, BadArray, BadTable, BadState, BadFrame, ShortOut, Empty, Settling}
+use Rattle.answers.specs.declared.Answer.the-variants.{Settling}
+use Rattle.answers.proofs.Tables.{by-then}
 use Rattle.commands.specs.Commands.{decodeOf}
 use Rattle.commands.specs.declared.Operation.{Operation}
 use Rattle.commands.specs.declared.Operation.the-variants.{Idle, WritesStatus, Programs, ErasesSector, ErasesHalf, ErasesBlock, ErasesChip}
-use Rattle.states.specs.States.{recordOk, stateOk, pageOk, tbOf, blankPage, Chip, chipOf}
+use Rattle.states.specs.States.{tbOf, blankPage, Chip, chipOf}
 use Rattle.states.specs.declared.Record.{Record}
 use Rattle.states.specs.declared.State.{State}
 use Rattle.states.proofs.States.{Sound, sound}
-use Rattle.ladder.specs.Ladder.{refusalOf}
+use Rattle.ladder.specs.Ladder.{ladder, asks, refusalOf}
 use Rattle.effects.proofs.Replies.{leaves-all, leaves-latch, clears-latch}
 use Rattle.effects.specs.declared.Reply.{Reply}
+use Rattle.counts.specs.Counts.{counted}
 use Rattle.effects.specs.Effects.{Effect, latched, dozing, starting, stateOnly}
 use Rattle.operations.specs.Operations.{runs, runsAt, pageAddress, configAfter, written, finishedBits, finishedCells, forgotten, finished, tornBits, cutBits, tornChip}
 use Rattle.operations.proofs.Fits.{inside, page-fits}
@@ -48,7 +49,7 @@ use Rattle.chip.proofs.Sorts.{is-done, notes, counts, moves, Move, stays, latch
 use Rattle.chip.proofs.Cases.{head, refusal, frame-cases, sort, shown-asked, refused-moves, table-frame}
 use Rattle.calls.specs.Calls.{sends, waits, cycles, cuts, after, Bench}
 use Rattle.calls.proofs.Steps.{wait-taken, waits-to, refused-frame}
-use Rattle.promises.specs.Laws.{WaitsAdd, RefusedFrame, RefusedWait, RefusedCut, RefusedCycle, unit, OnlyItsUnit, CutsOnlyItsUnit, ProgramFalls, NotBefore, unitCells, PatternOld, PatternFinished, OneOutcome, OneEffect, OneEnd, OneCycle, NumberFixed, FoldNoted, RefusalKeeps, RefusalClears, LatchFalls, TbStays, among, settlingNumbers, SettlingAnswers, SettlingStays, WearCounted}
+use Rattle.promises.specs.Laws.{WaitsAdd, RefusedFrame, RefusedWait, RefusedCut, RefusedCycle, unit, OnlyItsUnit, CutsOnlyItsUnit, ProgramFalls, NotBefore, unitCells, PatternOld, PatternFinished, OneOutcome, OneEffect, OneShown, OneStarted, OneDone, OneCounting, OneLeft, OneEnd, OneCycle, NumberFixed, FoldNoted, RefusalKeeps, RefusalClears, LatchFalls, TbStays, among, settlingNumbers, SettlingAnswers, SettlingStays, WearCounted}
 
 -- ---- waits
 -- both waits run the time out exactly where their sum does
@@ -338,6 +339,23 @@ one-outcome A a r t p q = p ∙ sym q
 pub one-effect : OneEffect
 one-effect rec x f r t page page′ wear wear′ os ps g k = (g .reply ∙ sym (k .reply), g .page-is ∙ sym (k .page-is), g .wear-is ∙ sym (k .wear-is), g .out ∙ sym (k .out))
 
+pub one-shown : OneShown
+one-shown e r t os ps g k = (g .reply ∙ sym (k .reply), g .out ∙ sym (k .out))
+
+pub one-started : OneStarted
+one-started e r t page page′ g k = (g .reply ∙ sym (k .reply), g .page-is ∙ sym (k .page-is))
+
+pub one-done : OneDone
+one-done e r t page page′ os ps g k = (g .reply ∙ sym (k .reply), g .page-is ∙ sym (k .page-is), g .out ∙ sym (k .out))
+
+pub one-counting : OneCounting
+one-counting op at before r t xs ys g k =
+    let e : r ≡ t = g .done-is ∙ sym (k .done-is) in
+    (e, g .table-is ∙ ap (λ (b : Bool). cond b (counted op at before) before) e ∙ sym (k .table-is))
+
+pub one-left : OneLeft
+one-left x s t page page′ xs ys g k = (g .state-is ∙ sym (k .state-is), g .page-is ∙ sym (k .page-is), g .cells-are ∙ sym (k .cells-are))
+
 same-after : {r t : After} → r .answer ≡ t .answer → r .state ≡ t .state → r ≡ t
 same-after {r} {t} p q = ap₂ (λ (a : Answer) (s : State). record { answer = a; state = s }) p q
 
@@ -349,30 +367,21 @@ pub one-cycle : OneCycle
 one-cycle rec s page r t p q = p ∙ sym q
 
 -- ---- a chip that settles
--- what the first of eight answers is, whichever tests hold
-first-eight : (P : Answer → Type 0) (a b c d e f g : Bool) → P BadRecord → P BadArray → P BadTable → P BadState → P BadFrame → P ShortOut → P Empty → P Settling
-    → P (cond a BadRecord (cond b BadArray (cond c BadTable (cond d BadState (cond e BadFrame (cond f ShortOut (cond g Empty Settling)))))))
-first-eight P true b c d e f g p1 p2 p24 p3 p4 p5 p10 p22 = p1
-first-eight P false true c d e f g p1 p2 p24 p3 p4 p5 p10 p22 = p2
-first-eight P false false true d e f g p1 p2 p24 p3 p4 p5 p10 p22 = p24
-first-eight P false false false true e f g p1 p2 p24 p3 p4 p5 p10 p22 = p3
-first-eight P false false false false true f g p1 p2 p24 p3 p4 p5 p10 p22 = p4
-first-eight P false false false false false true g p1 p2 p24 p3 p4 p5 p10 p22 = p5
-first-eight P false false false false false false true p1 p2 p24 p3 p4 p5 p10 p22 = p10
-first-eight P false false false false false false false p1 p2 p24 p3 p4 p5 p10 p22 = p22
+-- a row up to 22 refuses: none of them answers 0 or 17
+abbrev As : Answer → Bool
+As a = not (isDone a) && (not (saysProtected a) && among (numberOf a) settlingNumbers)
 
 module _ (rec : Record) (x : Chip) (f : Sent) (settling : x .state .settle ≡ 0 → ⊥) where
-  settling-refusal : (P : Answer → Type 0) → P BadRecord → P BadArray → P BadTable → P BadState → P BadFrame → P ShortOut → P Empty → P Settling → P (refusal rec x f)
+  by-22 : As (refusal rec x f) ≡ true
   unfolding refusalOf headFor
-  settling-refusal P = rw (ne-eqb (x .state .settle) 0 settling)
-      (first-eight P (not (recordOk rec)) (not (eqb (length (x .cells)) (modelOf (rec .model) .length))) (not (eqb (length (f .wear)) (modelOf (rec .model) .sectors))) (not (stateOk rec (x .state) && pageOk (rec .model) (x .state) (x .page)))
-      (ltb 65541 (length (f .bytes)) || ltb 7 (f .tail)) (ltb (length (f .out)) (length (f .bytes))) (eqb (length (f .bytes)) 0))
+  by-22 = by-then As Settling (ladder rec (x .state) (head rec x f) (asks rec (head rec x f))) refl (ap not (ne-eqb (x .state .settle) 0 settling))
 
-  abbrev As : Answer → Type 0
-  As a = (isDone a ≡ false) × (saysProtected a ≡ false) × (among (numberOf a) settlingNumbers ≡ true)
-
-  refuses : As (refusal rec x f)
-  refuses = settling-refusal As (refl, refl, refl) (refl, refl, refl) (refl, refl, refl) (refl, refl, refl) (refl, refl, refl) (refl, refl, refl) (refl, refl, refl) (refl, refl, refl)
+  refuses : (isDone (refusal rec x f) ≡ false) × (saysProtected (refusal rec x f) ≡ false) × (among (numberOf (refusal rec x f)) settlingNumbers ≡ true)
+  refuses =
+      let a = refusal rec x f in
+      let k = both (not (isDone a)) (not (saysProtected a) && among (numberOf a) settlingNumbers) by-22 in
+      let l = both (not (saysProtected a)) (among (numberOf a) settlingNumbers) (k .1) in
+      (not-true _ (k .0), not-true _ (l .0), l .1)
 
   settled : frameOf rec x f ≡ stateOnly (refusal rec x f) (x .state) (x .page) (f .wear) (f .out)
   settled = refused-frame rec x f (refusal rec x f) refl (refuses .0) ∙ rw (leaves-all (rec .model) (refusal rec x f) (x .state) (refuses .1))

@@ -38,7 +38,7 @@ use Rattle.states.proofs.States.{blank-page, times}
 use Rattle.ladder.specs.Ladder.{refusalOf}
 use Rattle.ladder.specs.Stages.{givenOf, saidOf}
 use Rattle.ladder.specs.declared.Head.{Head}
-use Rattle.ladder.proofs.Stages.{stops-given, stops-said, goes-on, both-pass, last-is}
+use Rattle.ladder.proofs.Stages.{stops-given, stops-said, goes-on, both-pass, data-is}
 use Rattle.ladder.proofs.Passed.{passed, erased-spares}
 use Rattle.effects.specs.Effects.{Effect, stateOnly, started, starting, programPage, programsOver, goesOver}
 use Rattle.effects.proofs.Replies.{leaves-all}
@@ -108,7 +108,7 @@ module _ (rec : Record) (x : Chip) (f : Sent) where
   -- where they let it pass and the cells speak against it
   refused-19 : isDone (givenOf rec (x .state) (saying false)) ≡ true → isDone (saidOf rec (x .state) (saying false)) ≡ true → refused-by true ≡ NotErased
   unfolding headFor refused-by
-  refused-19 p q = goes-on rec (x .state) (saying true) (ap isDone same-given ∙ p) (ap isDone same-said ∙ q) ∙ last-is rec (x .state) (saying true)
+  refused-19 p q = goes-on rec (x .state) (saying true) (ap isDone same-given ∙ p) (ap isDone same-said ∙ q) ∙ data-is rec (x .state) (saying true)
 
   off-passes : isDone (offOf rec x f .reply .answer) ≡ true → isDone (refused-by false) ≡ true
   unfolding refused-by headFor
@@ -121,15 +121,15 @@ module _ (rec : Record) (x : Chip) (f : Sent) where
       frame-by true ∙ ap (λ (b : Bool). by (refused-by b)) o ∙ ap by (refused-19 (p .0) (p .1)) ∙ ap (λ (s : State). stateOnly NotErased s (x .page) (f .wear) (f .out)) (leaves-all (rec .model) NotErased (x .state) refl)
 
   -- a program counts no sector
-  unworn : (op : Operation) (at : Address) (place : ℕ) → goesOver op true at (x .cells) (f .bytes) ≡ true → wornOut op place (f .wear) ≡ false
+  unworn : (op : Operation) (at to : Address) → goesOver op true at (x .cells) (f .bytes) ≡ true → wornOut op to (f .wear) ≡ false
   unfolding wornOut covered
-  unworn Idle at place e = absurd (false≢true e)
-  unworn WritesStatus at place e = absurd (false≢true e)
-  unworn Programs at place e = refl
-  unworn ErasesSector at place e = absurd (false≢true e)
-  unworn ErasesHalf at place e = absurd (false≢true e)
-  unworn ErasesBlock at place e = absurd (false≢true e)
-  unworn ErasesChip at place e = absurd (false≢true e)
+  unworn Idle at to e = absurd (false≢true e)
+  unworn WritesStatus at to e = absurd (false≢true e)
+  unworn Programs at to e = refl
+  unworn ErasesSector at to e = absurd (false≢true e)
+  unworn ErasesHalf at to e = absurd (false≢true e)
+  unworn ErasesBlock at to e = absurd (false≢true e)
+  unworn ErasesChip at to e = absurd (false≢true e)
 
   -- a frame that is refused off is refused on, by the same row
   same-refusal : isDone (refused-by false) ≡ false → isOver rec x f ≡ true → refused-by true ≡ refused-by false
@@ -140,8 +140,8 @@ module _ (rec : Record) (x : Chip) (f : Sent) where
       go false p b q = stops-given rec (x .state) (saying true) (ap isDone same-given ∙ p) ∙ same-given ∙ sym (stops-given rec (x .state) (saying false) p)
       go true p false q = stops-said rec (x .state) (saying true) (ap isDone same-given ∙ p) (ap isDone same-said ∙ q) ∙ same-said ∙ sym (stops-said rec (x .state) (saying false) p q)
       go true p true q =
-          let worn = unworn (startedBy (rec .model) (getD (f .bytes) 0 0)) _ (saying false .address .0) o in
-          absurd (false≢true (sym d ∙ ap isDone (goes-on rec (x .state) (saying false) p q ∙ last-is rec (x .state) (saying false) ∙ ap (λ (w : Bool). cond w WornOut Done) worn)))
+          let worn = unworn (startedBy (rec .model) (getD (f .bytes) 0 0)) _ (saying false .address) o in
+          absurd (false≢true (sym d ∙ ap isDone (goes-on rec (x .state) (saying false) p q ∙ data-is rec (x .state) (saying false) ∙ ap (λ (w : Bool). cond w WornOut Done) worn)))
 
   off-stops : isDone (offOf rec x f .reply .answer) ≡ false → isDone (refused-by false) ≡ false
   unfolding headFor

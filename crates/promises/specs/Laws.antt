@@ -6,6 +6,7 @@ use mathlib.Core.Logic.{_⊎_}
 use Prim.Native.Nat.{ℕ, _+_, _≤_, _<_}
 use lib.Dec.{eqb}
 use lib.ListN.{length, getD}
+use Rattle.units.specs.declared.Address.{Address}
 use Rattle.models.specs.Models.{modelOf}
 use Rattle.commands.specs.Commands.{decodeOf, operationOf}
 use Rattle.cells.specs.Cell.{bit}
@@ -14,17 +15,23 @@ use Rattle.answers.specs.declared.Answer.{Answer}
 use Rattle.states.specs.States.{tbOf, Chip}
 use Rattle.states.specs.declared.Record.{Record}
 use Rattle.states.specs.declared.State.{State}
+use Rattle.commands.specs.declared.Operation.{Operation}
 use Rattle.commands.specs.declared.Operation.the-variants.{Programs}
 use Rattle.parts.specs.Parts.{part}
 use Rattle.counts.specs.Counts.{counted}
+use Rattle.counts.specs.Contracts.{Counting}
 use Rattle.effects.specs.declared.Reply.{Reply}
 use Rattle.time.specs.declared.After.{After}
-use Rattle.effects.specs.Effects.{Gives, latched, refusalLeaves, stateOnly}
+use Rattle.effects.specs.Effects.{Effect, Shown, Started, latched, refusalLeaves, stateOnly}
+use Rattle.effects.specs.Contracts.{Gives, Shows, Starts}
 use Rattle.ladder.specs.declared.Head.{Head}
 use Rattle.chip.specs.Frames.{Sent, headOf, refusedOf, frameOf}
 use Rattle.chip.specs.Driven.{drivenBytes, foldOf}
+use Rattle.chip.specs.Contracts.{Does}
 use Rattle.operations.specs.Operations.{Extent, unitOf, runs, runsAt, finished}
-use Rattle.time.specs.Time.{Aftermath, Ends, waitOf, powerOf, powerCutOf}
+use Rattle.operations.specs.Contracts.{Left}
+use Rattle.time.specs.Time.{Aftermath, waitOf, powerOf, powerCutOf}
+use Rattle.time.specs.Contracts.{Ends}
 use Rattle.calls.specs.Calls.{Call, ours, after}
 
 -- waiting a and then b is waiting a + b, for any record, state, page data and array
@@ -130,18 +137,38 @@ abbrev pub WearCounted : Type 0
 WearCounted =
     (rec : Record) (x : Chip) (f : Sent)
     → (let h : Head = headOf rec x f in
-    frameOf rec x f .wear ≡ cond (isDone (frameOf rec x f .reply .answer)) (counted (operationOf (h .command)) (h .address .0) (f .wear)) (f .wear))
+    frameOf rec x f .wear ≡ cond (isDone (frameOf rec x f .reply .answer)) (counted (operationOf (h .command)) (h .address) (f .wear)) (f .wear))
 
--- no second answer satisfies a promise. Every promise of the crates below is an equation with a definition, `Gives` or `Ends`.
+-- no second answer satisfies a promise. Every promise of the crates below is an equation with a definition, of what comes back or of a lent buffer, or one of the
+-- forms `Gives`, `Shows`, `Starts`, `Does`, `Counting`, `Left` and `Ends`
 abbrev pub OneOutcome : Type 1
 OneOutcome = (A : Type 0) (a r t : A) → r ≡ a → t ≡ a → r ≡ t
 
+-- `Gives`, of a frame
 abbrev pub OneEffect : Type 0
 OneEffect =
     (rec : Record) (x : Chip) (f : Sent) (r t : Reply) (page page′ wear wear′ os ps : List ℕ)
     → Gives (frameOf rec x f) r page wear os → Gives (frameOf rec x f) t page′ wear′ ps → (r ≡ t) × (page ≡ page′) × (wear ≡ wear′) × (os ≡ ps)
 
--- of a wait and of a cut
+-- `Shows`, of a command that drives bytes out, `Starts`, of one that starts an operation with page data, and `Does`, of any
+abbrev pub OneShown : Type 0
+OneShown = (e : Shown) (r t : Reply) (os ps : List ℕ) → Shows e r os → Shows e t ps → (r ≡ t) × (os ≡ ps)
+
+abbrev pub OneStarted : Type 0
+OneStarted = (e : Started) (r t : Reply) (page page′ : List ℕ) → Starts e r page → Starts e t page′ → (r ≡ t) × (page ≡ page′)
+
+abbrev pub OneDone : Type 0
+OneDone = (e : Effect) (r t : Reply) (page page′ os ps : List ℕ) → Does e r page os → Does e t page′ ps → (r ≡ t) × (page ≡ page′) × (os ≡ ps)
+
+-- `Counting`, of the wear table
+abbrev pub OneCounting : Type 0
+OneCounting = (op : Operation) (at : Address) (before : List ℕ) (r t : Bool) (xs ys : List ℕ) → Counting op at before r xs → Counting op at before t ys → (r ≡ t) × (xs ≡ ys)
+
+-- `Left`, of an operation that has finished or was cut
+abbrev pub OneLeft : Type 0
+OneLeft = (x : Chip) (s t : State) (page page′ xs ys : List ℕ) → Left x s page xs → Left x t page′ ys → (s ≡ t) × (page ≡ page′) × (xs ≡ ys)
+
+-- `Ends`, of a wait and of a cut
 abbrev pub OneEnd : Type 0
 OneEnd =
     (o : Aftermath) (r t : After) (page page′ xs ys : List ℕ) → Ends o r page xs → Ends o t page′ ys

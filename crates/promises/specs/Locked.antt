@@ -1,17 +1,14 @@
 -- The locked area, said outright: Req 13. Assumes nothing.
 use mathlib.Core.Path.{_≡_}
-use mathlib.Core.Bool.{Bool, true, false}
+use mathlib.Core.Bool.{true, false}
 use mathlib.Core.List.{List, [], _∷_}
 use mathlib.Core.Logic.{_⊎_}
-use Prim.Native.Nat.{ℕ}
-use lib.ListN.{getD}
-use Rattle.units.specs.Kinds.{blockOf}
-use Rattle.models.specs.Models.{isProtected}
-use Rattle.states.specs.States.{tbOf, Chip}
+use Rattle.states.specs.States.{Chip}
 use Rattle.states.specs.declared.Record.{Record}
 use Rattle.states.specs.declared.State.{State}
 use Rattle.calls.specs.Calls.{Call, sends, waits, cycles, cuts, ours, after, run}
 use Rattle.recovery.specs.Histories.{Lent, lend, onOne}
+use Rattle.promises.specs.Protected.{AreaStays}
 
 -- "For models 1 and 2"
 abbrev pub SmallChip : Record → Type 0
@@ -28,15 +25,11 @@ abbrev pub WpLow : List Lent → Type 0
 WpLow [] = Unit {0}
 WpLow (l ∷ ls) = LowIn (l .call) × WpLow ls
 
--- cell k is in the area that a state protects: its block is (01, "Commands", Protected; 000 L126-131, 002 L273-276)
-abbrev pub inArea : Record → State → ℕ → Bool
-inArea rec s k = isProtected (rec .model) (tbOf s) (s .bp) (blockOf (record { 0 = k }))
-
 -- from x to y nothing "changes BP, SRWD or a cell in the area protected at the start", where the chip had the state s
 pub record Unchanged (rec : Record) (s : State) (x y : Chip) : Type 0 where
   pub bp : y .state .bp ≡ s .bp
   pub srwd : y .state .srwd ≡ s .srwd
-  pub cells : (k : ℕ) → inArea rec s k ≡ true → getD (y .cells) k 0 ≡ getD (x .cells) k 0
+  pub cells : AreaStays rec s x y
 
 -- so with each call of the list, in the array that is lent to it
 abbrev pub StaysLocked : Record → State → List Lent → Chip → Type 0

@@ -9,7 +9,8 @@ use Rattle.states.specs.declared.Record.{Record}
 use Rattle.chip.specs.Frames.{sentOf}
 use Rattle.calls.specs.Calls.{Call, sends, waits}
 use Rattle.recovery.specs.Histories.{Lent, factory, history}
-use Rattle.promises.specs.Locked.{SmallChip, WpLow, inArea, StaysLocked}
+use Rattle.promises.specs.Protected.{inArea}
+use Rattle.promises.specs.Locked.{SmallChip, WpLow, StaysLocked}
 
 -- BP 3 protects the whole array, with that SRWD; and such a chip a microsecond before a status write of 80 ends
 abbrev pub guardedChip : Bool → Chip

@@ -16,6 +16,7 @@ use Rattle.states.specs.States.{inRange, halfOk, recordOk, benchKH25L512, Chip}
 use Rattle.states.specs.declared.Record.{Record}
 use Rattle.answers.specs.declared.Answer.{Answer}
 use Rattle.answers.specs.declared.Answer.the-variants.{Done}
+use Rattle.counts.specs.Counts.{sectorAt}
 use Rattle.effects.specs.Effects.{Effect}
 use Rattle.calls.specs.Calls.{Call, sends, waits, cycles, cuts, Pod, after, answer, run, tables, effectAfter, Bench}
 use Rattle.recovery.specs.Recovery.{Job, JobFits, wakeUp, readBack, waitLongest, toRead, recovery, Recovers, WinsBack}
@@ -86,7 +87,7 @@ fits d h =
           };
       table = refl;
       spare = lit< tt;
-      after = record { same = refl; one = refl; others = λ k n. no-other k n };
+      after = record { same = refl; one = refl; others = λ k n. no-other (k .0) (λ z. n (ap sectorAt z)) };
     }
 
 module _ (p : Pod) (t : WinsBack p) where

@@ -6,6 +6,7 @@ use Prim.Native.Nat.{ℕ, _-_, _≤_, _<_}
 use native.Mathlib.Omega.{arith}
 use lib.Dec.{lit≤}
 use lib.ListN.{length, replicate, length-replicate}
+use Rattle.units.specs.declared.Address.{Address}
 use Rattle.commands.specs.declared.Operation.{Operation}
 use Rattle.counts.specs.Counts.{wornOut, counted}
 use Rattle.counts.proofs.Laws.{none-worn, new-table}
@@ -16,7 +17,7 @@ use Rattle.states.specs.declared.Record.{Record}
 use Rattle.states.specs.declared.State.{State}
 use Rattle.answers.specs.declared.Answer.the-variants.{Done}
 use Rattle.states.proofs.States.{times, has-half, longest-in-range, by-longest}
-use Rattle.effects.specs.Effects.{Effect, stateOnly, turned, started, shown, drives, dozing, starting, wakingTime, wake, writeStatus, eraseStarts, programPage}
+use Rattle.effects.specs.Effects.{Effect, stateOnly, turned, started, shown, drives, dozing, starting, wakingTime, wake, writeStatus, eraseStarts, nowhere, programPage}
 use Rattle.effects.proofs.Strict.{off}
 use Rattle.time.specs.Time.{later, waited}
 use Rattle.chip.specs.Frames.{frameOf}
@@ -50,8 +51,8 @@ module _ (rec : Record) (cells : List ℕ) (j : Job) (e : recordOk rec ≡ true)
   new-fits : length new ≡ modelOf (rec .model) .sectors
   new-fits = length-replicate (modelOf (rec .model) .sectors) 0
 
-  unworn : (op : Operation) (place : ℕ) → wornOut op place new ≡ false
-  unworn op place = none-worn op place new (new-table (modelOf (rec .model) .sectors))
+  unworn : (op : Operation) (at : Address) → wornOut op at new ≡ false
+  unworn op at = none-worn op at new (new-table (modelOf (rec .model) .sectors))
 
   abbrev Reached : Type 0
   Reached = (calls : List Call) × TooShort rec j (run ours rec [] calls (factory cells))
@@ -89,19 +90,19 @@ module _ (rec : Record) (cells : List ℕ) (j : Job) (e : recordOk rec ≡ true)
   by-sector : longestOf rec ≡ rec .sector → Reached
   unfolding eraseStarts starting
   by-sector m =
-      by (0x20 ∷ 0 ∷ 0 ∷ 0 ∷ []) (turned blankPage (counted ErasesSector (addressOf (rec .model) 0 0 0 .0) new) room (eraseStarts rec (enabled 0) ErasesSector (addressOf (rec .model) 0 0 0 .0) (0x20 ∷ 0 ∷ 0 ∷ 0 ∷ []))) (rec .sector)
+      by (0x20 ∷ 0 ∷ 0 ∷ 0 ∷ []) (turned blankPage (counted ErasesSector (addressOf (rec .model) 0 0 0) new) room (eraseStarts rec (enabled 0) ErasesSector (addressOf (rec .model) 0 0 0) (0x20 ∷ 0 ∷ 0 ∷ 0 ∷ []))) (rec .sector)
       (erase-taken rec armed (arms .bench) refl refl false new room new-fits 0 0 0 refl refl refl (lit≤ tt) (unworn ErasesSector _)) refl refl (times rec e .sector) m
 
   by-block : longestOf rec ≡ rec .block → Reached
   unfolding eraseStarts starting
   by-block m =
-      by (0xD8 ∷ 0 ∷ 0 ∷ 0 ∷ []) (turned blankPage (counted ErasesBlock (addressOf (rec .model) 0 0 0 .0) new) room (eraseStarts rec (enabled 0) ErasesBlock (addressOf (rec .model) 0 0 0 .0) (0xD8 ∷ 0 ∷ 0 ∷ 0 ∷ []))) (rec .block)
+      by (0xD8 ∷ 0 ∷ 0 ∷ 0 ∷ []) (turned blankPage (counted ErasesBlock (addressOf (rec .model) 0 0 0) new) room (eraseStarts rec (enabled 0) ErasesBlock (addressOf (rec .model) 0 0 0) (0xD8 ∷ 0 ∷ 0 ∷ 0 ∷ []))) (rec .block)
       (block-taken rec armed (arms .bench) refl refl false new room new-fits 0 0 0 refl refl refl (lit≤ tt) (unworn ErasesBlock _)) refl refl (times rec e .block) m
 
   by-chip : longestOf rec ≡ rec .chip → Reached
   unfolding eraseStarts starting
   by-chip m =
-      by (0xC7 ∷ []) (turned blankPage (counted ErasesChip noAddress new) room (eraseStarts rec (enabled 0) ErasesChip noAddress (0xC7 ∷ []))) (rec .chip)
+      by (0xC7 ∷ []) (turned blankPage (counted ErasesChip nowhere new) room (eraseStarts rec (enabled 0) ErasesChip nowhere (0xC7 ∷ []))) (rec .chip)
       (chip-taken rec armed (arms .bench) refl refl false new room new-fits refl refl refl (lit≤ tt) (unworn ErasesChip _)) refl refl (times rec e .chip) m
 
   -- a model that has the sixth time has that erase
@@ -109,7 +110,7 @@ module _ (rec : Record) (cells : List ℕ) (j : Job) (e : recordOk rec ≡ true)
   unfolding eraseStarts starting
   by-half m =
       let t : 0 < rec .half = subst (λ (us : ℕ). 0 < us) m (longest-in-range rec e .some) in
-      by (0x52 ∷ 0 ∷ 0 ∷ 0 ∷ []) (turned blankPage (counted ErasesHalf (addressOf (rec .model) 0 0 0 .0) new) room (eraseStarts rec (enabled 0) ErasesHalf (addressOf (rec .model) 0 0 0 .0) (0x52 ∷ 0 ∷ 0 ∷ 0 ∷ []))) (rec .half)
+      by (0x52 ∷ 0 ∷ 0 ∷ 0 ∷ []) (turned blankPage (counted ErasesHalf (addressOf (rec .model) 0 0 0) new) room (eraseStarts rec (enabled 0) ErasesHalf (addressOf (rec .model) 0 0 0) (0x52 ∷ 0 ∷ 0 ∷ 0 ∷ []))) (rec .half)
       (half-taken rec armed (arms .bench) refl refl false new room new-fits 0 0 0 (has-half rec e t) refl refl refl (lit≤ tt) (unworn ErasesHalf _)) refl refl t m
 
   -- ---- from power-on: B9, and AB after it

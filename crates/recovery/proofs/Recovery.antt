@@ -221,22 +221,22 @@ module _ (rec : Record) (j : Job) (x : Chip) (b : Bench rec x) (f : JobFits rec 
   unfolding addressOf
   in-array = mod-lt _ (omega (arith, row-rules (rec .model) .some))
 
-  counted-in : to .0 / 4096 < length (j .wear)
+  counted-in : sectorOf to .0 < length (j .wear)
   counted-in = omega (arith, in-array, f .table, row-rules (rec .model) .sectors)
 
   pub worn-table : length (j .worn) ≡ modelOf (rec .model) .sectors
   worn-table = f .after .same ∙ f .table
 
-  erase-counts : turned blankPage (counted ErasesSector (to .0) (j .wear)) (j .outs .erase) (Effects·erase rec (enabled v) ErasesSector (to .0) (erase j .bytes))
+  erase-counts : turned blankPage (counted ErasesSector to (j .wear)) (j .outs .erase) (Effects·erase rec (enabled v) ErasesSector to (erase j .bytes))
       ≡ turned blankPage (j .worn) (j .outs .erase) (quiet Done (running v 0x20 (to .0) (rec .sector)))
   unfolding Effects·erase starting
-  erase-counts = ap (λ (ws : List ℕ). turned blankPage ws (j .outs .erase) (quiet Done (running v 0x20 (to .0) (rec .sector)))) (sector-counted (to .0) (j .wear) (j .worn) counted-in (f .after))
+  erase-counts = ap (λ (ws : List ℕ). turned blankPage ws (j .outs .erase) (quiet Done (running v 0x20 (to .0) (rec .sector)))) (sector-counted to (j .wear) (j .worn) counted-in (f .after))
 
   pub erases : Step rec (sends (erase j)) (chipOf (enabled v) blankPage c0) erasing (j .worn ∷ [])
   erases =
       let out = j .outs .erase in
       sends-to rec (chipOf (enabled v) blankPage c0) (erase-enabled .bench) (erase j) (turned blankPage (j .worn) out (quiet Done (running v 0x20 (to .0) (rec .sector))))
-      (erase-taken rec (chipOf (enabled v) blankPage c0) (erase-enabled .bench) refl refl (j .strict .erase) (j .wear) out (f .table) (j .high) (j .middle) (j .low) refl refl refl (f .rooms .erase) (sector-spared (to .0) (j .wear) counted-in (f .spare)) ∙ erase-counts) refl
+      (erase-taken rec (chipOf (enabled v) blankPage c0) (erase-enabled .bench) refl refl (j .strict .erase) (j .wear) out (f .table) (j .high) (j .middle) (j .low) refl refl refl (f .rooms .erase) (sector-spared to (j .wear) counted-in (f .spare)) ∙ erase-counts) refl
 
   -- ---- up to the program
   abbrev cleared : List ℕ

@@ -11,7 +11,8 @@ use Rattle.commands.specs.Commands.{decodeOf}
 use Rattle.states.specs.declared.Record.{Record}
 use Rattle.answers.specs.declared.Answer.the-variants.{Done}
 use Rattle.effects.specs.declared.Reply.{Reply}
-use Rattle.effects.specs.Effects.{Effect, Gives, stateOnly}
+use Rattle.effects.specs.Effects.{Effect, stateOnly}
+use Rattle.effects.specs.Contracts.{Gives}
 use Rattle.chip.specs.Frames.{Sent}
 use Rattle.states.specs.States.{Chip}
 use Rattle.calls.specs.Calls.{Call, sends, waits, cycles, cuts, Pod}

@@ -14,7 +14,7 @@ use Rattle.states.specs.States.{longestOf, Chip}
 use Rattle.states.specs.declared.Record.{Record}
 use Rattle.answers.specs.declared.Answer.the-variants.{Done}
 use Rattle.effects.specs.Effects.{Effect}
-use Rattle.counts.specs.Counts.{topCount, OneMore}
+use Rattle.counts.specs.Counts.{topCount, countOf, OneMore}
 use Rattle.chip.specs.Frames.{Sent}
 use Rattle.calls.specs.Calls.{Call, sends, waits, Pod, after, run, answers, tables, effectAfter, frame, Roomy, Bench}
 
@@ -141,8 +141,8 @@ pub record JobFits (rec : Record) (j : Job) : Type 0 where
   pub more : length (j .more) ≡ length (j .bytes)
   pub rooms : Rooms j
   pub table : length (j .wear) ≡ modelOf (rec .model) .sectors
-  pub spare : getD (j .wear) (place rec j / 4096) 0 < topCount
-  pub after : OneMore (place rec j / 4096) (j .wear) (j .worn)
+  pub spare : countOf (j .wear) (sectorOf (target rec j)) < topCount
+  pub after : OneMore (sectorOf (target rec j)) (j .wear) (j .worn)
 
 -- ---- what it gives
 -- what has come of the chip x, which the first wait left and which is now y, and what the last frame did

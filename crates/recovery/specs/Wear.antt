@@ -35,7 +35,7 @@ tableAfter rec (cuts pattern) x wear = wear
 abbrev pub sectorsErased : Record → Call → Chip → List ℕ → ℕ
 sectorsErased rec (sends f) x wear =
     let h : Head = headOf rec x (withTable wear f) in
-    cond (isDone (frameOf rec x (withTable wear f) .reply .answer)) (covered (operationOf (h .command)) (h .address .0) (length wear) .count) 0
+    cond (isDone (frameOf rec x (withTable wear f) .reply .answer)) (covered (operationOf (h .command)) (h .address) (length wear) .count) 0
 sectorsErased rec (waits us) x wear = 0
 sectorsErased rec cycles x wear = 0
 sectorsErased rec (cuts pattern) x wear = 0

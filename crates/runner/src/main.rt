@@ -1,7 +1,9 @@
 // Reads a script from standard input and writes its log to standard output: model 1 with bench values, from power-on, all cells FF. The strict
 // setting is off, unless the word strict asks for it.
 fn main() {
+    let wish = words::asked();
     if words::answered(
+        wish,
         b"runner: it knows no words but --help and strict, and takes one of them\n",
         b"usage: runner [strict] <SCRIPT >LOG
 Plays a script to a KH25L512 (model 1, bench values, from power-on, all cells FF) and writes down
@@ -16,7 +18,7 @@ reaches would not end up holding the byte that was sent to it.
     ) {
         return;
     }
-    let strict = words::asks_strict();
+    let strict = words::is_strict(wish);
     let mut page = [0xFFu8; 256];
     let mut array = [0xFFu8; 65536];
     let mut wear = [0u32; 16];

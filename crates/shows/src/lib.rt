@@ -2,7 +2,8 @@
 ghost use mathlib.Core.Path.{_≡_};
 ghost use Prim.Native.Nat.{_≤_, _<_};
 ghost use lib.ListN.{length};
-ghost use Rattle.effects.specs.Effects.{Shows, Room, readStatus, readConfig, readFrom, readId, wakingTime, wake as Effects·wake, makerBytes, readMaker};
+ghost use Rattle.effects.specs.Effects.{readStatus, readConfig, readFrom, readId, wakingTime, wake as Effects·wake, makerBytes, readMaker};
+ghost use Rattle.effects.specs.Contracts.{Shows, Room};
 use answers::Answer;
 use effects::Reply;
 use models::Model;

@@ -1,17 +1,20 @@
 -- What a wait or a cut that is not refused has shown of the chip, and what comes of each. Assumes nothing.
 use mathlib.Core.Path.{_≡_, refl, sym, ap, _∙_}
-use mathlib.Core.Bool.{Bool, true, false, _&&_, _||_, or-true, false≢true}
+use mathlib.Core.Bool.{Bool, true, false, not, _&&_, _||_, cond, or-true, false≢true}
 use mathlib.Core.List.{List}
 use mathlib.Core.Logic.{⊎-elim}
 use Prim.Native.Nat.{ℕ, _≤_, _<_}
 use lib.Dec.{eqb, ltb}
 use lib.ListN.{length}
 use native.Mathlib.Omega.{arith}
-use borrow.Author.Tests.{eqb-true, eq-eqb, ne-eqb, lt-ltb, le-ltb}
+use borrow.Author.Tests.{eqb-true, eq-eqb, ne-eqb, lt-ltb, le-ltb, not-false}
+use Rattle.units.proofs.Bools.{both}
 use Rattle.models.specs.Models.{modelOf}
 use Rattle.answers.specs.Answers.{isDone}
 use Rattle.answers.specs.declared.Answer.{Answer}
 use Rattle.answers.specs.declared.Answer.the-variants.{Done, BadRecord, BadArray, BadState, Busy, BadPattern}
+use Rattle.answers.specs.Tables.{firstOf}
+use Rattle.answers.proofs.Tables.{testOf, joined, row-clear}
 use Rattle.commands.specs.Commands.{startedBy}
 use Rattle.commands.specs.declared.Operation.{Operation}
 use Rattle.commands.specs.declared.Operation.the-variants.{Idle}
@@ -21,8 +24,10 @@ use Rattle.states.specs.declared.Record.{Record}
 use Rattle.states.specs.declared.State.{State}
 use Rattle.time.specs.declared.After.{After}
 use Rattle.states.proofs.States.{sound, idle-state, busy-state, idle-page, busy-page, page-length, blank-page, Resting}
-use Rattle.operations.specs.Operations.{runs, patternLength, finished, tornChip, Operable, Left}
-use Rattle.time.specs.Time.{later, nothingEnds, waited, cycled, cutOff, chipRefusal, powerRefusal, cutRefusal, afterOf, waitOf, powerOf, powerCutOf, Ends}
+use Rattle.operations.specs.Operations.{runs, patternLength, finished, tornChip}
+use Rattle.operations.specs.Contracts.{Operable, Left}
+use Rattle.time.specs.Time.{later, nothingEnds, waited, cycled, cutOff, chipRows, chipRefusal, powerRows, powerRefusal, patternRows, cutRefusal, afterOf, waitOf, powerOf, powerCutOf}
+use Rattle.time.specs.Contracts.{Ends}
 
 -- record, array, state and page data fit
 pub record Fit (rec : Record) (x : Chip) : Type 0 where
@@ -52,14 +57,10 @@ module _ (rec : Record) (s : State) (page : List ℕ) {a b : Bool} (t : Bool) wh
 module _ (rec : Record) (x : Chip) where
   pub chip-fits : isDone (chipRefusal rec x) ≡ true → Fit rec x
   unfolding chipRefusal
-  chip-fits d = go (recordOk rec) (eqb (length (x .cells)) (modelOf (rec .model) .length)) (stateOk rec (x .state)) (pageOk (rec .model) (x .state) (x .page)) refl refl refl refl
-    where
-      go : (a b c e : Bool) → recordOk rec ≡ a → eqb (length (x .cells)) (modelOf (rec .model) .length) ≡ b → stateOk rec (x .state) ≡ c → pageOk (rec .model) (x .state) (x .page) ≡ e → Fit rec x
-      go true true true true p q r s = record { right = p; whole = eqb-true (length (x .cells)) (modelOf (rec .model) .length) q; valid = r; page = s }
-      go true true true false p q r s = absurd (false≢true (rw (p, q, r, s) at d))
-      go true true false e p q r s = absurd (false≢true (rw (p, q, r) at d))
-      go true false c e p q r s = absurd (false≢true (rw (p, q) at d))
-      go false b c e p q r s = absurd (false≢true (rw p at d))
+  chip-fits d =
+      let clear : (a : Answer) → testOf a (chipRows rec x) ≡ false = row-clear (chipRows rec x) refl d in
+      let ok = both (stateOk rec (x .state)) (pageOk (rec .model) (x .state) (x .page)) (not-false _ (clear BadState)) in
+      record { right = not-false _ (clear BadRecord); whole = eqb-true _ _ (not-false _ (clear BadArray)); valid = ok .0; page = ok .1 }
 
   pub fit-taken : Fit rec x → chipRefusal rec x ≡ Done
   unfolding chipRefusal
@@ -136,28 +137,30 @@ module _ (rec : Record) (x : Chip) (pattern : List ℕ) where
     pub fit : Fit rec x
     pub long : length pattern ≡ patternLength (runs (rec .model) (x .state)) (x .state .address) (length (x .cells))
 
+  -- the rows of the chip, and then that of the pattern
+  cut-parts : cutRefusal rec x pattern ≡ cond (isDone (chipRefusal rec x)) (firstOf (patternRows rec x pattern)) (chipRefusal rec x)
+  unfolding cutRefusal chipRefusal
+  cut-parts = joined (chipRows rec x) (patternRows rec x pattern) refl
+
   pub cuttable : isDone (cutRefusal rec x pattern) ≡ true → Cuttable
-  unfolding cutRefusal
-  cuttable d = go (isDone (chipRefusal rec x)) (eqb (length pattern) (patternLength (runs (rec .model) (x .state)) (x .state .address) (length (x .cells)))) refl refl
+  cuttable d = go (isDone (chipRefusal rec x)) (eqb (length pattern) (patternLength (runs (rec .model) (x .state)) (x .state .address) (length (x .cells)))) refl refl (rw cut-parts at d)
     where
-      go : (a b : Bool) → isDone (chipRefusal rec x) ≡ a → eqb (length pattern) (patternLength (runs (rec .model) (x .state)) (x .state .address) (length (x .cells))) ≡ b → Cuttable
-      go true true p q = record { fit = chip-fits rec x p; long = eqb-true (length pattern) _ q }
-      go true false p q = absurd (false≢true (rw (p, q) at d))
-      go false b p q = absurd (false≢true (sym p ∙ (rw p at d)))
+      go : (a b : Bool) → isDone (chipRefusal rec x) ≡ a → eqb (length pattern) (patternLength (runs (rec .model) (x .state)) (x .state .address) (length (x .cells))) ≡ b
+          → isDone (cond a (cond (not b) BadPattern Done) (chipRefusal rec x)) ≡ true → Cuttable
+      go true true p q f = record { fit = chip-fits rec x p; long = eqb-true (length pattern) _ q }
+      go true false p q f = absurd (false≢true f)
+      go false b p q f = absurd (false≢true (sym p ∙ f))
 
   -- what the tests say
   pub no-chip : {a : Answer} → isDone a ≡ false → a ≡ chipRefusal rec x → a ≡ cutRefusal rec x pattern
-  unfolding cutRefusal
-  no-chip d e = let f : isDone (chipRefusal rec x) ≡ false = sym (ap isDone e) ∙ d in rw f e
+  no-chip d e = let f : isDone (chipRefusal rec x) ≡ false = sym (ap isDone e) ∙ d in rw (cut-parts, f) e
 
   module _ (e : Done ≡ chipRefusal rec x) where
     pub no-pattern : eqb (length pattern) (patternLength (runs (rec .model) (x .state)) (x .state .address) (length (x .cells))) ≡ false → BadPattern ≡ cutRefusal rec x pattern
-    unfolding cutRefusal
-    no-pattern l = rw (← e, l)
+    no-pattern l = rw (cut-parts, ← e, l)
 
     pub may-cut : eqb (length pattern) (patternLength (runs (rec .model) (x .state)) (x .state .address) (length (x .cells))) ≡ true → Done ≡ cutRefusal rec x pattern
-    unfolding cutRefusal
-    may-cut l = rw (← e, l)
+    may-cut l = rw (cut-parts, ← e, l)
 
   module _ {a : Answer} (e : a ≡ cutRefusal rec x pattern) where
     same-cut : {b : Bool} → isDone a ≡ b → isDone (cutRefusal rec x pattern) ≡ b
@@ -219,13 +222,16 @@ module _ (rec : Record) (s : State) (page : List ℕ) where
     unfolding powerOf
     done-cycle d h i = i ∙ rw (h, ← e, d)
 
--- one that is taken has found an idle chip
-pub idle-cycle : (rec : Record) (s : State) (page : List ℕ) → isDone (powerRefusal rec s page) ≡ true → s .busy ≡ 0
+-- one that is taken has found an idle chip, and the state and page data fit
+pub record Cyclable (rec : Record) (s : State) (page : List ℕ) : Type 0 where
+  pub right : recordOk rec ≡ true
+  pub valid : stateOk rec s ≡ true
+  pub page-data : pageOk (rec .model) s page ≡ true
+  pub idle : s .busy ≡ 0
+
+pub cyclable : (rec : Record) (s : State) (page : List ℕ) → isDone (powerRefusal rec s page) ≡ true → Cyclable rec s page
 unfolding powerRefusal
-idle-cycle rec s page d = go (recordOk rec) (stateOk rec s && pageOk (rec .model) s page) (eqb (s .busy) 0) refl refl refl
-  where
-    go : (a b c : Bool) → recordOk rec ≡ a → (stateOk rec s && pageOk (rec .model) s page) ≡ b → eqb (s .busy) 0 ≡ c → s .busy ≡ 0
-    go true true true p q r = eqb-true (s .busy) 0 r
-    go true true false p q r = absurd (false≢true (rw (p, q, r) at d))
-    go true false c p q r = absurd (false≢true (rw (p, q) at d))
-    go false b c p q r = absurd (false≢true (rw p at d))
+cyclable rec s page d =
+    let clear : (a : Answer) → testOf a (powerRows rec s page) ≡ false = row-clear (powerRows rec s page) refl d in
+    let ok = both (stateOk rec s) (pageOk (rec .model) s page) (not-false _ (clear BadState)) in
+    record { right = not-false _ (clear BadRecord); valid = ok .0; page-data = ok .1; idle = eqb-true (s .busy) 0 (not-false _ (clear Busy)) }

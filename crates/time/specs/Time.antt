@@ -1,15 +1,15 @@
 -- Waiting, power cycles and cuts of the power: 01, "Commands", last paragraphs, and Req 05. Assumes nothing.
-use mathlib.Core.Bool.{Bool, false, _&&_, _||_, cond}
-use mathlib.Core.List.{List}
-use mathlib.Core.Path.{_≡_}
+use mathlib.Core.Bool.{Bool, false, not, _&&_, _||_, cond}
+use mathlib.Core.List.{List, [], _∷_, _++_}
 use Prim.Native.Nat.{ℕ, _-_, _*_, _/_, _%_}
 use lib.Dec.{eqb, ltb}
 use lib.ListN.{length}
-use Rattle.models.specs.Models.{modelOf}
 use Rattle.answers.specs.Answers.{isDone}
 use Rattle.answers.specs.declared.Answer.{Answer}
-use Rattle.answers.specs.declared.Answer.the-variants.{Done, BadRecord, BadArray, BadState, Busy, BadPattern}
-use Rattle.states.specs.States.{recordOk, stateOk, pageOk, noCommand, noAddress, Chip, chipOf}
+use Rattle.answers.specs.declared.Answer.the-variants.{Busy, BadPattern}
+use Rattle.answers.specs.Tables.{Rung, _gives_, firstOf}
+use Rattle.ladder.specs.Ladder.{absent, sized, callRows}
+use Rattle.states.specs.States.{stateOk, pageOk, noCommand, noAddress, Chip, chipOf}
 use Rattle.states.specs.declared.Record.{Record}
 use Rattle.states.specs.declared.State.{State}
 use Rattle.operations.specs.Operations.{runs, patternLength, finished, tornChip}
@@ -38,21 +38,27 @@ cycled s =
 unfoldable pub cutOff : ℕ → Chip → List ℕ → Chip
 cutOff n x pattern = let y : Chip = tornChip n x pattern in chipOf (cycled (y .state)) (y .page) (y .cells)
 
--- ---- what is refused
--- 1, 2 and 3: wait and cut take the array; 1 and 3, and 11 while busy: a power cycle takes none; 23: a pattern of another length
-abbrev pub fits : Record → State → List ℕ → Answer → Answer
-fits rec s page next = cond (stateOk rec s && pageOk (rec .model) s page) next BadState
+-- ---- what is refused: the rows of every call (`callRows`), and what is the call's own after them
+-- wait and cut take the array, a power cycle takes none
+abbrev pub chipRows : Record → Chip → List Rung
+chipRows rec x = callRows rec (sized (length (x .cells))) absent (stateOk rec (x .state) && pageOk (rec .model) (x .state) (x .page))
 
 unfoldable pub chipRefusal : Record → Chip → Answer
-chipRefusal rec x = cond (recordOk rec) (cond (eqb (length (x .cells)) (modelOf (rec .model) .length)) (fits rec (x .state) (x .page) Done) BadArray) BadRecord
+chipRefusal rec x = firstOf (chipRows rec x)
+
+-- a busy chip is not cycled
+abbrev pub powerRows : Record → State → List ℕ → List Rung
+powerRows rec s page = callRows rec absent absent (stateOk rec s && pageOk (rec .model) s page) ++ ((not (eqb (s .busy) 0) gives Busy) ∷ [])
 
 unfoldable pub powerRefusal : Record → State → List ℕ → Answer
-powerRefusal rec s page = cond (recordOk rec) (fits rec s page (cond (eqb (s .busy) 0) Done Busy)) BadRecord
+powerRefusal rec s page = firstOf (powerRows rec s page)
+
+-- the pattern of a cut is as long as the unit that it leaves behind
+abbrev pub patternRows : Record → Chip → List ℕ → List Rung
+patternRows rec x pattern = (not (eqb (length pattern) (patternLength (runs (rec .model) (x .state)) (x .state .address) (length (x .cells)))) gives BadPattern) ∷ []
 
 unfoldable pub cutRefusal : Record → Chip → List ℕ → Answer
-cutRefusal rec x pattern =
-    let a : Answer = chipRefusal rec x in
-    cond (isDone a) (cond (eqb (length pattern) (patternLength (runs (rec .model) (x .state)) (x .state .address) (length (x .cells)))) Done BadPattern) a
+cutRefusal rec x pattern = firstOf (chipRows rec x ++ patternRows rec x pattern)
 
 -- ---- the calls
 -- what comes of a wait or a cut: the answer and the chip, which a refusal leaves as it was
@@ -76,10 +82,3 @@ afterOf a s = record { answer = a; state = s }
 -- a power cycle leaves page data and array alone
 unfoldable pub powerOf : Record → State → List ℕ → After
 powerOf rec s page = let a : Answer = powerRefusal rec s page in afterOf a (cond (isDone a) (cycled s) s)
-
--- what a function's result and its lent buffers at exit have to be
-pub record Ends (o : Aftermath) (r : After) (page cells : List ℕ) : Type 0 where
-  pub answer-is : r .answer ≡ o .answer
-  pub state-is : r .state ≡ o .chip .state
-  pub page-is : page ≡ o .chip .page
-  pub cells-are : cells ≡ o .chip .cells

@@ -28,6 +28,13 @@ blockOfSector s = record { 0 = s .0 / 16 }
 abbrev pub blockOfHalf : HalfBlock → Block
 blockOfHalf h = record { 0 = h .0 / 2 }
 
+-- the first sectors of a half block and of a block
+abbrev pub firstOfHalf : HalfBlock → Sector
+firstOfHalf h = record { 0 = 8 * h .0 }
+
+abbrev pub firstOfBlock : Block → Sector
+firstOfBlock b = record { 0 = 16 * b .0 }
+
 abbrev pub sectorStart : Sector → ℕ
 sectorStart s = s .0 * 4096
 

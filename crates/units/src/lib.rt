@@ -1,7 +1,7 @@
 // The numbers of the sheets as kinds of their own: addresses, sectors, half blocks and blocks.
 ghost use mathlib.Core.Path.{_≡_};
 ghost use Prim.Native.Nat.{_<_};
-ghost use Rattle.units.specs.Kinds.{sectorOf, halfBlockOf, blockOf, pageStart, pageOffset, blockOfSector, blockOfHalf, sectorStart, halfBlockStart, blockStart};
+ghost use Rattle.units.specs.Kinds.{sectorOf, halfBlockOf, blockOf, pageStart, pageOffset, blockOfSector, blockOfHalf, firstOfHalf, firstOfBlock, sectorStart, halfBlockStart, blockStart};
 
 // A byte address, and the numbers of a sector, of a half block of 32 KiB and of a block: four kinds, so that none passes for another.
 pub struct Address(pub u32);
@@ -74,6 +74,14 @@ impl HalfBlock {
         Block(self.0 / 2)
     }
 
+    // Its first sector.
+    pub fn first_sector(self) -> Sector
+        requires { ⌜ self .0 < 131072 ⌝ }
+        ensures { λ r. ⌜ r ≡ firstOfHalf self ⌝ }
+    {
+        Sector(8 * self.0)
+    }
+
     // Half blocks of 32-bit addresses are below 131,072.
     pub fn first_address(self) -> Address
         requires { ⌜ self .0 < 131072 ⌝ }
@@ -84,6 +92,14 @@ impl HalfBlock {
 }
 
 impl Block {
+    // Its first sector.
+    pub fn first_sector(self) -> Sector
+        requires { ⌜ self .0 < 65536 ⌝ }
+        ensures { λ r. ⌜ r ≡ firstOfBlock self ⌝ }
+    {
+        Sector(16 * self.0)
+    }
+
     // Blocks of 32-bit addresses are below 65,536.
     pub fn first_address(self) -> Address
         requires { ⌜ self .0 < 65536 ⌝ }

@@ -2,7 +2,9 @@
 // erased. Model 1 with bench values, from power-on, all cells FF, every count 0; strict where the word strict asks for it. Where the input
 // fails there is no sheet.
 fn main() {
+    let wish = words::asked();
     if words::answered(
+        wish,
         b"wear: it knows no words but --help and strict, and takes one of them\n",
         b"usage: wear [strict] <SCRIPT >SHEET
 Plays a script to a KH25L512 (model 1, bench values, from power-on, all cells FF) and writes its wear
@@ -17,7 +19,7 @@ is refused.
     ) {
         return;
     }
-    let strict = words::asks_strict();
+    let strict = words::is_strict(wish);
     let mut page = [0xFFu8; 256];
     let mut array = [0xFFu8; 65536];
     let mut wear = [0u32; 16];

@@ -7,7 +7,7 @@ use lib.ListN.{length, getD, drop, drop-of-length-le}
 use lib.Seq.{drop-cons}
 use Rattle.text.specs.Put.{Put}
 use Rattle.text.proofs.PutLaws.{put-none, put-as, put-then}
-use Rattle.counts.specs.Counts.{mostFrom, largestOf}
+use Rattle.counts.specs.Counts.{sectorAt, mostFrom, largestOf}
 use Rattle.wear_rows.specs.WearSheet.{sectorText, sectorsText, longestLineOf}
 
 -- ---- no count is larger than the largest
@@ -36,15 +36,15 @@ pub listed-none : (largest : ℕ) (wear d : List ℕ) (at : ℕ) → at ≤ leng
 listed-none largest wear d at l = record { text = []; put = put-none d at l; rest = refl; most = omega arith }
 
 pub listed-more : {largest : ℕ} {wear d : List ℕ} {at k : ℕ} {e : List ℕ} {to : ℕ} {f : List ℕ} {r : ℕ} → Listed largest wear d at k e to → k < length wear
-    → Put (sectorText largest k (getD wear k 0)) e to f r → r ≤ to + longestLineOf → Listed largest wear d at (k + 1) f r
+    → Put (sectorText largest (sectorAt k) (getD wear k 0)) e to f r → r ≤ to + longestLineOf → Listed largest wear d at (k + 1) f r
 listed-more {largest} {wear} {d} {at} {k} {f = f} {r = r} h l p m =
     let n : k + 1 ≡ suc k = omega arith in
     rw n
     (record {
-      text = h .text ++ sectorText largest k (getD wear k 0);
+      text = h .text ++ sectorText largest (sectorAt k) (getD wear k 0);
       put = put-then (h .put) p;
       rest = h .rest ∙ ap (λ (z : List ℕ). h .text ++ sectorsText largest k z) (drop-cons wear k 0 l)
-          ∙ sym (append-assoc (h .text) (sectorText largest k (getD wear k 0)) (sectorsText largest (suc k) (drop (suc k) wear)));
+          ∙ sym (append-assoc (h .text) (sectorText largest (sectorAt k) (getD wear k 0)) (sectorsText largest (suc k) (drop (suc k) wear)));
       most = omega (arith, h .most);
     })
 

@@ -7,9 +7,10 @@ use Prim.Native.Char.{code}
 use lib.Dec.{eqb, leb}
 use lib.ListN.{length, replicate}
 use Rattle.text.specs.Text.{ascii, newline, decimalText}
+use Rattle.units.specs.declared.Sector.{Sector}
 use Rattle.models.specs.Models.{isSectors}
 use Rattle.counts.specs.declared.Figures.{Figures}
-use Rattle.counts.specs.Counts.{largestOf, reportOf}
+use Rattle.counts.specs.Counts.{sectorAt, largestOf, reportOf}
 
 -- ---- bars
 -- the most marks that a bar has
@@ -34,19 +35,19 @@ unfoldable pub headingText : List ℕ
 headingText = ascii "Wear sheet: erases of each sector\nsector      erases\n"
 
 -- a sector's line: its number, its count and its bar
-unfoldable pub sectorText : ℕ → ℕ → ℕ → List ℕ
-sectorText largest sector count = rightText 6 sector ++ rightText 12 count ++ barText (marksOf largest count) ++ (newline ∷ [])
+unfoldable pub sectorText : ℕ → Sector → ℕ → List ℕ
+sectorText largest sector count = rightText 6 (sector .0) ++ rightText 12 count ++ barText (marksOf largest count) ++ (newline ∷ [])
 
 -- those of a table's counts, of which the first is sector k's
 abbrev pub sectorsText : ℕ → ℕ → List ℕ → List ℕ
 sectorsText largest k [] = []
-sectorsText largest k (count ∷ counts) = sectorText largest k count ++ sectorsText largest (suc k) counts
+sectorsText largest k (count ∷ counts) = sectorText largest (sectorAt k) count ++ sectorsText largest (suc k) counts
 
 -- the figures of the report
 unfoldable pub sumsText : Figures → List ℕ
 sumsText f =
     ascii "total " ++ decimalText (f .total) ++ ascii "\nsmallest " ++ decimalText (f .smallest)
-    ++ ascii "\nlargest " ++ decimalText (f .largest) ++ ascii ", first in sector " ++ decimalText (f .sector)
+    ++ ascii "\nlargest " ++ decimalText (f .largest) ++ ascii ", first in sector " ++ decimalText (f .sector .0)
 
 -- the mean of n counts: its remainder is so many n-ths
 unfoldable pub meanText : Figures → ℕ → List ℕ

@@ -11,6 +11,7 @@ ghost use Rattle.log.specs.Row.{Rowed};
 ghost use Rattle.counts.specs.Counts.{largestOf};
 ghost use Rattle.wear_rows.specs.WearSheet.{marksOf, barText, rightText, sectorText, sectorsText, sumsText, meanText, sheetText, longestBar, longestLineOf, sheetRoom};
 use counts::Figures;
+use units::Sector;
 
 // ---- parts of a line
 
@@ -69,25 +70,25 @@ fn put_bar(marks: usize, out: &mut [u8], at: usize) -> usize
 
 // ---- lines
 
-fn put_sector(largest: u32, sector: usize, count: u32, out: &mut [u8], at: usize) -> usize
+fn put_sector(largest: u32, sector: Sector, count: u32, out: &mut [u8], at: usize) -> usize
     requires { ⌜ (count ≤ largest) × (at + longestLineOf ≤ length (now out)) ⌝ }
     ensures { λ r. ⌜ Put (sectorText largest sector count) (now (out .entry)) at (now (out .exit)) r × (r ≤ at + longestLineOf) ⌝ }
 {
-    let a = put_right(6, sector as u64, out, at);
+    let a = put_right(6, sector.0 as u64, out, at);
     let b = put_right(12, count as u64, out, a);
     let c = put_bar(marks_of(largest, count), out, b);
     text::put_byte(b'\n', out, c)
 }
 
 fn put_sectors(wear: &[u32], largest: u32, out: &mut [u8], at: usize) -> usize
-    requires { ⌜ (largest ≡ largestOf (now wear)) × (at + longestLineOf * length (now wear) ≤ length (now out)) ⌝ }
+    requires { ⌜ (largest ≡ largestOf (now wear)) × (length (now wear) ≤ 4096) × (at + longestLineOf * length (now wear) ≤ length (now out)) ⌝ }
     ensures { λ r. ⌜ Put (sectorsText largest 0 (now (wear .entry))) (now (out .entry)) at (now (out .exit)) r × (r ≤ at + longestLineOf * length (now (wear .entry))) ⌝ }
 {
     let mut next = at;
-    let mut sector = 0;
-    while sector < wear.len() {
-        next = put_sector(largest, sector, wear[sector], out, next);
-        sector += 1;
+    let mut k = 0;
+    while k < wear.len() {
+        next = put_sector(largest, Sector(k as u32), wear[k], out, next);
+        k += 1;
     }
     next
 }
@@ -108,7 +109,8 @@ fn put_sums(f: Figures, out: &mut [u8], at: usize) -> usize
     let a = put_said(b"total ", f.total, out, at);
     let b = put_said(b"\nsmallest ", f.smallest as u64, out, a);
     let c = put_said(b"\nlargest ", f.largest as u64, out, b);
-    put_said(b", first in sector ", f.sector as u64, out, c)
+    let first = f.sector;
+    put_said(b", first in sector ", first.0 as u64, out, c)
 }
 
 // The mean of n counts.

@@ -1,36 +1,87 @@
-// The words that a program is started with: it knows --help and strict, and takes one of them at most.
+// The words that a program is started with: none, --help or strict.
+ghost use mathlib.Core.Path.{_≡_};
+ghost use Rattle.words.specs.Words.{sameText, wishOf, isStrict, asksNoRun};
 use libc::STDERR_FILENO;
 use libc::STDOUT_FILENO;
 
-fn is_same(word: &[u8; 6], other: &[u8; 6]) -> bool {
-    let first = (word[0] == other[0]) & (word[1] == other[1]);
-    let middle = (word[2] == other[2]) & (word[3] == other[3]);
-    first & middle & (word[4] == other[4]) & (word[5] == other[5])
+// What they ask for: a run, with the strict setting off or on, or how the program is used; or nothing that it knows.
+pub enum Wish {
+    Run,
+    Strict,
+    Help,
+    Unknown,
 }
 
-// Whether that word of six bytes is the only one.
-fn is_only(wanted: &[u8; 6]) -> bool {
-    let mut word = [0u8; 6];
-    os::arg(1, &mut word);
-    (os::arg_count() == 2) & (os::errno() == 0) & is_same(&word, wanted)
-}
-
-// Whether the program was started with the word strict alone, and so is to run under the strict setting.
-pub fn asks_strict() -> bool {
-    is_only(b"strict")
-}
-
-// Whether the program was started with words that ask for no run. --help alone shows its use on standard output; any other words but strict
-// alone what is said of unknown ones, and the use, on standard error.
-pub fn answered(unknown: &[u8], usage: &[u8]) -> bool {
-    if (os::arg_count() < 2) | asks_strict() {
+// Whether two texts are the same.
+fn is_same(text: &[u8], other: &[u8]) -> bool
+    ensures { λ r. ⌜ r ≡ sameText (now (text .entry)) (now (other .entry)) ⌝ }
+{
+    if text.len() != other.len() {
         return false;
     }
-    if is_only(b"--help") {
-        io::write_all(STDOUT_FILENO, usage);
-        return true;
+    let mut i = 0;
+    while i < text.len() {
+        if text[i] != other[i] {
+            return false;
+        }
+        i += 1;
     }
-    io::write_all(STDERR_FILENO, unknown);
-    io::write_all(STDERR_FILENO, usage);
     true
+}
+
+// What is asked for by so many words, the program's own name among them, if the next one is this and was read whole.
+fn wish_of(count: usize, whole: bool, word: &[u8]) -> Wish
+    ensures { λ r. ⌜ r ≡ wishOf count whole (now (word .entry)) ⌝ }
+{
+    if count < 2 {
+        return Wish::Run;
+    }
+    let alone = (count == 2) & whole;
+    if alone & is_same(word, b"strict") {
+        return Wish::Strict;
+    }
+    if alone & is_same(word, b"--help") {
+        return Wish::Help;
+    }
+    Wish::Unknown
+}
+
+// What the program was started with asks for: which words those are is the C library's to say, and no contract's.
+pub fn asked() -> Wish {
+    let mut word = [0u8; 6];
+    let n = os::arg(1, &mut word);
+    let whole = os::errno() == 0;
+    wish_of(os::arg_count(), whole, &word[..n])
+}
+
+// Whether a run is asked for with the strict setting on.
+pub fn is_strict(wish: Wish) -> bool
+    ensures { λ r. ⌜ r ≡ isStrict wish ⌝ }
+{
+    match wish {
+        Wish::Run => false,
+        Wish::Strict => true,
+        Wish::Help => false,
+        Wish::Unknown => false,
+    }
+}
+
+// Whether no run is asked for, and so the program has no more to do. --help shows its use on standard output; words that it does not know what
+// is said of them, and the use, on standard error.
+pub fn answered(wish: Wish, unknown: &[u8], usage: &[u8]) -> bool
+    ensures { λ r. ⌜ r ≡ asksNoRun wish ⌝ }
+{
+    match wish {
+        Wish::Run => false,
+        Wish::Strict => false,
+        Wish::Help => {
+            io::write_all(STDOUT_FILENO, usage);
+            true
+        }
+        Wish::Unknown => {
+            io::write_all(STDERR_FILENO, unknown);
+            io::write_all(STDERR_FILENO, usage);
+            true
+        }
+    }
 }

@@ -55,7 +55,7 @@ returns-2 c =
     let k = c .before .before .before .before in
     let e = k .before .before in
     let v = e .before in
-    worn-out _ _ _ (found (v .before)) (v .is-over .ensures) (e .if2 .left) (k .count .ensures .0) (k .count .ensures .1) (not-true _ (c .before .if3 .taken)) (c .quiet2 .ensures)
+    worn-out _ _ _ (found (v .before)) (v .is-over .ensures) (e .if2 .left) (k .count .ensures .done-is) (k .count .ensures .table-is) (not-true _ (c .before .if3 .taken)) (c .quiet2 .ensures)
 
 accepted-requires : tie.Need-accepted-requires
 accepted-requires c κs = ready _ _ _ (found (c .before .before .before .before .before .before .before .before .before))
@@ -67,7 +67,7 @@ returns-3 c =
     let k = y .before .before .before in
     let e = k .before .before in
     let v = e .before in
-    accept _ _ _ (found (v .before)) (v .is-over .ensures) (e .if2 .left) (k .count .ensures .0) (k .count .ensures .1) (not-false _ (y .if3 .left)) (r .accepted .ensures)
+    accept _ _ _ (found (v .before)) (v .is-over .ensures) (e .if2 .left) (k .count .ensures .done-is) (k .count .ensures .table-is) (not-false _ (y .if3 .left)) (r .accepted .ensures)
 
 returns-4 : tie.Need-returns-4
 returns-4 c =

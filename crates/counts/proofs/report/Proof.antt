@@ -31,21 +31,21 @@ sum-up-requires c κs = let k = sectors-range _ (right c) in (omega (arith, k .0
 div-mean : tie.Need-div-mean
 div-mean c = omega (arith, sectors-range _ (right (c .before .before)))
 
-cast-t11 : tie.Need-cast-t11
-cast-t11 c = omega (arith, div-le-of-le-mul (length (now (c .before .before .before .before .before .before .args .wear))) (c .before .before .sum-up .ensures .1))
+cast-t13 : tie.Need-cast-t13
+cast-t13 c = omega (arith, div-le-of-le-mul (length (now (c .before .before .before .before .before .before .before .args .wear))) (c .before .before .before .sum-up .ensures .1))
 
 rem-remainder : tie.Need-rem-remainder
 rem-remainder c = omega (arith, sectors-range _ (right (c .before .before .before)))
 
-cast-t12 : tie.Need-cast-t12
-cast-t12 c =
-    let k = sectors-range _ (right (c .before .before .before)) in
-    omega (arith, k, mod-lt (c .before .before .sum-up .result .total) (positive k))
+cast-t14 : tie.Need-cast-t14
+cast-t14 c =
+    let k = sectors-range _ (right (c .before .before .before .before)) in
+    omega (arith, k, mod-lt (c .before .before .before .sum-up .result .total) (positive k))
 
 returns-2 : tie.Need-returns-2
 unfolding reportOf
 returns-2 c =
-    let s = c .before .before in
+    let s = c .before .before .before in
     let e = s .sum-up .ensures .0 in
     rw (right (s .before), e)
 
@@ -58,6 +58,6 @@ report-spec =
     sum-up-requires
     div-mean
     rem-remainder
-    cast-t11
-    cast-t12
+    cast-t13
+    cast-t14
     returns-2)

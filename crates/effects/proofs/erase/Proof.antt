@@ -17,8 +17,8 @@ returns c =
     c .quiet .ensures
     ∙ ap (quiet Done)
     (c .before .start .ensures
-    ∙ ap (λ (x : ℕ). starting (given .st) x (given .place) (t .operation-time .result)) (b .byte-at .ensures)
-    ∙ ap (λ (x : ℕ). starting (given .st) (getD (given .bytes .now) 0 0) (given .place) x) (t .operation-time .ensures))
+    ∙ ap (λ (x : ℕ). starting (given .st) x (given .at .0) (t .operation-time .result)) (b .byte-at .ensures)
+    ∙ ap (λ (x : ℕ). starting (given .st) (getD (given .bytes .now) 0 0) (given .at .0) x) (t .operation-time .ensures))
 
 pub erase-spec : {M : Type 1} → statement M
 erase-spec = tie.close (tie.spec (λ c κs. search needs) (λ c κs. search needs) (λ c κs. search needs) (λ c κs. search needs) returns)

@@ -1,4 +1,4 @@
--- `input::play_blocks` meets its contract, and ends: the blocks that are left get fewer. Assumes nothing.
+-- `input::play_blocks` meets its contract, and ends: the blocks that are left get fewer.
 use mathlib.Core.Path.{_≡_, refl, sym, _∙_}
 use mathlib.Core.Bool.{false≢true}
 use Prim.Native.Nat.{_≤_}
@@ -8,7 +8,7 @@ use borrow.Author.Needs.{needs}
 use borrow.Author.Tests.{not-true, not-false}
 use Rattle.feed.specs.Feed.{standing}
 use Rattle.input.specs.Input.{firstRun}
-use Rattle.input.proofs.Came.{Came, came-none, came-more, came-last}
+use Rattle.input.proofs.Came.{went, Came, came-none, came-more, came-last}
 use Rattle.input.proofs.play_blocks.Statement.{statement}
 use Rattle.input.proofs.play_blocks.Tie as tie
 
@@ -31,13 +31,14 @@ read-block-requires c κs =
 returns : tie.Need-returns Inv-loop μ-loop
 returns c =
     let h = c .before .before .before .before .before .before .before .before .before .before .before .before .before .before .before .before .before .before .before .before .before .loop .inv in
-    λ w. came-last (c .before .before .before .before .before .before .before .before .before .before .before .before .before .before .before .before .before .before .before .before .before .before .before .before .before .before .before .before .args .rec) (c .before .before .before .before .before .before .before .before .before .before .before .before .before .before .before .before .before .before .before .before .before .before .before .before .before .before .before .before .args .strict) (h .6) (h .7) (c .before .before .before .before .before .before .before .before .before .before .before .before .before .before .before .before .before .before .before .before .before .before .before .before .before .before .before .before .pre) (h .9) (c .before .before .before .before .before .before .before .before .before .before .before .before .before .read-block .ensures .last (not-true _ (c .if1 .taken)) w)
+    let w = went (h .5) _ (c .before .before .before .before .before .before .before .before .before .before .before .before .before .read-block .ensures .taken) in
+    λ e. came-last (c .before .before .before .before .before .before .before .before .before .before .before .before .before .before .before .before .before .before .before .before .before .before .before .before .before .before .before .before .args .rec) (c .before .before .before .before .before .before .before .before .before .before .before .before .before .before .before .before .before .before .before .before .before .before .before .before .before .before .before .before .args .strict) (h .6) (h .7) (c .before .before .before .before .before .before .before .before .before .before .before .before .before .before .before .before .before .before .before .before .before .before .before .before .before .before .before .before .pre) (h .9) (w .last (not-true _ (c .if1 .taken)) e)
 
 loop-again : tie.Need-loop-again Inv-loop μ-loop
 loop-again c =
     let h = c .before .before .before .before .before .before .before .before .before .before .before .before .before .before .before .before .before .before .before .before .before .loop .inv in
     let k = c .before .before .before .before .before .before .before .before .before .before .before .before .before .read-block .kept in
-    let e = c .before .before .before .before .before .before .before .before .before .before .before .before .before .read-block .ensures in (
+    let e = went (h .5) _ (c .before .before .before .before .before .before .before .before .before .before .before .before .before .read-block .ensures .taken) in (
       k .1 .1 .1 .1 .1 .0 ∙ h .0,
       k .1 .1 .1 .1 .1 .1 .0 ∙ h .1,
       k .1 .1 .1 .1 .1 .1 .1 .0 ∙ h .2,

@@ -1,43 +1,21 @@
--- `input::read_block` meets its contract. Assumes nothing.
-use Rattle.input.proofs.Came.{read-ended, read-last, read-more}
+-- `input::read_block` meets its contract: the number is the one that the read has answered.
 use borrow.Author.Needs.{needs}
 use Rattle.input.proofs.read_block.Statement.{statement}
 use Rattle.input.proofs.read_block.Tie as tie
 
 returns : tie.Need-returns
-returns c = read-ended (c .ended .ensures) (c .before .before .before .before .before .before .before .before .before .before .before .before .before .before .pre .used)
-
-returns-2 : tie.Need-returns-2
-returns-2 c = read-last (c .ended2 .ensures) (c .before .before .before .before .before .before .before .before .before .before .before .before .before .before .before .before .before .before .before .before .before .before .before .before .before .before .before .before .before .before .before .pre .used) (c .before .before .before .before .before .before .before .before .before .before .before .finish .ensures)
-
-returns-3 : tie.Need-returns-3
-returns-3 c = read-more (c .before .before .before .before .before .before .before .before .before .before .feed-block .ensures)
+returns c = record { got = _; taken = c .before .before .before .before .before .before .before .before .before .before .take-block .ensures }
 
 pub read-block-spec : {M : Type 1} → statement M
 read-block-spec =
     tie.close
     (tie.spec
     (λ c κs. search needs)
-    (λ c. search needs)
-    (λ c κs. search needs)
     (λ c κs. search needs)
     (λ c. search needs)
-    returns
-    (λ c κs. search needs)
-    (λ c κs. search needs)
-    (λ c κs. search needs)
-    (λ c. search needs)
-    (λ c. c .before .before .before .before .before .before .before .before .before .before .before .before .before .before .before .before .before .before .before .before .before .before .before .read .kept .1 .0)
     (λ c. search needs)
     (λ c. search needs)
     (λ c. search needs)
     (λ c. search needs)
-    returns-2
-    (λ c κs. search needs)
     (λ c. search needs)
-    (λ c. c .before .before .before .before .before .before .before .before .before .before .before .before .before .before .before .before .before .before .before .before .before .before .before .read .kept .1 .0)
-    (λ c. search needs)
-    (λ c. search needs)
-    (λ c. search needs)
-    (λ c. search needs)
-    returns-3)
+    returns)

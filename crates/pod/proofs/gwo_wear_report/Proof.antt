@@ -21,7 +21,7 @@ module _ (wear : List ℕ) (t s l k m q : ℕ) {r : Figures} (e : r ≡ reportOf
       rw no (record { number-is = p ∙ ap (λ (f : Figures). numberOf (f .answer)) e; total-is = refl; smallest-is = refl; largest-is = refl; sector-is = refl; mean-is = refl; remainder-is = refl })
 
   -- they get the figures
-  told-figures : isDone (r .answer) ≡ true → Reports (calledReport wear t s l k m q) 0 (r .total) (r .smallest) (r .largest) (r .sector) (r .mean) (r .remainder)
+  told-figures : isDone (r .answer) ≡ true → Reports (calledReport wear t s l k m q) 0 (r .total) (r .smallest) (r .largest) (r .sector .0) (r .mean) (r .remainder)
   unfolding calledReport
   told-figures d =
       let yes : isDone (reportOf wear .answer) ≡ true = sym (ap (λ (f : Figures). isDone (f .answer)) e) ∙ d in
@@ -31,7 +31,7 @@ module _ (wear : List ℕ) (t s l k m q : ℕ) {r : Figures} (e : r ≡ reportOf
         total-is = ap (λ (f : Figures). f .total) e;
         smallest-is = ap (λ (f : Figures). f .smallest) e;
         largest-is = ap (λ (f : Figures). f .largest) e;
-        sector-is = ap (λ (f : Figures). f .sector) e;
+        sector-is = ap (λ (f : Figures). f .sector .0) e;
         mean-is = ap (λ (f : Figures). f .mean) e;
         remainder-is = ap (λ (f : Figures). f .remainder) e;
       })
@@ -44,8 +44,8 @@ returns c =
 
 returns-2 : tie.Need-returns-2
 returns-2 c =
-    let r = c .before .before in
-    told-figures _ _ _ _ _ _ _ (r .report .ensures) (sym (c .before .is-done .ensures) ∙ not-false _ (c .if1 .left))
+    let e = c .before in
+    told-figures _ _ _ _ _ _ _ (e .before .before .report .ensures) (sym (e .before .is-done .ensures) ∙ not-false _ (e .if1 .left))
 
 pub gwo-wear-report-spec : {M : Type 1} → statement M
 gwo-wear-report-spec = tie.close (tie.spec (λ c κs. search needs) (λ c κs. search needs) (λ c κs. search needs) returns returns-2)

@@ -12,26 +12,26 @@ use Rattle.wear_rows.proofs.put_sector.Tie as tie
 
 put-bar-requires : tie.Need-put-bar-requires
 put-bar-requires c κs =
-    let a = c .before .before .before .before .before .before .before .before .before .before .before .args in
-    let b = bars (a .largest) (a .count) (c .before .before .before .before .before .before .before .before .before .before .before .pre .0) in
+    let a = c .before .before .before .before .before .before .before .before .before .before .before .before .args in
+    let b = bars (a .largest) (a .count) (c .before .before .before .before .before .before .before .before .before .before .before .before .pre .0) in
     let s = put-same (c .before .before .before .before .before .before .before .before .put-right .ensures .0) in
     let t = put-same (c .before .before .before .before .put-right2 .ensures .0) in
-    omega (arith, c .before .marks-of .ensures, b .short, s, t, c .before .before .before .before .before .before .before .before .put-right .ensures .1, c .before .before .before .before .put-right2 .ensures .1, c .before .before .before .before .before .before .before .before .before .before .before .pre .1)
+    omega (arith, c .before .marks-of .ensures, b .short, s, t, c .before .before .before .before .before .before .before .before .put-right .ensures .1, c .before .before .before .before .put-right2 .ensures .1, c .before .before .before .before .before .before .before .before .before .before .before .before .pre .1)
 
 put-byte-requires : tie.Need-put-byte-requires
 put-byte-requires c κs =
-    let a = c .before .before .before .before .before .before .before .before .before .before .before .before .before .before .before .args in
-    let b = bars (a .largest) (a .count) (c .before .before .before .before .before .before .before .before .before .before .before .before .before .before .before .pre .0) in
+    let a = c .before .before .before .before .before .before .before .before .before .before .before .before .before .before .before .before .args in
+    let b = bars (a .largest) (a .count) (c .before .before .before .before .before .before .before .before .before .before .before .before .before .before .before .before .pre .0) in
     let s = put-same (c .before .before .before .before .before .before .before .before .before .before .before .before .put-right .ensures .0) in
     let t = put-same (c .before .before .before .before .before .before .before .before .put-right2 .ensures .0) in
     let u = put-same (c .before .before .before .put-bar .ensures .0) in
-    omega (arith, c .before .before .before .before .before .marks-of .ensures, b .short, s, t, u, c .before .before .before .before .before .before .before .before .before .before .before .before .put-right .ensures .1, c .before .before .before .before .before .before .before .before .put-right2 .ensures .1, c .before .before .before .put-bar .ensures .1, c .before .before .before .before .before .before .before .before .before .before .before .before .before .before .before .pre .1)
+    omega (arith, c .before .before .before .before .before .marks-of .ensures, b .short, s, t, u, c .before .before .before .before .before .before .before .before .before .before .before .before .put-right .ensures .1, c .before .before .before .before .before .before .before .before .put-right2 .ensures .1, c .before .before .before .put-bar .ensures .1, c .before .before .before .before .before .before .before .before .before .before .before .before .before .before .before .before .pre .1)
 
 returns : tie.Need-returns
 unfolding sectorText
 returns c =
-    let a = c .before .before .before .before .before .before .before .before .before .before .before .before .before .before .before .before .before .before .args in
-    let b = bars (a .largest) (a .count) (c .before .before .before .before .before .before .before .before .before .before .before .before .before .before .before .before .before .before .pre .0) in
+    let a = c .before .before .before .before .before .before .before .before .before .before .before .before .before .before .before .before .before .before .before .args in
+    let b = bars (a .largest) (a .count) (c .before .before .before .before .before .before .before .before .before .before .before .before .before .before .before .before .before .before .before .pre .0) in
     let sector = c .before .before .before .before .before .before .before .before .before .before .before .before .before .before .before .put-right .ensures in
     let count = c .before .before .before .before .before .before .before .before .before .before .before .put-right2 .ensures in
     let bar = c .before .before .before .before .before .before .put-bar .ensures in
@@ -42,6 +42,7 @@ pub put-sector-spec : {M : Type 1} → statement M
 put-sector-spec =
     tie.close
     (tie.spec
+    (λ c. search needs)
     (λ c κs. search needs)
     (λ c κs. search needs)
     (λ c κs. search needs)

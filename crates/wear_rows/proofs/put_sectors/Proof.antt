@@ -11,21 +11,24 @@ use Rattle.wear_rows.proofs.put_sectors.Statement.{statement}
 use Rattle.wear_rows.proofs.put_sectors.Tie as tie
 
 abbrev Inv-loop : tie.InvT-loop
-Inv-loop wear largest out₀ at next₀ sector₀ out next sector = (sector ≤ length wear) × Listed largest wear out₀ at sector out next
+Inv-loop wear largest out₀ at next₀ k₀ out next k = (k ≤ length wear) × Listed largest wear out₀ at k out next
 
 abbrev μ-loop : tie.MeasureT-loop
-μ-loop wear largest out₀ at next₀ sector₀ out next sector = length wear - sector
+μ-loop wear largest out₀ at next₀ k₀ out next k = length wear - k
 
 loop-holds : tie.Need-loop-holds Inv-loop μ-loop
 loop-holds c = let a = c .before .before .args in (omega arith, listed-none (a .largest) (a .wear .now) (a .out .now) (a .at) (omega arith))
+
+cast-number : tie.Need-cast-t9 Inv-loop μ-loop
+cast-number c = omega (arith, c .loop-test .taken, c .before .before .before .before .pre .1)
 
 put-sector-requires : tie.Need-put-sector-requires Inv-loop μ-loop
 put-sector-requires c κs =
     let a = c .before .before .before .before .before .before .args in
     let h = c .before .before .before .loop in
-    let m = at-most (a .wear .now) (h .sector) (omega (arith, c .before .before .loop-test .taken)) in
+    let m = at-most (a .wear .now) (h .k) (omega (arith, c .before .before .loop-test .taken)) in
     let s = put-same (h .inv .1 .put) in
-    (omega (arith, m, c .before .before .before .before .before .before .pre .0), omega (arith, s, c .before .before .loop-test .taken, h .inv .1 .most, c .before .before .before .before .before .before .pre .1))
+    (omega (arith, m, c .before .before .before .before .before .before .pre .0), omega (arith, s, c .before .before .loop-test .taken, h .inv .1 .most, c .before .before .before .before .before .before .pre .2))
 
 loop-again : tie.Need-loop-again Inv-loop μ-loop
 loop-again c = (omega (arith, c .before .before .before .before .before .loop-test .taken), listed-more (c .before .before .before .before .before .before .loop .inv .1) (omega (arith, c .before .before .before .before .before .loop-test .taken)) (c .before .before .put-sector .ensures .0) (c .before .before .put-sector .ensures .1))
@@ -45,6 +48,7 @@ put-sectors-spec =
     Inv-loop
     μ-loop
     loop-holds
+    cast-number
     (λ c. search needs)
     (λ c. search needs)
     put-sector-requires

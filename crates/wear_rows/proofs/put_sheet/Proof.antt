@@ -35,8 +35,9 @@ put-sectors-requires : tie.Need-put-sectors-requires
 put-sectors-requires c κs =
     let a = c .before .before .before .before .before .before .before .before .before .before .before .before .before .args in
     let room : a .at + sheetRoom (length (a .wear .now)) ≤ length (a .out .now) = leb-true _ _ (sym (c .before .before .before .before .before .before .before .before .fits2 .ensures) ∙ not-false _ (c .before .before .before .before .before .before .before .if2 .left)) in
+    let n = sectors-range (length (a .wear .now)) (sym (c .before .before .before .before .before .before .before .before .before .before .is-sectors .ensures) ∙ not-false _ (c .before .before .before .before .before .before .before .before .before .if1 .left)) in
     let p = c .before .before .before .put-all .ensures in
-    (ap (λ (z : Figures). z .largest) (c .before .before .before .before .before .before .report .ensures) ∙ said-largest (a .wear .now) (sym (c .before .before .before .before .before .before .before .before .before .before .is-sectors .ensures) ∙ not-false _ (c .before .before .before .before .before .before .before .before .before .if1 .left)), omega (arith, p .next, put-same p))
+    (ap (λ (z : Figures). z .largest) (c .before .before .before .before .before .before .report .ensures) ∙ said-largest (a .wear .now) (sym (c .before .before .before .before .before .before .before .before .before .before .is-sectors .ensures) ∙ not-false _ (c .before .before .before .before .before .before .before .before .before .if1 .left)), n .1, omega (arith, p .next, put-same p))
 
 put-sums-requires : tie.Need-put-sums-requires
 put-sums-requires c κs =

@@ -10,14 +10,14 @@ use Rattle.wear_rows.proofs.put_sums.Tie as tie
 returns : tie.Need-returns
 unfolding sumsText
 returns c =
-    let f = c .before .before .before .before .before .before .before .before .before .before .before .before .before .before .before .before .before .before .before .before .before .before .before .before .args .f in
-    let total = c .before .before .before .before .before .before .before .before .before .before .before .before .before .before .before .before .before .before .before .before .put-said .ensures in
-    let smallest = c .before .before .before .before .before .before .before .before .before .before .before .before .before .before .put-said2 .ensures in
-    let largest = c .before .before .before .before .before .before .before .before .put-said3 .ensures in
+    let f = c .before .before .before .before .before .before .before .before .before .before .before .before .before .before .before .before .before .before .before .before .before .before .before .before .before .args .f in
+    let total = c .before .before .before .before .before .before .before .before .before .before .before .before .before .before .before .before .before .before .before .before .before .put-said .ensures in
+    let smallest = c .before .before .before .before .before .before .before .before .before .before .before .before .before .before .before .put-said2 .ensures in
+    let largest = c .before .before .before .before .before .before .before .before .before .put-said3 .ensures in
     let sector = c .before .before .put-said4 .ensures in
     let first = said-next (ascii "\nsmallest ") (decimalText (f .smallest)) (total .0) (smallest .0) in
     let second = said-next (ascii "\nlargest ") (decimalText (f .largest)) first (largest .0) in
-    (said-next (ascii ", first in sector ") (decimalText (f .sector)) second (sector .0), omega (arith, total .1, smallest .1, largest .1, sector .1))
+    (said-next (ascii ", first in sector ") (decimalText (f .sector .0)) second (sector .0), omega (arith, total .1, smallest .1, largest .1, sector .1))
 
 pub put-sums-spec : {M : Type 1} → statement M
 put-sums-spec =
