@@ -7,7 +7,7 @@ program of the project is asked. Run it from the project's root.
 SECTOR = 4096
 SECTORS = 16
 LONGEST = 50  # marks of a bar
-TIMES = {0x20: 120000, 0x52: 2000000, 0xD8: 2000000, 0x60: 2000000, 0xC7: 2000000}  # of the erases, model 1: 000 L523-525
+TIMES = {0x20: 120000, 0xD8: 2000000, 0x60: 2000000, 0xC7: 2000000}  # of the erases, model 1: 000 L523-525
 
 
 def bar(count, largest):
@@ -57,7 +57,7 @@ def worn():
         for _ in range(times):
             s.erase(0x20, sector * SECTOR + 0x123)
     s.erase(0xD8, 0x8000)
-    s.erase(0x52, 0xFFFFFF)
+    s.erase(0xD8, 0xFFFFFF)
     s.erase(0xC7)
     s.erase(0x60)
     refused(s)
@@ -66,6 +66,7 @@ def worn():
 
 def refused(s):
     s.frame(b"\x20\x00\x00\x00")  # 15: WEL is 0
+    s.frame(b"\x52\x00\x00\x00")  # 21: withdrawn
     s.frame(b"\x06")
     s.frame(b"\x20\x00\x00\x00", tail=1)  # 14
     s.frame(b"\x02\x00\x00\x00\xA5")  # a program counts nothing

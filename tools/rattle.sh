@@ -2,13 +2,14 @@
 # Asks the toolchain for what a command runs; what is up to date is not proved again.
 #   tools/rattle.sh COMMAND runner     target/bin/runner
 #   tools/rattle.sh COMMAND wear       target/bin/wear
+#   tools/rattle.sh COMMAND run_rewrite   target/bin/run_rewrite
 #   tools/rattle.sh COMMAND archive    target/staticlib/libpod.a
 # COMMAND is who asks. Which crates are proved, and how many are left, goes to standard error as it comes.
 set -u
 cd "$(dirname "$0")/.." || exit 2
 command=$1
 case $2 in
-runner | wear) crate=$2 made=target/bin/$2 ask="rt check $2" ;;
+runner | wear | run_rewrite) crate=$2 made=target/bin/$2 ask="rt check $2" ;;
 archive) crate=pod made=target/staticlib/libpod.a ask="rt staticlib pod" ;;
 *) echo "tools/rattle.sh: there is nothing of the name $2" >&2; exit 2 ;;
 esac

@@ -40,6 +40,7 @@ if rt staticlib pod; then
     count host/test.sh
     count scripts/test.sh
     count tools/commands.sh
+    count tools/rewrite_test.sh
     count makers/test.sh
     count tools/host.sh python -B tools/names.py
 else

@@ -103,6 +103,7 @@ static const struct row rows[] = {
     {"refused 11, busy", 1, 3, 0, 5000, FRAME, {0x03}, 4 + 16, 0, 1, 11, NONE, 0, "-", SHORT},
     {"refused 12, asleep", 1, 0, 1, 0, FRAME, {0x03}, 4 + 16, 0, 1, 12, NONE, 0, "-", SHORT},
     {"refused 13, unknown", 1, 0, 0, 0, FRAME, {0x5A}, 4 + 16, 0, 1, 13, NONE, 0, "-", SHORT},
+    {"refused 21, withdrawn", 1, 2, 0, 0, FRAME, {0x52, 0, 0x12, 0x34}, 4, 0, 1, 21, NONE, 0, "-", SHORT},
     {"refused 14, length", 1, 2, 0, 0, FRAME, {0x20}, 5, 0, 1, 14, NONE, 0, "-", SHORT},
     {"refused 15, WEL 0", 1, 0, 0, 0, FRAME, {0x02}, 4 + 256, 0, 1, 15, NONE, 0, "-", SHORT},
     {"refused 16, SRWD", 1, 0x82, 0, 0, FRAME, {0x01, 0}, 2, 0, 0, 16, NONE, 0, "-", SHORT},

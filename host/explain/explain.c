@@ -118,12 +118,14 @@ static void show_line(unsigned long number, struct text line)
     printf("%5lu  %-*s", number, SCRIPT_WIDTH, shown);
 }
 
-/* The answer in words, the bytes that were driven, and a fold. */
+/* The answer in words, the way out of 21, the bytes that were driven, and a fold. */
 static void show_answer(const struct row *row)
 {
     char shown[DIGITS + 4];
 
     printf("  %2lu  %s", row->answer, gwo_text((uint32_t)row->answer));
+    if (row->answer == GWO_WITHDRAWN)
+        printf(": in the place of 52 send D8 (make rewrite SCRIPT=FILE puts it there)");
     if (row->bytes.n > 1) {
         int whole = readable(row->bytes, DIGITS, shown);
 

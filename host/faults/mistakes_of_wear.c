@@ -11,8 +11,8 @@ static struct sectors covered_by(const struct call *c)
     struct operation o = {.command = NO_COMMAND};
     struct sectors s = {0, 0};
 
-    if (c->wear_len != gwo_sector_count(c->record.model) || c->array_len != gwo_array_length(c->record.model) ||
-        c->frame_len == 0 || (c->frame_len < 4 && c->frame[0] != 0x60 && c->frame[0] != 0xC7))
+    if (c->array_len == 0 || c->array_len != gwo_array_length(c->record.model) ||
+        c->wear_len != gwo_sector_count(c->record.model) || c->frame_len == 0 || (c->frame_len < 4 && c->frame[0] != 0x60 && c->frame[0] != 0xC7))
         return s;
     o.command = c->frame[0];
     o.place = c->frame_len < 4 ? 0 : address_in(c);

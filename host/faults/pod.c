@@ -88,7 +88,7 @@ uint32_t unit_length(const struct call *c, const struct operation *o)
     switch (o->command) {
     case 0x02: return PAGE;
     case 0x20: return GWO_SECTOR_LENGTH;
-    case 0x52: return c->record.model == 3 ? GWO_HALF_BLOCK_LENGTH : GWO_BLOCK_LENGTH;
+    case 0x52: return c->record.model == 3 ? GWO_HALF_BLOCK_LENGTH : 0;
     case 0xD8: return GWO_BLOCK_LENGTH;
     case 0x60: case 0xC7: return (uint32_t)c->array_len;
     default: return 0;
@@ -106,7 +106,7 @@ uint8_t *unit_cells(const struct call *c, const struct operation *o)
 static const struct { const struct pod *pods; int n; } books[] = {
     {mistakes, MISTAKES}, {mistakes_of_model_3, MISTAKES_OF_MODEL_3}, {mistakes_of_fold, MISTAKES_OF_FOLD},
     {mistakes_of_sleep, MISTAKES_OF_SLEEP}, {mistakes_of_cut, MISTAKES_OF_CUT}, {mistakes_of_wear, MISTAKES_OF_WEAR},
-    {mistakes_of_strict, MISTAKES_OF_STRICT}};
+    {mistakes_of_strict, MISTAKES_OF_STRICT}, {mistakes_of_withdrawn, MISTAKES_OF_WITHDRAWN}};
 
 static const struct pod *choose_pod(void)
 {

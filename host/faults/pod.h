@@ -35,13 +35,14 @@ struct pod {
 
 /*
  * 1 to 11; those of model 3, from 12 on; of the fold, from 21 on; of sleep, from 26 on; of a cut, from 31 on; of wear,
- * from 36 on; and of strict, from 47 on.
+ * from 36 on; of strict, from 47 on; and of 52 withdrawn, from 56 on.
  */
 enum { MISTAKES = 11, MISTAKES_OF_MODEL_3 = 9, MISTAKES_OF_FOLD = 5, MISTAKES_OF_SLEEP = 5, MISTAKES_OF_CUT = 5,
-       MISTAKES_OF_WEAR = 11, MISTAKES_OF_STRICT = 9 };
+       MISTAKES_OF_WEAR = 11, MISTAKES_OF_STRICT = 9, MISTAKES_OF_WITHDRAWN = 7 };
 extern const struct pod mistakes[MISTAKES], mistakes_of_model_3[MISTAKES_OF_MODEL_3],
     mistakes_of_fold[MISTAKES_OF_FOLD], mistakes_of_sleep[MISTAKES_OF_SLEEP], mistakes_of_cut[MISTAKES_OF_CUT],
-    mistakes_of_wear[MISTAKES_OF_WEAR], mistakes_of_strict[MISTAKES_OF_STRICT];
+    mistakes_of_wear[MISTAKES_OF_WEAR], mistakes_of_strict[MISTAKES_OF_STRICT],
+    mistakes_of_withdrawn[MISTAKES_OF_WITHDRAWN];
 
 /* Without a fault. */
 answers right_frame, right_wait, right_power_cycle, right_cut, right_report;

@@ -143,5 +143,12 @@ fault 52 "strict looks into the next page" "rules:strict programs" compare
 fault 53 "19 comes before 17" "rules:strict programs" "rules:refused in order" compare
 fault 54 "only the number 1 is strict" "rules:strict programs" compare
 fault 55 "strict is never off" "rules:strict programs" rules:programming compare example
+fault 56 "52 still erases a block on models 1 and 2" "rules:refused by command" "rules:lengths and tails" rules:erasing "rules:packed states" "rules:bench sheet" compare
+fault 57 "52 is 13 on models 1 and 2" "rules:refused by command" "rules:refused in order" rules:erasing "rules:bench sheet" compare
+fault 58 "52 is withdrawn on model 3 too" rules:erasing "rules:lengths and tails" "rules:wear counts" "rules:bench sheet" compare
+fault 59 "21 comes after 14" "rules:refused by command" "rules:refused in order" "rules:lengths and tails" "rules:bench sheet" compare
+fault 60 "21 comes before 12" "rules:refused by command" "rules:refused in order" compare
+fault 61 "a 52 that an older program has started is brought to its end" "rules:packed states" "rules:bench sheet" compare
+fault 62 "21 clears WEL" "rules:refused by command" rules:erasing "rules:bench sheet" compare
 echo "$passed passed, $failed failed"
 [ $failed -eq 0 ]

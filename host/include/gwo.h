@@ -53,7 +53,7 @@ extern "C" {
 #define GWO_FRAME_LIMIT 65541u  /* the longest frame */
 #define GWO_PAGE_LENGTH 256u
 #define GWO_SECTOR_LENGTH 4096u
-#define GWO_HALF_BLOCK_LENGTH 32768u /* erased by 52 on model 3; on models 1 and 2 it erases a block */
+#define GWO_HALF_BLOCK_LENGTH 32768u /* erased by 52 on model 3; on models 1 and 2 it is withdrawn: 21 */
 #define GWO_BLOCK_LENGTH 65536u
 #define GWO_MODEL_1_LENGTH 65536u    /* the array of the KH25L512 */
 #define GWO_MODEL_2_LENGTH 262144u   /* the array of the KH25L2006E */
@@ -81,6 +81,8 @@ enum gwo_number {
     GWO_BUSY = 11,          /* busy, and the command isn't 05, nor 15 on model 3; or a power cycle while busy */
     GWO_ASLEEP = 12,        /* in deep power-down, and the command isn't AB */
     GWO_UNKNOWN = 13,       /* no command of this chip: 15 is one on model 3 only */
+    GWO_WITHDRAWN = 21,     /* 52 on models 1 and 2, whatever its length and tail, with the write enable latch 0
+                               or 1: it is not taken there any more; D8 erases the block */
     GWO_BAD_LENGTH = 14,    /* length or tail not allowed for the command */
     GWO_NOT_ENABLED = 15,   /* a write, program or erase with the write enable latch 0 */
     GWO_STATUS_LOCKED = 16, /* status write with SRWD 1 and WP# low */
@@ -108,6 +110,7 @@ static inline const char *gwo_text(uint32_t number)
     case GWO_BUSY: return "busy";
     case GWO_ASLEEP: return "in deep power-down";
     case GWO_UNKNOWN: return "unknown command";
+    case GWO_WITHDRAWN: return "command withdrawn on this chip";
     case GWO_BAD_LENGTH: return "length or tail not allowed for the command";
     case GWO_NOT_ENABLED: return "write enable latch not set";
     case GWO_STATUS_LOCKED: return "status register locked by SRWD and WP#";
@@ -141,9 +144,8 @@ static inline void gwo_factory_state(uint8_t *state)
  * more than 256. It is 0 for every other frame.
  *
  * wear has wear_len counts, one for each sector: 16, 64 or 4,096. Where the frame starts an erase each sector that
- * it covers is counted: 1 by 20; 16 by D8, and by 52 on models 1 and 2; 8 by 52 on model 3; all by 60 and C7. An
- * erase is refused (25), and nothing is counted, when one of these counts could not rise. No other frame looks at
- * the counts.
+ * it covers is counted: 1 by 20; 16 by D8; 8 by 52, which only model 3 takes; all by 60 and C7. An erase is
+ * refused (25), and nothing is counted, when one of these counts could not rise. No other frame looks at the counts.
  *
  * strict 0 is off, any other number on. Off, a program clears bits of whatever the cells hold, as the chip does. On,
  * it is refused (19) unless every cell that it reaches will hold the byte that counts for it, which is the last one

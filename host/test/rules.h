@@ -6,21 +6,21 @@
 
 void refused_before_the_command(void); /* Numbers returned: 1, 2, 4, 5, 10 */
 void packed_states(void);              /* 3 */
-void refused_by_command(void);         /* 22, 11 to 13, and 15 to 17 */
+void refused_by_command(void);         /* 22, 11 to 13, 21, and 15 to 17 */
 void refused_in_order(void);           /* the first that applies is given */
 void lengths_and_tails(void);          /* 14, and every allowed length with its effect */
 void state_commands(void);             /* 06, 04, B9, AB, 05, 01 */
 void falling_asleep_and_waking(void);  /* B9 and AB: how long a chip settles, and what it answers meanwhile */
 void configuration(void);              /* 15, 01 with two data bytes, and TB, which is never cleared */
 void reading_commands(void);           /* 03, 0B, 9F, AB, 90 */
-void erasing(void);                    /* 20, 52, D8, 60, C7 */
+void erasing(void);                    /* 20, D8, 60, C7; 52 on model 3, and withdrawn */
 void protected_areas(void);            /* what BP and TB protect */
 void programming(void);                /* 02: fold, AND, the last byte counts */
 void strict_programs(void);            /* 02 of cells that would not hold the bytes, where that is refused: 19 */
 void folds(void);                      /* a program that ran past its page's end is said so */
 void time_and_power(void);             /* wait and power cycle */
-void operations(void);                 /* 01, 02, 20, 52, D8, 60, C7: remembered, and done when the time has run out */
-void wear_counts(void);                /* 20, 52, D8, 60, C7: the sectors that they cover are counted; 24 and 25 */
+void operations(void);                 /* 01, 02, 20, D8, 60, C7, on model 3 52: remembered, and done when the time is out */
+void wear_counts(void);                /* 20, D8, 60, C7, on model 3 52: the sectors that they cover are counted; 24, 25 */
 void wear_reports(void);               /* what a wear table comes to */
 void cuts(void);                       /* what a cut leaves of each of them, and of a chip that runs none */
 void bench_sheet(void);                /* 01's cases, and model 3's */
@@ -30,8 +30,8 @@ enum { HALF = 5, SLEEP, WAKE, SIGN, TIMES };
 uint32_t *time_field(int which);
 int time_counts(uint32_t model, int which);
 
-/* The operations by number; the last, 01 with two data bytes, is model 3's. */
-enum { OPERATIONS = 8 };
+/* The operations by number; the last two, 52 and 01 with two data bytes, are model 3's. */
+enum { CHIP_60 = 4, CHIP_C7, HALF_BLOCK_52, TWO_BYTES, OPERATIONS };
 unsigned operations_of(uint32_t model);
 
 /* Whether it is 16 MiB that it changes: these take their time, so there are few of them. */

@@ -1,10 +1,13 @@
-/* 01, Numbers returned: 22, 11 to 13 and 15 to 17; and what model 3 changes of them. */
+/* 01, Numbers returned: 22, 11 to 13, 21 and 15 to 17; and what model 3 changes of them. */
 #include "jig.h"
 #include "rules.h"
 
 #include <string.h>
 
-/* The sixteen commands of 01's list, and on model 3 the configuration read; 3B and 5A are not among them. */
+/*
+ * The sixteen commands of 01's list, 52 also where it is withdrawn, and on model 3 the configuration read; 3B and 5A are
+ * not among them.
+ */
 static int known(uint32_t model, unsigned command)
 {
     static const uint8_t list[] = {0x01, 0x02, 0x03, 0x04, 0x05, 0x06, 0x0B, 0x20,
@@ -114,12 +117,35 @@ static void number_13(uint32_t model)
     }
 }
 
-/* WEL 0: the seven commands, whatever SRWD, WP# and BP are; the last frame is model 3's. */
+/* 52 on models 1 and 2: whatever its length and tail, the latch, SRWD, WP# and BP, the setting and the counts. */
+static void number_21(uint32_t model)
+{
+    static const size_t lengths[] = {1, 2, 3, 4, 5, 6, 260, LONGEST_FRAME};
+    unsigned k;
+    size_t i;
+
+    for (i = 0; i < sizeof lengths / sizeof lengths[0]; i++) {
+        for (k = 0; k < 256; k++) {
+            const struct condition c = {k % 2, k / 4 % 4, k / 2 % 2, 0, 0, 0, 0};
+
+            jig_model(model);
+            jig_state(c);
+            jig_filled(0x52, lengths[i], (uint8_t)(k * 37));
+            jig_wear(0, (uint32_t)given.wear_len, k / 16 % 2 ? GWO_WEAR_TOP : k);
+            given.tail = k / 32;
+            given.wp = (k + k / 2) % 2;
+            given.strict = k / 16 % 2;
+            frame_gives(21, byte_of("withdrawn", model, 0x52, lengths[i], given.tail));
+        }
+    }
+}
+
+/* WEL 0: the seven commands, whatever SRWD, WP# and BP are; the last two frames are model 3's. */
 static void number_15(uint32_t model)
 {
     static const char *const frames[] = {"0100", "01FF", "0200000000", "02FFFFFF0102", "20000000", "20FFFFFF",
-                                         "52000000", "D8000000", "60", "C7", "01FFFF"};
-    size_t i, n = sizeof frames / sizeof frames[0] - (model == 3 ? 0 : 1);
+                                         "D8000000", "60", "C7", "52000000", "01FFFF"};
+    size_t i, n = sizeof frames / sizeof frames[0] - (model == 3 ? 0 : 2);
     unsigned k;
 
     for (i = 0; i < n; i++) {
@@ -172,7 +198,7 @@ static void number_17(uint32_t model, unsigned config, const char *const frames[
     size_t i;
     unsigned k;
 
-    for (i = 0; i < 8; i++) {
+    for (i = 0; i < (model == 3 ? 8 : 7); i++) {
         for (k = 0; k < 4 * part_of(model)->highest_bp; k++) {
             const struct condition c = {k % 2, 1 + k / 4, 1, 0, 0, config, 0};
 
@@ -187,11 +213,11 @@ static void number_17(uint32_t model, unsigned config, const char *const frames[
     }
 }
 
-/* The highest block is protected by every BP but 0; with TB it is the lowest. */
-static const char *const at_the_top[8] = {"02FF000000", "02FFFFFF0102", "20FF0000", "20FFFFFF", "52FF0000", "D8FFFFFF",
-                                          "60", "C7"};
-static const char *const at_the_bottom[8] = {"0200000000", "0200FFFF0102", "20000000", "2000FFFF", "5200FFFF",
-                                             "D8000000", "60", "C7"};
+/* The highest block is protected by every BP but 0; with TB it is the lowest. The last frame is model 3's. */
+static const char *const at_the_top[8] = {"02FF000000", "02FFFFFF0102", "20FF0000", "20FFFFFF", "D8FFFFFF", "60", "C7",
+                                          "52FF0000"};
+static const char *const at_the_bottom[8] = {"0200000000", "0200FFFF0102", "20000000", "2000FFFF", "D8000000", "60",
+                                             "C7", "5200FFFF"};
 
 void refused_by_command(void)
 {
@@ -205,6 +231,8 @@ void refused_by_command(void)
         status_while_busy(model);
         number_12(model);
         number_13(model);
+        if (model != 3)
+            number_21(model);
         number_15(model);
         number_16(model, "0104", bp_1);
         number_17(model, 0, at_the_top);

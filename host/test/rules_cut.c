@@ -139,8 +139,8 @@ static void whole_chip_of_model_3(void)
 {
     const struct condition c = {1, 15, 1, 0, bench(3).chip_us, TB, 0};
 
-    cut_at(3, c, 5, 0, ANY);
-    cut_at(3, c, 6, 0, OTHER);
+    cut_at(3, c, CHIP_60, 0, ANY);
+    cut_at(3, c, CHIP_C7, 0, OTHER);
 }
 
 /* A pattern of the old cells, the same as no operation; one of the new cells, the same as the finished one. */

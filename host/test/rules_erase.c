@@ -1,4 +1,4 @@
-/* 01, Commands: 20, 52, D8, 60 and C7; 52 erases a half block on model 3. */
+/* 01, Commands: 20, D8, 60 and C7; 52 erases a half block on model 3, and nothing on the others. */
 #include "jig.h"
 #include "rules.h"
 
@@ -27,6 +27,18 @@ void write_at(uint32_t model, struct condition c, uint8_t command, uint32_t addr
     completes(c, label);
 }
 
+/* 52 on models 1 and 2: it is withdrawn, whatever is protected, and the latch stays. */
+static void withdrawn_at(uint32_t model, struct condition c, uint32_t address)
+{
+    jig_model(model);
+    jig_state(c);
+    jig_addressed(0x52, address, 0, 0x00);
+    given.wp = address % 2;
+    frame_gives(21, named("model %lu, BP %u: 52 at %06lX", (unsigned long)model, c.bp, (unsigned long)address));
+    jig_next();
+    wait_gives(0xFFFFFFFF, 0, "a wait after it");
+}
+
 /* Both ends of every sector, in the array and in its images above it. */
 static void every_sector(uint32_t model, unsigned bp)
 {
@@ -42,7 +54,8 @@ static void every_sector(uint32_t model, unsigned bp)
                 first -= size;
             write_at(model, c, 0x20, first);
             write_at(model, c, 0x20, first + SECTOR - 1);
-            write_at(model, c, sector % 2 ? 0x52 : 0xD8, first + sector * 16);
+            write_at(model, c, 0xD8, first + sector * 16);
+            withdrawn_at(model, c, first + sector * 16);
         }
     }
 }

@@ -113,7 +113,9 @@ static uint32_t want_other(uint32_t model, uint8_t command)
             return 13;
         want_repeated(1, "00");
         return 0;
-    case 0x01: case 0x04: case 0x06: case 0x20: case 0x52: case 0x60: case 0xB9: case 0xC7: case 0xD8:
+    case 0x52:
+        return model == 3 ? 14 : 21;
+    case 0x01: case 0x04: case 0x06: case 0x20: case 0x60: case 0xB9: case 0xC7: case 0xD8:
         return 14;
     default:
         return 13;

@@ -33,7 +33,7 @@ static const struct row rows[] = {
     {0x03, EVERY_MODEL, 4, END, ANY, 4, CELLS, 1, 0},
     {0x0B, EVERY_MODEL, 5, END, ANY, 5, CELLS, 1, 0},
     {0x20, EVERY_MODEL, 4, 4, NO_TAIL, 0, NOTHING, 1, 0},
-    {0x52, EVERY_MODEL, 4, 4, NO_TAIL, 0, NOTHING, 1, 0},
+    {0x52, LARGE, 4, 4, NO_TAIL, 0, NOTHING, 1, 0},
     {0xD8, EVERY_MODEL, 4, 4, NO_TAIL, 0, NOTHING, 1, 0},
     {0x02, EVERY_MODEL, 5, END, NO_TAIL, 0, NOTHING, 1, 0},
     {0x9F, EVERY_MODEL, 1, END, ANY, 1, ID, 1, 0},
@@ -48,12 +48,12 @@ static int is_for(const struct row *r, uint32_t model, uint8_t command)
     return r->command == command && (r->on == EVERY_MODEL || (r->on == LARGE) == (model == 3));
 }
 
-/* The row that takes the frame, or none and the number that refuses it. */
+/* The row that takes the frame, or none and the number that refuses it; 52 of the others is withdrawn. */
 static const struct row *row_for(uint32_t model, uint8_t command, size_t length, uint32_t tail, uint32_t *number)
 {
     size_t i;
 
-    *number = 13;
+    *number = command == 0x52 ? 21 : 13;
     for (i = 0; i < ROWS; i++) {
         if (!is_for(&rows[i], model, command))
             continue;

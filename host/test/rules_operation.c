@@ -1,6 +1,6 @@
 /*
- * 01, 02, 20, 52, D8, 60 and C7 from their frame to their end: what the state remembers of each, that nothing is
- * changed or shown before the last microsecond, and that nothing is remembered after it.
+ * 01, 02, 20, D8, 60 and C7, and 52 of model 3, from their frame to their end: what the state remembers of each, that
+ * nothing is changed or shown before the last microsecond, and that nothing is remembered after it.
  */
 #include "jig.h"
 #include "rules.h"
@@ -8,12 +8,11 @@
 #include <stdio.h>
 #include <string.h>
 
-enum { CHIP_60 = 5, CHIP_C7, TWO_BYTES };
-static const uint8_t commands[OPERATIONS] = {0x01, 0x02, 0x20, 0x52, 0xD8, 0x60, 0xC7, 0x01};
+static const uint8_t commands[OPERATIONS] = {0x01, 0x02, 0x20, 0xD8, 0x60, 0xC7, 0x52, 0x01};
 
 unsigned operations_of(uint32_t model)
 {
-    return model == 3 ? OPERATIONS : OPERATIONS - 1;
+    return model == 3 ? OPERATIONS : HALF_BLOCK_52;
 }
 
 int takes_long(uint32_t model, unsigned operation)

@@ -7,26 +7,32 @@
 /* What makes a number apply, one bit each; a call is refused by the first that applies. */
 enum {
     RECORD = 1, ARRAY = 2, WEAR = 4, STATE = 8, FRAME = 16, OUTPUT = 32, EMPTY = 64, SETTLING = 128, BUSY = 256,
-    ASLEEP = 512, UNKNOWN = 1024, LENGTH = 2048, NOT_ENABLED = 4096, LOCKED = 8192, LAST = 16384, EVERY = 32767
+    ASLEEP = 512, UNKNOWN = 1024, WITHDRAWN = 2048, LENGTH = 4096, NOT_ENABLED = 8192, LOCKED = 16384, LAST = 32768,
+    EVERY = 65535
 };
 
 /* What a cut looks at besides: its pattern's length. */
-enum { PATTERN = 32768 };
+enum { PATTERN = 65536 };
 
 /* LOCKED and LAST have the command's own numbers: 19 and 25 come last, and no command can be answered both. */
 static const struct rung { unsigned fault; uint32_t number; } ladder[] = {
     {RECORD, 1}, {ARRAY, 2}, {WEAR, 24}, {STATE, 3}, {FRAME, 4}, {OUTPUT, 5}, {EMPTY, 10}, {SETTLING, 22},
-    {BUSY, 11}, {ASLEEP, 12}, {UNKNOWN, 13}, {LENGTH, 14}, {NOT_ENABLED, 15}, {LOCKED, 0}, {LAST, 0}, {0, 0}};
+    {BUSY, 11}, {ASLEEP, 12}, {UNKNOWN, 13}, {WITHDRAWN, 21}, {LENGTH, 14}, {NOT_ENABLED, 15}, {LOCKED, 0}, {LAST, 0},
+    {0, 0}};
 
 /* The same for the calls without a frame. */
 static const struct rung of_waits[] = {{RECORD, 1}, {ARRAY, 2}, {STATE, 3}, {0, 0}},
                          of_cuts[] = {{RECORD, 1}, {ARRAY, 2}, {STATE, 3}, {PATTERN, 23}, {0, 0}},
                          of_power_cycles[] = {{RECORD, 1}, {STATE, 3}, {BUSY, 11}, {0, 0}};
 
-/* Faults that no call has together: a busy chip is enabled, awake and settled, or else the state is no valid one. */
+/*
+ * Faults that no call has together: a busy chip is enabled, awake and settled, or else the state is no valid one; an
+ * unknown command is not withdrawn.
+ */
 static int together(unsigned faults)
 {
-    return !((faults & BUSY) && (faults & (SETTLING | ASLEEP | NOT_ENABLED)));
+    return !((faults & BUSY) && (faults & (SETTLING | ASLEEP | NOT_ENABLED))) &&
+           (faults & (UNKNOWN | WITHDRAWN)) != (UNKNOWN | WITHDRAWN);
 }
 
 /* The commands that can be locked: last of all a program may find cells that are not erased, an erase a full count. */
@@ -35,7 +41,16 @@ struct lockable {
     uint32_t when_locked, at_last;
 };
 static const struct lockable lockable[] = {{"0100", 16, 0}, {"02000000FF", 17, 19}, {"20000000", 17, 25},
-                                           {"52000000", 17, 25}, {"D8000000", 17, 25}, {"60", 17, 25}, {"C7", 17, 25}};
+                                           {"D8000000", 17, 25}, {"60", 17, 25}, {"C7", 17, 25}, {"52000000", 17, 25}};
+enum { COMMANDS = sizeof lockable / sizeof lockable[0], ERASE_52 = COMMANDS - 1 };
+
+/* The models by turns; 52 can be locked on model 3 alone, and is withdrawn on the others alone. */
+static uint32_t model_for(size_t command, unsigned faults)
+{
+    uint32_t turn = faults / 4 + (uint32_t)command / 2;
+
+    return command == ERASE_52 ? 3 : 1 + turn % (faults & WITHDRAWN ? 2 : MODELS);
+}
 
 /* The number: of the first fault; 16, 17, 19 or 25, by the command, when there is none before LOCKED and LAST. */
 static uint32_t first_of(const struct rung *rung, unsigned faults, const struct lockable *command)
@@ -57,6 +72,8 @@ static void spoil_frame(unsigned faults, unsigned variant)
 {
     if (faults & UNKNOWN)
         given.frame[0] = variant % 2 ? 0x3B : 0x5A;
+    if (faults & WITHDRAWN)
+        given.frame[0] = 0x52;
     if (faults & LENGTH) {
         if (variant % 2)
             given.tail = 1;
@@ -107,11 +124,11 @@ static void spoil_lent(uint32_t model, unsigned faults, unsigned variant)
 }
 
 /* An empty frame has no output that is too short; a frame that is too long is not empty. */
-static int possible(unsigned faults, unsigned variant)
+static int possible(size_t command, unsigned faults, unsigned variant)
 {
     int empty = (faults & EMPTY) != 0 && !too_long(faults, variant);
 
-    return together(faults) && !(empty && (faults & OUTPUT));
+    return together(faults) && !(empty && (faults & OUTPUT)) && !(command == ERASE_52 && (faults & WITHDRAWN));
 }
 
 static void refused(uint32_t model, size_t command, unsigned faults, unsigned variant)
@@ -189,7 +206,7 @@ static void without_a_frame(uint32_t model)
         }
 }
 
-/* Every set of faults that a call can have, on each of the seven commands, the models by turns. */
+/* Every set of faults that a call can have, on each of the seven commands, each on its models by turns. */
 void refused_in_order(void)
 {
     unsigned faults;
@@ -198,11 +215,11 @@ void refused_in_order(void)
 
     for (model = 1; model <= MODELS; model++)
         without_a_frame(model);
-    for (i = 0; i < sizeof lockable / sizeof lockable[0]; i++) {
+    for (i = 0; i < COMMANDS; i++) {
         for (faults = 1; faults <= EVERY; faults++)
-            if (possible(faults, (unsigned)i % 2))
-                refused(1 + (faults / 4 + (uint32_t)i / 2) % MODELS, i, faults, (unsigned)i % 2);
-        for (model = 1; model <= MODELS; model++) {
+            if (possible(i, faults, (unsigned)i % 2))
+                refused(model_for(i, faults), i, faults, (unsigned)i % 2);
+        for (model = i == ERASE_52 ? 3 : 1; model <= MODELS; model++) {
             refused(model, i, LOCKED, 0);
             refused(model, i, LAST, 0);
             refused(model, i, LOCKED | LAST, 0);

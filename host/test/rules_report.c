@@ -160,7 +160,8 @@ static void totals_of_histories(void)
     jig_wear(0, 64, 0);
     erased("20011000", 0);
     erased("C7", 0);
-    erased("52010000", 0);
+    erased("52010000", 21);
+    erased("D8010000", 0);
     erased("D801FFFF", 0);
     report_gives(0, model_2, "a history of model 2");
     jig_model(3);

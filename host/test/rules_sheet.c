@@ -1,4 +1,4 @@
-/* 01, Bench sheet: each of its cases, as it stands there, model 1 unless said; and the cases of model 3. */
+/* 01, Bench sheet: each of its cases, as it stands there, model 1 unless said; the cases of 52, and of model 3. */
 #include "jig.h"
 #include "rules.h"
 
@@ -241,6 +241,62 @@ static void folded_program_of_the_log(void)
     frame_gives(0, "log line 8");
 }
 
+/* 52 with WEL 1 and with WEL 0, and 52 alone: 21, and nothing changes; D8 in its place erases the block. */
+static void block_erase_by_d8(void)
+{
+    given_frame(1, enabled, "52000000");
+    frame_gives(21, "WEL 1, 52 at 0: WEL still 1");
+    next_frame("0500");
+    want_hex(1, "02");
+    frame_gives(0, "status after 52");
+    next_frame("D8000000");
+    want_state(state(0, 0, 1, 0, 2000000));
+    frame_gives(0, "D8 at 0");
+    want_cells(0, BLOCK, 0xFF);
+    completes(power_on, "after the wait the block is FF");
+    given_frame(1, power_on, "52000000");
+    frame_gives(21, "WEL 0, 52 at 0");
+    given_frame(2, enabled, "52");
+    given.tail = 7;
+    frame_gives(21, "model 2, 52 alone, tail 7");
+}
+
+/* Busy with 52 since an older program: no call takes the state, whatever it has left of its time. */
+static void left_in_52(uint32_t model, uint32_t us)
+{
+    const char *label = named("model %lu, 52 is running, %lu us are left", (unsigned long)model, (unsigned long)us);
+
+    jig_model(model);
+    jig_state(state(0, 0, 1, 0, us));
+    jig_runs(0x52, 0x1234, NULL, 0);
+    jig_frame("0500");
+    frame_gives(3, label);
+    wait_gives(us, 3, label);
+    power_cycle_gives(3, label);
+    jig_pattern(BLOCK);
+    cut_gives(3, label);
+}
+
+static void stored_in_52(void)
+{
+    uint32_t model;
+
+    for (model = 1; model <= 2; model++) {
+        left_in_52(model, 1);
+        left_in_52(model, bench(model).block_us);
+    }
+}
+
+/* On model 3 it erases half a block, as before. */
+static void model_3_half_block(void)
+{
+    given_frame(3, enabled, "52018000");
+    want_state(state(0, 0, 1, 0, 1000000));
+    frame_gives(0, "model 3, 52 at 018000");
+    want_cells(0x18000, HALF_BLOCK, 0xFF);
+    completes(power_on, "model 3, the end of 52 at 018000");
+}
+
 /* BP 1 and WEL 1: the highest block is protected, with TB the lowest; 17 clears WEL. */
 static void model_3_top_and_bottom(void)
 {
@@ -302,6 +358,9 @@ void bench_sheet(void)
     sector_erase_time();
     last_line();
     folded_program_of_the_log();
+    block_erase_by_d8();
+    stored_in_52();
+    model_3_half_block();
     model_3_top_and_bottom();
     model_3_status_and_register();
 }

@@ -228,16 +228,16 @@ static void settings(uint32_t model)
     }
 }
 
-/* No other command heeds it, on cells of 00: an erase is there to make them FF. */
+/* No other command heeds it, on cells of 00: an erase is there to make them FF. The last is model 3's. */
 static void other_commands(uint32_t model)
 {
     static const struct { const char *frame; unsigned wel, asleep; int settles; } rows[] = {
         {"06", 1, 0, 0}, {"04", 0, 0, 0}, {"B9", 1, 1, 1}, {"AB", 1, 0, 0}, {"05", 1, 0, 0}, {"9F", 1, 0, 0},
         {"03000000", 1, 0, 0}, {"0B00000000", 1, 0, 0}, {"90000000", 1, 0, 0}, {"01FF", 1, 0, 0}, {"20000000", 1, 0, 0},
-        {"52000000", 1, 0, 0}, {"D8000000", 1, 0, 0}, {"60", 1, 0, 0}, {"C7", 1, 0, 0}};
+        {"D8000000", 1, 0, 0}, {"60", 1, 0, 0}, {"C7", 1, 0, 0}, {"52000000", 1, 0, 0}};
     size_t i;
 
-    for (i = 0; i < sizeof rows / sizeof rows[0]; i++) {
+    for (i = 0; i < sizeof rows / sizeof rows[0] - (model == 3 ? 0 : 1); i++) {
         struct condition after = {0, 0, rows[i].wel, rows[i].asleep, 0, 0, 0};
 
         jig_model(model);

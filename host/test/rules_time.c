@@ -185,15 +185,15 @@ static void longest_time(uint32_t model)
     }
 }
 
-/* Each command has its own time of the record, in all its four bytes. */
+/* Each command has its own time of the record, in all its four bytes; the last is model 3's. */
 static void each_time(uint32_t model)
 {
     const struct gwo_record r = {model, 0x11223344, 0x2A3B4C5D, 0x35798642, 0x18273645, 0x3A4F5E6D,
                                  model == 3 ? 0x2C4E6A81 : 0, 10, 10, 10};
-    static const char *const frames[] = {"0100", "0200000000", "20000000", "52000000", "D8000000", "60", "C7"};
+    static const char *const frames[] = {"0100", "0200000000", "20000000", "D8000000", "60", "C7", "52000000"};
     size_t i;
 
-    for (i = 0; i < sizeof frames / sizeof frames[0]; i++) {
+    for (i = 0; i < sizeof frames / sizeof frames[0] - (model == 3 ? 0 : 1); i++) {
         struct condition busy = enabled;
 
         jig_model(model);

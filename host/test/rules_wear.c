@@ -16,10 +16,10 @@ static const struct erase {
     uint32_t first, n;
 } erases[] = {
     {1, "20000000", 0, 1}, {1, "20000FFF", 0, 1}, {1, "20001000", 1, 1}, {1, "2000FFFF", 15, 1},
-    {1, "2001F000", 15, 1}, {1, "52000000", 0, 16}, {1, "5200FFFF", 0, 16}, {1, "D8001234", 0, 16},
+    {1, "2001F000", 15, 1}, {1, "D8000000", 0, 16}, {1, "D800FFFF", 0, 16}, {1, "D8001234", 0, 16},
     {1, "D8FFFFFF", 0, 16}, {1, "60", 0, 16}, {1, "C7", 0, 16},
     {2, "20000000", 0, 1}, {2, "2001FFFF", 31, 1}, {2, "2003FFFF", 63, 1}, {2, "20040000", 0, 1},
-    {2, "52008000", 0, 16}, {2, "5201FFFF", 16, 16}, {2, "52FF0000", 48, 16}, {2, "D8020000", 32, 16},
+    {2, "D8008000", 0, 16}, {2, "D801FFFF", 16, 16}, {2, "D8FF0000", 48, 16}, {2, "D8020000", 32, 16},
     {2, "D803FFFF", 48, 16}, {2, "60", 0, 64}, {2, "C7", 0, 64},
     {3, "20000000", 0, 1}, {3, "20001FFF", 1, 1}, {3, "20800000", 2048, 1}, {3, "20FFFFFF", 4095, 1},
     {3, "52000000", 0, 8}, {3, "52007FFF", 0, 8}, {3, "52008000", 8, 8}, {3, "527FFFFF", 2040, 8},
@@ -180,12 +180,27 @@ static void others_with_full_counts(uint32_t model)
     }
 }
 
+/* 52 on models 1 and 2 covers no sector: with all counts at their highest, or at none, it is withdrawn. */
+static void withdrawn_with_counts(uint32_t model)
+{
+    static const uint32_t counts[] = {0, 1, GWO_WEAR_TOP - 1, GWO_WEAR_TOP};
+    size_t i;
+
+    for (i = 0; i < sizeof counts / sizeof counts[0]; i++) {
+        jig_model(model);
+        jig_wear(0, (uint32_t)given.wear_len, counts[i]);
+        jig_state(enabled);
+        jig_frame("52001234");
+        frame_gives(21, named("model %lu: 52, all counts %lu", (unsigned long)model, (unsigned long)counts[i]));
+    }
+}
+
 /* As many counts as a chip has sectors, for every frame, known or not, taken or not. */
 static void number_24(uint32_t model)
 {
     static const size_t lengths[] = {0, 1, 2, 8, 15, 16, 17, 32, 63, 64, 65, 256, 1024, 4095, 4096, 4097, WEAR_ROOM};
     static const char *const frames[] = {"", "06", "0500", "0300000000", "0200000000", "20000000", "D8000000", "C7",
-                                         "5A00", "200000", "9F00000000", "AB"};
+                                         "5A00", "200000", "9F00000000", "AB", "52000000"};
     size_t i, k;
 
     for (i = 0; i < sizeof lengths / sizeof lengths[0]; i++)
@@ -243,6 +258,8 @@ void wear_counts(void)
     }
     for (model = 1; model <= MODELS; model++) {
         others_with_full_counts(model);
+        if (model != 3)
+            withdrawn_with_counts(model);
         number_24(model);
         before_the_state(model);
     }

@@ -89,12 +89,12 @@ static int too_many(const struct gwo_record *r, uint8_t command)
     return r->model == 3 && (command == 0x60 || command == 0xC7) && chip_erases++ % 113 != 0;
 }
 
-/* Busy with each of the operations: its last microsecond, and all of its time or one less. */
+/* Busy with each of the operations, the last two model 3's: its last microsecond, and all of its time or one less. */
 static void busy_states(const struct gwo_record *r, unsigned status)
 {
     static const struct { uint8_t command; uint32_t count; } kinds[] = {
-        {0x01, 1}, {0x02, 0}, {0x20, 0}, {0x52, 0}, {0xD8, 0}, {0x60, 0}, {0xC7, 0}, {0x01, 2}};
-    size_t i, n = r->model == 3 ? 8 : 7;
+        {0x01, 1}, {0x02, 0}, {0x20, 0}, {0xD8, 0}, {0x60, 0}, {0xC7, 0}, {0x52, 0}, {0x01, 2}};
+    size_t i, n = r->model == 3 ? 8 : 6;
 
     for (i = 0; i < n; i++) {
         uint32_t us = us_of(r, kinds[i].command);

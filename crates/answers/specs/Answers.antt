@@ -1,9 +1,9 @@
--- The answers and their numbers: 01, "Numbers returned, in order of checking", Req 04 to 06, and Req 08. Assumes nothing.
+-- The answers and their numbers: 01, "Numbers returned, in order of checking", Req 04 to 06, Req 08, and Req 11. Assumes nothing.
 use mathlib.Core.Bool.{Bool}
 use Prim.Native.Nat.{ℕ}
 use lib.Dec.{eqb}
 use Rattle.answers.specs.declared.Answer.{Answer}
-use Rattle.answers.specs.declared.Answer.the-variants.{Done, BadRecord, BadArray, BadState, BadFrame, ShortOut, Empty, Settling, Busy, Asleep, NoCommand, BadLength, NotEnabled, Locked, Protected, BadPattern, BadTable, WornOut, NotErased}
+use Rattle.answers.specs.declared.Answer.the-variants.{Done, BadRecord, BadArray, BadState, BadFrame, ShortOut, Empty, Settling, Busy, Asleep, NoCommand, BadLength, NotEnabled, Locked, Protected, BadPattern, BadTable, WornOut, NotErased, Withdrawn}
 
 abbrev pub numberOf : Answer → ℕ
 numberOf Done = 0
@@ -25,6 +25,7 @@ numberOf BadPattern = 23
 numberOf BadTable = 24
 numberOf WornOut = 25
 numberOf NotErased = 19
+numberOf Withdrawn = 21
 
 -- nothing was refused
 abbrev pub isDone : Answer → Bool

@@ -23,6 +23,7 @@ pub enum Answer {
     BadTable,
     WornOut,
     NotErased,
+    Withdrawn,
 }
 
 // The answer's number in the table of refusals.
@@ -49,6 +50,7 @@ pub fn number_of(a: Answer) -> u32
         Answer::BadTable => 24,
         Answer::WornOut => 25,
         Answer::NotErased => 19,
+        Answer::Withdrawn => 21,
     }
 }
 

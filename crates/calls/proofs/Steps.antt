@@ -70,7 +70,7 @@ module _ (rec : Record) (x : Chip) (b : Bench rec x) (f : Sent) where
   taken l t r k p q = rw (all-pass rec (x .state) h (first-pass l t r k) p q)
 
   -- where one of them stops it
-  stopped-by : (a : Answer) → isDone a ≡ false → length (f .bytes) ≤ 65541 → f .tail ≤ 7 → Roomy f → Tabled rec f → saidOf rec (x .state) h ≡ a → refusalOf rec (x .state) h ≡ a
+  pub stopped-by : (a : Answer) → isDone a ≡ false → length (f .bytes) ≤ 65541 → f .tail ≤ 7 → Roomy f → Tabled rec f → saidOf rec (x .state) h ≡ a → refusalOf rec (x .state) h ≡ a
   stopped-by a d l t r k e = stops-said rec (x .state) h (ap isDone (first-pass l t r k)) (ap isDone e ∙ d) ∙ e
 
   -- on a busy chip it is answered 11, unless its command is taken while busy

@@ -27,7 +27,7 @@ use Rattle.states.specs.declared.State.{State}
 use Rattle.answers.specs.declared.Answer.{Answer}
 use Rattle.answers.specs.declared.Answer.the-variants.{Done}
 use Rattle.commands.specs.declared.Command.{Command}
-use Rattle.commands.specs.declared.Command.the-variants.{WriteEnable, WriteDisable, ReadStatus, ReadConfig, WriteStatus, Read, FastRead, EraseSector, EraseHalf, EraseBlock, EraseChip, Program, ReadId, Wake, ReadMaker, Sleep, Unknown}
+use Rattle.commands.specs.declared.Command.the-variants.{WriteEnable, WriteDisable, ReadStatus, ReadConfig, WriteStatus, Read, FastRead, EraseSector, EraseHalf, EraseBlock, EraseChip, Program, ReadId, Wake, ReadMaker, Sleep, Unknown, Withdrawn}
 use Rattle.commands.proofs.Rows.{half-only-3}
 use Rattle.states.proofs.States.{sleep-le, wake-le, sign-le, times, half-some}
 use Rattle.counts.specs.Counts.{sectorAt, counted, covered, sectors}
@@ -219,6 +219,7 @@ module _ (rec : Record) (x : Chip) (at : Address) (bytes wear out : List ℕ) wh
   kind ReadMaker = drove s 4 (ring (makerBytes (modelOf (rec .model)) (getD bytes 3 0)) 0 (length bytes - 4)) (λ q. stays)
   kind Sleep = turns (dozing s true (rec .sleep)) (λ q. dozes true (rec .sleep) (idle (s .busy) (q .listens)) (sleep-le rec))
   kind Unknown = turns s (λ q. stays)
+  kind Withdrawn = turns s (λ q. stays)
 
 -- ---- what holds of every kind
 drives-within : (t : State) (from n : ℕ) → drives t from n .from + drives t from n .count ≤ n
@@ -287,3 +288,4 @@ module _ (rec : Record) (x : Chip) (at : Address) (bytes wear out : List ℕ) wh
   table-after ReadMaker = none Idle refl
   table-after Sleep = none Idle refl
   table-after Unknown = none Idle refl
+  table-after Withdrawn = none Idle refl

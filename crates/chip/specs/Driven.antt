@@ -5,7 +5,7 @@ use Rattle.fold.specs.Fold.{folds}
 use Rattle.units.specs.declared.Address.{Address}
 use Rattle.units.specs.Kinds.{pageOffset}
 use Rattle.commands.specs.declared.Command.{Command}
-use Rattle.commands.specs.declared.Command.the-variants.{WriteEnable, WriteDisable, ReadStatus, ReadConfig, WriteStatus, Read, FastRead, EraseSector, EraseHalf, EraseBlock, EraseChip, Program, ReadId, Wake, ReadMaker, Sleep, Unknown}
+use Rattle.commands.specs.declared.Command.the-variants.{WriteEnable, WriteDisable, ReadStatus, ReadConfig, WriteStatus, Read, FastRead, EraseSector, EraseHalf, EraseBlock, EraseChip, Program, ReadId, Wake, ReadMaker, Sleep, Unknown, Withdrawn}
 
 -- how many bytes an accepted frame of n bytes drives
 unfoldable pub drivenBytes : Command → ℕ → ℕ
@@ -26,6 +26,7 @@ drivenBytes Wake n = n - 4
 drivenBytes ReadMaker n = n - 4
 drivenBytes Sleep n = 0
 drivenBytes Unknown n = 0
+drivenBytes Withdrawn n = 0
 
 -- whether an accepted frame of n bytes says that a byte went past the page's end: only a program can
 unfoldable pub foldOf : Command → Address → ℕ → Bool
@@ -46,3 +47,4 @@ foldOf Wake at n = false
 foldOf ReadMaker at n = false
 foldOf Sleep at n = false
 foldOf Unknown at n = false
+foldOf Withdrawn at n = false

@@ -11,7 +11,7 @@ use Rattle.states.specs.States.{pageOk, Chip}
 use Rattle.commands.specs.declared.Operation.the-variants.{ErasesSector, ErasesHalf, ErasesBlock, ErasesChip}
 use Rattle.states.specs.declared.Record.{Record}
 use Rattle.commands.specs.declared.Command.{Command}
-use Rattle.commands.specs.declared.Command.the-variants.{WriteEnable, WriteDisable, ReadStatus, ReadConfig, WriteStatus, Read, FastRead, EraseSector, EraseHalf, EraseBlock, EraseChip, Program, ReadId, Wake, ReadMaker, Sleep, Unknown}
+use Rattle.commands.specs.declared.Command.the-variants.{WriteEnable, WriteDisable, ReadStatus, ReadConfig, WriteStatus, Read, FastRead, EraseSector, EraseHalf, EraseBlock, EraseChip, Program, ReadId, Wake, ReadMaker, Sleep, Unknown, Withdrawn}
 use Rattle.answers.specs.declared.Answer.{Answer}
 use Rattle.answers.specs.declared.Answer.the-variants.{Done, WornOut, NotErased}
 use Rattle.ladder.specs.Ladder.{refusalOf}
@@ -81,6 +81,7 @@ acceptedOf rec x Wake at bytes wear out = shown (x .page) wear (wake rec (x .sta
 acceptedOf rec x ReadMaker at bytes wear out = shown (x .page) wear (readMaker rec (x .state) bytes out)
 acceptedOf rec x Sleep at bytes wear out = turned (x .page) wear out (sleep rec (x .state))
 acceptedOf rec x Unknown at bytes wear out = stateOnly Done (x .state) (x .page) wear out
+acceptedOf rec x Withdrawn at bytes wear out = stateOnly Done (x .state) (x .page) wear out
 
 -- a refusal drives nothing and leaves the page data and the wear table; what it leaves of the state is one definition by model and answer
 abbrev pub refusedOf : Record → Answer → Chip → Sent → Effect

@@ -88,6 +88,7 @@ fn accepted(
         Command::ReadMaker => shows::read_maker(rec, st, bytes, out),
         Command::Sleep => effects::sleep(rec, st),
         Command::Unknown => effects::quiet(Answer::Done, st),
+        Command::Withdrawn => effects::quiet(Answer::Done, st),
     }
 }
 

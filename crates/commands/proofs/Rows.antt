@@ -5,12 +5,12 @@ use mathlib.Core.Bool.{Bool, true, false, not, _&&_, _||_, cond, and-eq-true-iff
 use Prim.Native.Nat.{ℕ, _≤_, _<_}
 use native.Mathlib.Omega.{arith}
 use lib.Dec.{eqb, leb, lit≤}
-use borrow.Author.Tests.{eqb-true, leb-true, leb-false, le-leb, lt-leb, not-true}
+use borrow.Author.Tests.{eqb-true, eqb-false, ne-eqb, leb-true, leb-false, le-leb, lt-leb, not-true}
 use Rattle.commands.specs.declared.Operation.{Operation}
 use Rattle.commands.specs.declared.Operation.the-variants.{Idle, WritesStatus, Programs, ErasesSector, ErasesHalf, ErasesBlock, ErasesChip}
 use Rattle.commands.specs.declared.Traits.{Traits}
 use Rattle.commands.specs.declared.Command.{Command}
-use Rattle.commands.specs.declared.Command.the-variants.{WriteEnable, WriteDisable, ReadStatus, ReadConfig, WriteStatus, Read, FastRead, EraseSector, EraseHalf, EraseBlock, EraseChip, Program, ReadId, Wake, ReadMaker, Sleep, Unknown}
+use Rattle.commands.specs.declared.Command.the-variants.{WriteEnable, WriteDisable, ReadStatus, ReadConfig, WriteStatus, Read, FastRead, EraseSector, EraseHalf, EraseBlock, EraseChip, Program, ReadId, Wake, ReadMaker, Sleep, Unknown, Withdrawn}
 use Rattle.commands.specs.Commands.{Byte, _is_, common, own, lookUp, traitsOf, lengthOk, fewest, operationOf, decodeOf, startedBy, mostWritten}
 
 -- ---- which lengths are allowed
@@ -60,6 +60,7 @@ row-test r Wake = refl
 row-test r ReadMaker = refl
 row-test r Sleep = refl
 row-test r Unknown = refl
+row-test r Withdrawn = refl
 
 pub fewest-allowed : (r : Bool) (c : Command) → lengthOk (traitsOf r c) (fewest (traitsOf r c)) 0 ≡ true
 unfolding rowTest
@@ -143,6 +144,7 @@ program-row r Wake e = absurd (false≢true e)
 program-row r ReadMaker e = absurd (false≢true e)
 program-row r Sleep e = absurd (false≢true e)
 program-row r Unknown e = absurd (false≢true e)
+program-row r Withdrawn e = absurd (false≢true e)
 
 pub program-length : (r : Bool) (c : Command) → operationOf c ≡ Programs → 5 ≤ fewest (traitsOf r c)
 unfolding isProgram
@@ -167,29 +169,66 @@ isHalf Wake = false
 isHalf ReadMaker = false
 isHalf Sleep = false
 isHalf Unknown = false
+isHalf Withdrawn = false
 
-noHalf : List Byte → Bool
-unfolding isHalf
-noHalf [] = true
-noHalf (r ∷ rs) = not (isHalf (r .means)) && noHalf rs
+-- no row of the table means such a command
+lacks : (Command → Bool) → List Byte → Bool
+lacks p [] = true
+lacks p (r ∷ rs) = not (p (r .means)) && lacks p rs
 
-never-half : (b : ℕ) (rs : List Byte) → noHalf rs ≡ true → isHalf (lookUp b rs) ≡ false
-unfolding noHalf isHalf
-never-half b [] e = refl
-never-half b (r ∷ rs) e =
-    let k = and-eq-true-iff (not (isHalf (r .means))) (noHalf rs) .0 e in
-    go (eqb b (r .byte)) (not-true (isHalf (r .means)) (k .0)) (never-half b rs (k .1))
-  where
-    go : (t : Bool) → isHalf (r .means) ≡ false → isHalf (lookUp b rs) ≡ false → isHalf (cond t (r .means) (lookUp b rs)) ≡ false
-    go true p q = p
-    go false p q = q
+-- then no byte does
+module _ (p : Command → Bool) (u : p Unknown ≡ false) where
+  never : (b : ℕ) (rs : List Byte) → lacks p rs ≡ true → p (lookUp b rs) ≡ false
+  unfolding lacks
+  never b [] e = u
+  never b (r ∷ rs) e =
+      let k = and-eq-true-iff (not (p (r .means))) (lacks p rs) .0 e in
+      go (eqb b (r .byte)) (not-true (p (r .means)) (k .0)) (never b rs (k .1))
+    where
+      go : (t : Bool) → p (r .means) ≡ false → p (lookUp b rs) ≡ false → p (cond t (r .means) (lookUp b rs)) ≡ false
+      go true q s = q
+      go false q s = s
+
+  -- and where the last row alone may, only the byte of that row
+  only-last : (b : ℕ) (rs : List Byte) (l : Byte) → lacks p rs ≡ true → p (lookUp b (rs ++ (l ∷ []))) ≡ true → b ≡ l .byte
+  unfolding lacks
+  only-last b [] l e = go (eqb b (l .byte)) refl
+    where
+      go : (t : Bool) → eqb b (l .byte) ≡ t → p (cond t (l .means) Unknown) ≡ true → b ≡ l .byte
+      go true q s = eqb-true b (l .byte) q
+      go false q s = absurd (false≢true (sym u ∙ s))
+  only-last b (r ∷ rs) l e =
+      let k = and-eq-true-iff (not (p (r .means))) (lacks p rs) .0 e in
+      go (eqb b (r .byte)) (not-true (p (r .means)) (k .0)) (only-last b rs l (k .1))
+    where
+      go : (t : Bool) → p (r .means) ≡ false → (p (lookUp b (rs ++ (l ∷ []))) ≡ true → b ≡ l .byte) → p (cond t (r .means) (lookUp b (rs ++ (l ∷ [])))) ≡ true → b ≡ l .byte
+      go true q f s = absurd (false≢true (sym q ∙ s))
+      go false q f s = f s
 
 pub half-only-3 : (n b : ℕ) → decodeOf n b ≡ EraseHalf → n ≡ 3
-unfolding decodeOf isHalf noHalf
+unfolding decodeOf isHalf lacks
 half-only-3 n b e = go (eqb n 3) refl
   where
     go : (t : Bool) → eqb n 3 ≡ t → n ≡ 3
     go true p = eqb-true n 3 p
     go false p =
-        let no : isHalf (lookUp b (common ++ own n)) ≡ false = rw p (never-half b (common ++ ((0x52 is EraseBlock) ∷ [])) refl) in
+        let no : isHalf (lookUp b (common ++ own n)) ≡ false = rw p (never isHalf refl b (common ++ ((0x52 is Withdrawn) ∷ [])) refl) in
         absurd (false≢true (sym no ∙ ap isHalf e))
+
+-- ---- only 52 is withdrawn, and not on model 3
+pub means-withdrawn : (n : ℕ) → (n ≡ 3 → ⊥) → decodeOf n 0x52 ≡ Withdrawn
+unfolding decodeOf
+means-withdrawn n m = rw (ne-eqb n 3 m)
+
+pub only-52 : (r : Bool) (n b : ℕ) → traitsOf r (decodeOf n b) .withdrawn ≡ true → (b ≡ 0x52) × (n ≡ 3 → ⊥)
+unfolding decodeOf traitsOf lacks
+only-52 r n b e = go (eqb n 3) refl
+  where
+    gone : Command → Bool
+    gone c = traitsOf r c .withdrawn
+
+    go : (t : Bool) → eqb n 3 ≡ t → (b ≡ 0x52) × (n ≡ 3 → ⊥)
+    go true p =
+        let no : gone (lookUp b (common ++ own n)) ≡ false = rw p (never gone refl b (common ++ ((0x52 is EraseHalf) ∷ (0x15 is ReadConfig) ∷ [])) refl) in
+        absurd (false≢true (sym no ∙ e))
+    go false p = (only-last gone refl b common (0x52 is Withdrawn) refl (rw p at e), eqb-false n 3 p)

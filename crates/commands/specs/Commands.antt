@@ -7,7 +7,7 @@ use Rattle.commands.specs.declared.Traits.{Traits}
 use Rattle.commands.specs.declared.Command.{Command}
 use Rattle.commands.specs.declared.Operation.{Operation}
 use Rattle.commands.specs.declared.Operation.the-variants.{Idle, WritesStatus, Programs, ErasesSector, ErasesHalf, ErasesBlock, ErasesChip}
-use Rattle.commands.specs.declared.Command.the-variants.{WriteEnable, WriteDisable, ReadStatus, ReadConfig, WriteStatus, Read, FastRead, EraseSector, EraseHalf, EraseBlock, EraseChip, Program, ReadId, Wake, ReadMaker, Sleep, Unknown}
+use Rattle.commands.specs.declared.Command.the-variants.{WriteEnable, WriteDisable, ReadStatus, ReadConfig, WriteStatus, Read, FastRead, EraseSector, EraseHalf, EraseBlock, EraseChip, Program, ReadId, Wake, ReadMaker, Sleep, Unknown, Withdrawn}
 
 -- the command bytes
 pub record Byte : Type 0 where
@@ -38,9 +38,9 @@ common =
     ∷ (0xB9 is Sleep)
     ∷ []
 
--- and those that do not: 52 erases 32 KiB on model 3 (003 L1233) and 64 KiB on models 1 and 2 (000 L327); 15 only model 3 has (003 L505)
+-- and those that do not: 52 erases 32 KiB on model 3 (003 L1233) and is withdrawn on models 1 and 2 (Req 11, against 000 L158, L327 and 002 L304); 15 only model 3 has (003 L505)
 abbrev pub own : ℕ → List Byte
-own n = cond (eqb n 3) ((0x52 is EraseHalf) ∷ (0x15 is ReadConfig) ∷ []) ((0x52 is EraseBlock) ∷ [])
+own n = cond (eqb n 3) ((0x52 is EraseHalf) ∷ (0x15 is ReadConfig) ∷ []) ((0x52 is Withdrawn) ∷ [])
 
 abbrev pub lookUp : ℕ → List Byte → Command
 lookUp b [] = Unknown
@@ -69,6 +69,7 @@ operationOf Wake = Idle
 operationOf ReadMaker = Idle
 operationOf Sleep = Idle
 operationOf Unknown = Idle
+operationOf Withdrawn = Idle
 
 -- and the one of a command byte on the model of a number
 abbrev pub startedBy : ℕ → ℕ → Operation
@@ -90,12 +91,17 @@ never = 65542
 -- a row of the table below
 abbrev pub row : Bool → Bool → Bool → Bool → Bool → Bool → ℕ → ℕ → ℕ → Traits
 row busy asleep latch lock unit whole low high least =
-    record { known = true; «while_busy» = busy; «while_asleep» = asleep; latch = latch; lock = lock; unit = unit; whole = whole; low = low; high = high; least = least }
+    record { known = true; withdrawn = false; «while_busy» = busy; «while_asleep» = asleep; latch = latch; lock = lock; unit = unit; whole = whole; low = low; high = high; least = least }
 
 -- a byte that is no command
 abbrev pub unknown : Traits
 unknown =
-    record { known = false; «while_busy» = □; «while_asleep» = □; latch = □; lock = □; unit = □; whole = □; low = 0; high = 0; least = 0 }
+    record { known = false; withdrawn = false; «while_busy» = □; «while_asleep» = □; latch = □; lock = □; unit = □; whole = □; low = 0; high = 0; least = 0 }
+
+-- a command that was withdrawn: of any length
+abbrev pub withdrawn : Traits
+withdrawn =
+    record { known = true; withdrawn = true; «while_busy» = □; «while_asleep» = □; latch = □; lock = □; unit = □; whole = □; low = 0; high = 0; least = 0 }
 
 -- with the configuration register a status write may have a second data byte (003 L510, L899)
 abbrev pub mostWritten : Bool → ℕ
@@ -128,7 +134,7 @@ traitsOf r EraseSector =  -- 20
     row □ □ ■ □ ■ □ 4 4 never
 traitsOf r EraseHalf =  -- 52 of model 3
     row □ □ ■ □ ■ □ 4 4 never
-traitsOf r EraseBlock =  -- D8, and 52 of models 1 and 2
+traitsOf r EraseBlock =  -- D8
     row □ □ ■ □ ■ □ 4 4 never
 traitsOf r EraseChip =  -- 60, C7
     row □ □ ■ □ □ ■ 1 1 never
@@ -143,6 +149,7 @@ traitsOf r ReadMaker =  -- 90
 traitsOf r Sleep =  -- B9
     row □ □ □ □ □ □ 1 1 never
 traitsOf r Unknown = unknown
+traitsOf r Withdrawn = withdrawn  -- 52 of models 1 and 2
 
 -- whole bytes and tail bits that the command may have
 unfoldable pub lengthOk : Traits → ℕ → ℕ → Bool

@@ -1,6 +1,6 @@
 // The commands: what a byte means, and what the refusals ask of each command.
 ghost use mathlib.Core.Path.{_≡_};
-ghost use Rattle.commands.specs.Commands.{lookUp, own as Commands·own, decodeOf, row as Commands·row, unknown as Commands·unknown, mostWritten, traitsOf, lengthOk, operationOf, startedBy};
+ghost use Rattle.commands.specs.Commands.{lookUp, own as Commands·own, decodeOf, row as Commands·row, unknown as Commands·unknown, withdrawn as Commands·withdrawn, mostWritten, traitsOf, lengthOk, operationOf, startedBy};
 
 pub enum Command {
     WriteEnable,
@@ -20,6 +20,7 @@ pub enum Command {
     ReadMaker,
     Sleep,
     Unknown,
+    Withdrawn,
 }
 
 // The bytes that do not mean the same on every model.
@@ -34,7 +35,7 @@ fn own(model: u32, byte: u8) -> Command
         };
     }
     match byte {
-        0x52 => Command::EraseBlock,
+        0x52 => Command::Withdrawn,
         _ => Command::Unknown,
     }
 }
@@ -96,6 +97,7 @@ pub fn operation_of(c: Command) -> Operation
         Command::ReadMaker => Operation::Idle,
         Command::Sleep => Operation::Idle,
         Command::Unknown => Operation::Idle,
+        Command::Withdrawn => Operation::Idle,
     }
 }
 
@@ -106,10 +108,12 @@ pub fn started_by(model: u32, byte: u8) -> Operation
     operation_of(decode(model, byte))
 }
 
-// What the refusals ask of a command: whether it is taken while busy and while asleep; whether it needs WEL, heeds SRWD, and changes
-// one unit or the whole chip; its frame: low to high bytes without tail, or least bytes and more with any tail.
+// What the refusals ask of a command: whether it is one, and whether it is withdrawn; whether it is taken while busy and while
+// asleep; whether it needs WEL, heeds SRWD, and changes one unit or the whole chip; its frame: low to high bytes without tail, or
+// least bytes and more with any tail.
 pub struct Traits {
     pub known: bool,
+    pub withdrawn: bool,
     pub while_busy: bool,
     pub while_asleep: bool,
     pub latch: bool,
@@ -146,6 +150,7 @@ fn row(
 {
     Traits {
         known: true,
+        withdrawn: false,
         while_busy,
         while_asleep,
         latch,
@@ -163,6 +168,25 @@ fn unknown() -> Traits
 {
     Traits {
         known: false,
+        withdrawn: false,
+        while_busy: false,
+        while_asleep: false,
+        latch: false,
+        lock: false,
+        unit: false,
+        whole: false,
+        low: 0,
+        high: 0,
+        least: 0,
+    }
+}
+
+fn withdrawn() -> Traits
+    ensures { λ r. ⌜ r ≡ Commands·withdrawn ⌝ }
+{
+    Traits {
+        known: true,
+        withdrawn: true,
         while_busy: false,
         while_asleep: false,
         latch: false,
@@ -207,7 +231,7 @@ pub fn traits_of(register: bool, c: Command) -> Traits
             row(N, N, Y, N, Y, N, 4, 4, NEVER),
         Command::EraseHalf => // 52 of model 3
             row(N, N, Y, N, Y, N, 4, 4, NEVER),
-        Command::EraseBlock => // D8, and 52 of models 1 and 2
+        Command::EraseBlock => // D8
             row(N, N, Y, N, Y, N, 4, 4, NEVER),
         Command::EraseChip => // 60, C7
             row(N, N, Y, N, N, Y, 1, 1, NEVER),
@@ -222,6 +246,7 @@ pub fn traits_of(register: bool, c: Command) -> Traits
         Command::Sleep => // B9
             row(N, N, N, N, N, N, 1, 1, NEVER),
         Command::Unknown => unknown(),
+        Command::Withdrawn => withdrawn(), // 52 of models 1 and 2
     }
 }
 

@@ -14,7 +14,7 @@ use Rattle.states.specs.States.{recordOk, stateOk}
 use Rattle.states.specs.declared.Record.{Record}
 use Rattle.states.specs.declared.State.{State}
 use Rattle.answers.specs.declared.Answer.{Answer}
-use Rattle.answers.specs.declared.Answer.the-variants.{Done, BadRecord, BadArray, BadTable, BadState, BadFrame, ShortOut, Empty, Settling, Busy, Asleep, NoCommand, BadLength, NotEnabled, Locked, Protected, NotErased, WornOut}
+use Rattle.answers.specs.declared.Answer.the-variants.{Done, BadRecord, BadArray, BadTable, BadState, BadFrame, ShortOut, Empty, Settling, Busy, Asleep, NoCommand, Withdrawn, BadLength, NotEnabled, Locked, Protected, NotErased, WornOut}
 use Rattle.answers.proofs.Tables.{testOf, before, row-clear, spared, earlier-clear, row-holds}
 use Rattle.ladder.specs.declared.Head.{Head}
 use Rattle.ladder.specs.Ladder.{givenRows, saidRows, ladder, asks, guarded, refusalOf}
@@ -35,6 +35,7 @@ pub record Passed (rec : Record) (s : State) (h : Head) : Type 0 where
   pub listens : (not (eqb (s .busy) 0) && not (asks rec h .«while_busy»)) ≡ false
   pub awake : (s .asleep && not (asks rec h .«while_asleep»)) ≡ false
   pub known : asks rec h .known ≡ true
+  pub offered : asks rec h .withdrawn ≡ false
   pub fits : lengthOk (asks rec h) (h .count) (h .tail) ≡ true
   pub enabled : (asks rec h .latch && not (s .wel)) ≡ false
   pub unlocked : (asks rec h .lock && (s .srwd && not (h .wp))) ≡ false
@@ -64,6 +65,7 @@ passed rec s h e =
       listens = clear Busy;
       awake = clear Asleep;
       known = not-false _ (clear NoCommand);
+      offered = clear Withdrawn;
       fits = not-false _ (clear BadLength);
       enabled = clear NotEnabled;
       unlocked = clear Locked;

@@ -11,7 +11,7 @@ use Rattle.states.specs.declared.Record.{Record}
 use Rattle.states.specs.declared.State.{State}
 use Rattle.commands.specs.declared.Traits.{Traits}
 use Rattle.answers.specs.declared.Answer.{Answer}
-use Rattle.answers.specs.declared.Answer.the-variants.{BadRecord, BadArray, BadState, BadFrame, ShortOut, Empty, Settling, Busy, Asleep, NoCommand, BadLength, NotEnabled, Locked, Protected, BadTable, WornOut, NotErased}
+use Rattle.answers.specs.declared.Answer.the-variants.{BadRecord, BadArray, BadState, BadFrame, ShortOut, Empty, Settling, Busy, Asleep, NoCommand, Withdrawn, BadLength, NotEnabled, Locked, Protected, BadTable, WornOut, NotErased}
 use Rattle.answers.specs.Tables.{Rung, _gives_, firstOf}
 use Rattle.ladder.specs.declared.Head.{Head}
 
@@ -45,7 +45,7 @@ frameRows h =
     ∷ (ltb (h .room) (h .count) gives ShortOut)
     ∷ []
 
--- ---- 10, 22, 11 to 14: what is heard of it; k is what the refusals ask of its command
+-- ---- 10, 22, 11 to 13, 21, 14: what is heard of it; k is what the refusals ask of its command
 abbrev pub heardRows : State → Head → Traits → List Rung
 heardRows s h k =
     (eqb (h .count) 0 gives Empty)
@@ -53,6 +53,7 @@ heardRows s h k =
     ∷ ((not (eqb (s .busy) 0) && not (k .«while_busy»)) gives Busy)
     ∷ ((s .asleep && not (k .«while_asleep»)) gives Asleep)
     ∷ (not (k .known) gives NoCommand)
+    ∷ (k .withdrawn gives Withdrawn)
     ∷ (not (lengthOk k (h .count) (h .tail)) gives BadLength)
     ∷ []
 

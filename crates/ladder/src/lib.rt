@@ -52,7 +52,7 @@ pub fn given(rec: Record, st: State, head: Head) -> Answer
     Answer::Done
 }
 
-// 10, 22 and 11 to 14: whether the chip hears a frame of that command and length.
+// 10, 22, 11 to 13, 21 and 14: whether the chip hears a frame of that command and length.
 fn heard(rec: Record, st: State, head: Head, t: Traits) -> Answer
     ensures { λ r. ⌜ r ≡ heardOf rec st head t ⌝ }
 {
@@ -72,6 +72,9 @@ fn heard(rec: Record, st: State, head: Head, t: Traits) -> Answer
     }
     if !t.known {
         return Answer::NoCommand;
+    }
+    if t.withdrawn {
+        return Answer::Withdrawn;
     }
     if !commands::length_ok(t, n, tail) {
         return Answer::BadLength;
@@ -99,7 +102,7 @@ fn allowed(rec: Record, st: State, head: Head, t: Traits) -> Answer
     Answer::Done
 }
 
-// 10, 22 and 11 to 17: the first refusal that applies to a frame that 1 to 5 and 24 let pass, and Done where none does.
+// 10, 22, 11 to 13, 21 and 14 to 17: the first refusal that applies to a frame that 1 to 5 and 24 let pass, and Done where none does.
 pub fn said(rec: Record, st: State, head: Head) -> Answer
     ensures { λ r. ⌜ r ≡ saidOf rec st head ⌝ }
 {

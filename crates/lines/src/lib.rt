@@ -15,7 +15,7 @@ pub enum Cut {
 }
 
 // The place of the first newline from `at` on, or the block's length.
-fn line_end(block: &[u8], at: usize) -> usize
+pub fn line_end(block: &[u8], at: usize) -> usize
     ensures { λ r. ⌜ r ≡ endOf (now (block .entry)) at ⌝ }
 {
     let mut i = at;

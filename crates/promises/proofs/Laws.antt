@@ -367,30 +367,38 @@ pub one-cycle : OneCycle
 one-cycle rec s page r t p q = p ∙ sym q
 
 -- ---- a chip that settles
--- a row up to 22 refuses: none of them answers 0 or 17
-abbrev As : Answer → Bool
-As a = not (isDone a) && (not (saysProtected a) && among (numberOf a) settlingNumbers)
+-- an answer that is neither 0 nor 17, one of those numbers
+abbrev pub Refuses : List ℕ → Answer → Bool
+Refuses ns a = not (isDone a) && (not (saysProtected a) && among (numberOf a) ns)
 
-module _ (rec : Record) (x : Chip) (f : Sent) (settling : x .state .settle ≡ 0 → ⊥) where
-  by-22 : As (refusal rec x f) ≡ true
-  unfolding refusalOf headFor
-  by-22 = by-then As Settling (ladder rec (x .state) (head rec x f) (asks rec (head rec x f))) refl (ap not (ne-eqb (x .state .settle) 0 settling))
-
-  refuses : (isDone (refusal rec x f) ≡ false) × (saysProtected (refusal rec x f) ≡ false) × (among (numberOf (refusal rec x f)) settlingNumbers ≡ true)
+-- a frame that is answered so changes nothing
+module _ (rec : Record) (x : Chip) (f : Sent) (ns : List ℕ) (r : Refuses ns (refusal rec x f) ≡ true) where
+  refuses : (isDone (refusal rec x f) ≡ false) × (saysProtected (refusal rec x f) ≡ false) × (among (numberOf (refusal rec x f)) ns ≡ true)
   refuses =
       let a = refusal rec x f in
-      let k = both (not (isDone a)) (not (saysProtected a) && among (numberOf a) settlingNumbers) by-22 in
-      let l = both (not (saysProtected a)) (among (numberOf a) settlingNumbers) (k .1) in
+      let k = both (not (isDone a)) (not (saysProtected a) && among (numberOf a) ns) r in
+      let l = both (not (saysProtected a)) (among (numberOf a) ns) (k .1) in
       (not-true _ (k .0), not-true _ (l .0), l .1)
 
-  settled : frameOf rec x f ≡ stateOnly (refusal rec x f) (x .state) (x .page) (f .wear) (f .out)
-  settled = refused-frame rec x f (refusal rec x f) refl (refuses .0) ∙ rw (leaves-all (rec .model) (refusal rec x f) (x .state) (refuses .1))
+  left-alone : frameOf rec x f ≡ stateOnly (refusal rec x f) (x .state) (x .page) (f .wear) (f .out)
+  left-alone = refused-frame rec x f (refusal rec x f) refl (refuses .0) ∙ rw (leaves-all (rec .model) (refusal rec x f) (x .state) (refuses .1))
+
+  pub answers-among : among (numberOf (frameOf rec x f .reply .answer)) ns ≡ true
+  answers-among = rw left-alone (refuses .2)
+
+  pub stays-all : frameOf rec x f ≡ stateOnly (frameOf rec x f .reply .answer) (x .state) (x .page) (f .wear) (f .out)
+  stays-all = left-alone ∙ ap (λ (e : Effect). stateOnly (e .reply .answer) (x .state) (x .page) (f .wear) (f .out)) (sym left-alone)
+
+-- 22, or a row before it
+by-22 : (rec : Record) (x : Chip) (f : Sent) → (x .state .settle ≡ 0 → ⊥) → Refuses settlingNumbers (refusal rec x f) ≡ true
+unfolding refusalOf headFor
+by-22 rec x f settling = by-then (Refuses settlingNumbers) Settling (ladder rec (x .state) (head rec x f) (asks rec (head rec x f))) refl (ap not (ne-eqb (x .state .settle) 0 settling))
 
 pub settling-answers : SettlingAnswers
-settling-answers rec x f z = rw (settled rec x f z) (refuses rec x f z .2)
+settling-answers rec x f z = answers-among rec x f settlingNumbers (by-22 rec x f z)
 
 pub settling-stays : SettlingStays
-settling-stays rec x f z = settled rec x f z ∙ ap (λ (e : Effect). stateOnly (e .reply .answer) (x .state) (x .page) (f .wear) (f .out)) (sym (settled rec x f z))
+settling-stays rec x f z = stays-all rec x f settlingNumbers (by-22 rec x f z)
 
 -- ---- the number of driven bytes
 pub number-fixed : NumberFixed

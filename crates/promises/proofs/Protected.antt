@@ -15,7 +15,7 @@ use Rattle.models.specs.Models.{modelOf, isProtected}
 use Rattle.answers.specs.Answers.{isDone}
 use Rattle.commands.specs.Commands.{decodeOf, traitsOf, operationOf, startedBy}
 use Rattle.commands.specs.declared.Command.{Command}
-use Rattle.commands.specs.declared.Command.the-variants.{WriteEnable, WriteDisable, ReadStatus, ReadConfig, WriteStatus, Read, FastRead, EraseSector, EraseHalf, EraseBlock, EraseChip, Program, ReadId, Wake, ReadMaker, Sleep, Unknown}
+use Rattle.commands.specs.declared.Command.the-variants.{WriteEnable, WriteDisable, ReadStatus, ReadConfig, WriteStatus, Read, FastRead, EraseSector, EraseHalf, EraseBlock, EraseChip, Program, ReadId, Wake, ReadMaker, Sleep, Unknown, Withdrawn}
 use Rattle.commands.specs.declared.Operation.{Operation}
 use Rattle.commands.specs.declared.Operation.the-variants.{Idle, WritesStatus, Programs, ErasesSector, ErasesHalf, ErasesBlock, ErasesChip}
 use Rattle.commands.proofs.Rows.{none-started}
@@ -123,6 +123,7 @@ module _ (rec : Record) (s : State) (wp : Bool) where
     accepted-next ReadMaker m l f page cells = remains
     accepted-next Sleep m l f page cells = rests true _
     accepted-next Unknown m l f page cells = remains
+    accepted-next Withdrawn m l f page cells = remains
 
 pub frame-next : (rec : Record) (x : Chip) (f : Sent) → Next rec (x .state) (f .wp) (frameOf rec x f .reply .state)
 unfolding headFor

@@ -1,4 +1,4 @@
--- The bench sheet: 01's cases marked ●, in its order and words, and what sleep (Req 04) and model 3 (Req 01) add. One table, and one statement over it.
+-- The bench sheet: 01's cases marked ●, in its order and words, and what sleep (Req 04), model 3 (Req 01) and 52 withdrawn (Req 11) add. One table, and one statement over it.
 -- A line is a call and what is seen of it: `says`, the answer and the status byte after; `drivesFrom`, the first driven position, the driven bytes and the status byte.
 use mathlib.Core.Path.{_≡_}
 use mathlib.Core.Bool.{true, false}
@@ -127,6 +127,11 @@ sheet last first =
     -- Model 1, 15: 13
     ∷ onModel 1
     ∣ send (0x15 ∷ 0x00 ∷ []) ⇒ says 13 0x00
+    -- Model 1, WEL 1, 52 at 0: 21, WEL still 1; D8 at 0: 0 (Req 11)
+    ∷ onModel 1
+    ∣ send (0x06 ∷ []) ⇒ says 0 0x02
+    ∣ send (0x52 ∷ 0 ∷ 0 ∷ 0 ∷ []) ⇒ says 21 0x02
+    ∣ send (0xD8 ∷ 0 ∷ 0 ∷ 0 ∷ []) ⇒ says 0 0x03
     ∷ []
 
 -- whatever the arrays hold: filled in by our model, the sheet is as it stands

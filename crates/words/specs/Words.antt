@@ -29,6 +29,13 @@ isStrict Strict = true
 isStrict Help = false
 isStrict Unknown = false
 
+-- of a program that has no strict setting
+abbrev pub withoutStrict : Wish → Wish
+withoutStrict Run = Run
+withoutStrict Strict = Unknown
+withoutStrict Help = Help
+withoutStrict Unknown = Unknown
+
 -- the use is shown, and no more
 abbrev pub asksNoRun : Wish → Bool
 asksNoRun Run = false

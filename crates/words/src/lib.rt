@@ -1,6 +1,6 @@
 // The words that a program is started with: none, --help or strict.
 ghost use mathlib.Core.Path.{_≡_};
-ghost use Rattle.words.specs.Words.{sameText, wishOf, isStrict, asksNoRun};
+ghost use Rattle.words.specs.Words.{sameText, wishOf, isStrict, withoutStrict, asksNoRun};
 use libc::STDERR_FILENO;
 use libc::STDOUT_FILENO;
 
@@ -63,6 +63,18 @@ pub fn is_strict(wish: Wish) -> bool
         Wish::Strict => true,
         Wish::Help => false,
         Wish::Unknown => false,
+    }
+}
+
+// The same of a program that has no strict setting: it does not know that word.
+pub fn without_strict(wish: Wish) -> Wish
+    ensures { λ r. ⌜ r ≡ withoutStrict wish ⌝ }
+{
+    match wish {
+        Wish::Run => Wish::Run,
+        Wish::Strict => Wish::Unknown,
+        Wish::Help => Wish::Help,
+        Wish::Unknown => Wish::Unknown,
     }
 }
 

@@ -195,6 +195,13 @@ returns-17 c =
     at-command (a .rec) (chipOf (a .st) (now (a .page)) (now (a .array))) (a .at) (now (a .bytes)) (now (a .out)) (c .before .enum-told17 .given .1)
     (record { reply = c .quiet .ensures; page-is = refl; out = refl })
 
+returns-18 : tie.Need-returns-18
+unfolding acceptedOf
+returns-18 c =
+    let a = c .before .before .before .before .before .before .before .args in
+    at-command (a .rec) (chipOf (a .st) (now (a .page)) (now (a .array))) (a .at) (now (a .bytes)) (now (a .out)) (c .before .enum-told18 .given .1)
+    (record { reply = c .quiet2 .ensures; page-is = refl; out = refl })
+
 pub accepted-spec : {M : Type 1} → statement M
 accepted-spec =
     tie.close
@@ -233,6 +240,8 @@ accepted-spec =
     (λ c κs. search needs)
     (λ c. search needs)
     (λ c κs. search needs)
+    (λ c. search needs)
+    (λ c κs. search needs)
     returns
     returns-2
     (λ c. search needs)
@@ -258,4 +267,5 @@ accepted-spec =
     (λ c. search needs)
     returns-15
     returns-16
-    returns-17)
+    returns-17
+    returns-18)

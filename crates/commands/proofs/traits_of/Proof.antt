@@ -74,6 +74,10 @@ returns-17 : tie.Need-returns-17
 unfolding traitsOf
 returns-17 c = c .unknown .ensures ∙ sym (ap (traitsOf _) (c .before .enum-told17 .given .1))
 
+returns-18 : tie.Need-returns-18
+unfolding traitsOf
+returns-18 c = c .withdrawn .ensures ∙ sym (ap (traitsOf _) (c .before .enum-told18 .given .1))
+
 pub traits-of-spec : {M : Type 1} → statement M
 traits-of-spec =
     tie.close
@@ -88,6 +92,8 @@ traits-of-spec =
     (λ c κs. search needs)
     (λ c. search needs)
     (λ c κs. search needs)
+    (λ c κs. search needs)
+    (λ c. search needs)
     (λ c κs. search needs)
     (λ c. search needs)
     (λ c κs. search needs)
@@ -129,4 +135,5 @@ traits-of-spec =
     returns-14
     returns-15
     returns-16
-    returns-17)
+    returns-17
+    returns-18)

@@ -43,27 +43,39 @@ returns-5 c =
     let e : k .before .before .before .args .t .known ≡ false = not-true _ (c .if5 .taken) in
     rw (ne-eqb _ _ (k .before .before .if1 .left), eq-eqb _ _ (k .if2 .left), l .if3 .left, m .if4 .left, e)
 
+-- and was not withdrawn
 returns-6 : tie.Need-returns-6
 unfolding heardOf
 returns-6 c =
-    let n = c .before .before in
+    let n = c .before in
     let m = n .before .before in
     let l = m .before .before .before in
     let k = l .before .before .before in
-    let a = k .before .before .before .args in
-    let e : lengthOk (a .t) (a .head .count) (a .head .tail) ≡ false = sym (c .before .length-ok .ensures) ∙ not-true _ (c .if6 .taken) in
-    rw (e, ne-eqb _ _ (k .before .before .if1 .left), eq-eqb _ _ (k .if2 .left), l .if3 .left, m .if4 .left, known n)
+    rw (ne-eqb _ _ (k .before .before .if1 .left), eq-eqb _ _ (k .if2 .left), l .if3 .left, m .if4 .left, known n, c .if6 .taken)
 
 returns-7 : tie.Need-returns-7
 unfolding heardOf
 returns-7 c =
-    let n = c .before .before in
+    let o = c .before .before in
+    let n = o .before in
     let m = n .before .before in
     let l = m .before .before .before in
     let k = l .before .before .before in
     let a = k .before .before .before .args in
-    let e : lengthOk (a .t) (a .head .count) (a .head .tail) ≡ true = sym (c .before .length-ok .ensures) ∙ not-false _ (c .if6 .left) in
-    rw (e, ne-eqb _ _ (k .before .before .if1 .left), eq-eqb _ _ (k .if2 .left), l .if3 .left, m .if4 .left, known n)
+    let e : lengthOk (a .t) (a .head .count) (a .head .tail) ≡ false = sym (c .before .length-ok .ensures) ∙ not-true _ (c .if7 .taken) in
+    rw (e, ne-eqb _ _ (k .before .before .if1 .left), eq-eqb _ _ (k .if2 .left), l .if3 .left, m .if4 .left, known n, o .if6 .left)
+
+returns-8 : tie.Need-returns-8
+unfolding heardOf
+returns-8 c =
+    let o = c .before .before in
+    let n = o .before in
+    let m = n .before .before in
+    let l = m .before .before .before in
+    let k = l .before .before .before in
+    let a = k .before .before .before .args in
+    let e : lengthOk (a .t) (a .head .count) (a .head .tail) ≡ true = sym (c .before .length-ok .ensures) ∙ not-false _ (c .if7 .left) in
+    rw (e, ne-eqb _ _ (k .before .before .if1 .left), eq-eqb _ _ (k .if2 .left), l .if3 .left, m .if4 .left, known n, o .if6 .left)
 
 pub heard-spec : {M : Type 1} → statement M
-heard-spec = tie.close (tie.spec returns returns-2 returns-3 returns-4 returns-5 (λ c κs. search needs) returns-6 returns-7)
+heard-spec = tie.close (tie.spec returns returns-2 returns-3 returns-4 returns-5 returns-6 (λ c κs. search needs) returns-7 returns-8)

@@ -1,0 +1,4 @@
+pub mod Moves
+pub mod Passages
+pub mod Steps
+pub mod Whole
