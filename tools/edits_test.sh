@@ -1,6 +1,6 @@
 #!/usr/bin/env bash
 # What tools/edits.py says of edits that it must not let pass: one that changes no answer, one whose text is not there, one that
-# stands twice, one that does not compile, one that only breaks a proof's shape; and of a crate that is not proved.
+# stands twice, one that does not compile; and of a crate that is not proved.
 set -u
 cd "$(dirname "$0")/.." || exit 1
 work=$(mktemp -d)
