@@ -58,13 +58,19 @@ stand_in() {
     echo "the independent model stands in for the archive: this tries the tests only"
     archive=$obj/stand_in.o
     "$host" cc -std=c99 $flags -Dref_frame=gwo_frame -Dref_wait=gwo_wait -Dref_power_cycle=gwo_power_cycle \
-        -Dref_cut=gwo_cut -Dref_wear_report=gwo_wear_report -r -nostdlib "$here"/model/*.c -o "$archive"
+        -Dref_cut=gwo_cut -Dref_wear_report=gwo_wear_report -Dref_sfdp_read=gwo_sfdp_read \
+        -Dref_sfdp_revision=gwo_sfdp_revision -Dref_sfdp_header=gwo_sfdp_header -Dref_sfdp_erase=gwo_sfdp_erase \
+        -Dref_sfdp_write=gwo_sfdp_write -r -nostdlib "$here"/model/*.c -o "$archive"
 }
 
 link() {
     "$host" cc "$obj"/rules*.o "$obj"/jig*.o "$obj/rig.o" "$archive" "$obj/model.o" -o "$bin/rules"
     for program in compare thirteen; do
         "$host" cc "$obj/$program"*.o "$obj/rig.o" "$archive" "$obj/model.o" -o "$bin/$program"
+    done
+    "$host" cc "$obj/discover.o" "$archive" "$obj/model.o" -o "$bin/discover"
+    for program in sfdp tables; do
+        "$host" cc "$obj/$program"*.o "$obj/jig_sfdp_sheet.o" "$obj/rig.o" "$archive" "$obj/model.o" -o "$bin/$program"
     done
     "$host" cc "$obj"/stack*.o "$obj/empty.o" "$obj/rig.o" "$archive" "$obj/model.o" -o "$bin/stack"
     for program in firmware unplugged; do
@@ -99,6 +105,12 @@ example() {
     "$host" run "$bin/firmware" >"$GWO_BUILD/example.got" && "$host" run "$bin/unplugged" >>"$GWO_BUILD/example.got" &&
         diff "$here/example/output.txt" "$GWO_BUILD/example.got" &&
         echo "example: last spring's fold, the table mended, a table lost in mid-erase and won back, and its wear sheet"
+}
+
+# Firmware that reads the SFDP table and goes by it.
+discover() {
+    "$host" run "$bin/discover" >"$GWO_BUILD/discover.got" && diff "$here/example/discover.txt" "$GWO_BUILD/discover.got" &&
+        echo "discover: size and erases from the SFDP table; 3B, which it names, is 13"
 }
 
 # The C of README.md, as it stands there, prints what is said there.
@@ -140,10 +152,13 @@ for standard in c++98 c++17; do check "header-$standard" header c++ $standard; d
 for request in 05 06; do check "by_names_$request" by_names $request; done
 check no_sheet no_sheet
 check example example
+check discover discover
 check readme readme
 check rules "$host" run "$bin/rules"
 check compare "$host" run "$bin/compare" "$calls" ${GWO_SEED:-}
 check thirteen "$host" run "$bin/thirteen"
+check sfdp "$host" run "$bin/sfdp"
+check tables "$host" run "$bin/tables" "$((calls / 5))" ${GWO_SEED:-}
 if [ "$archive" = "$obj/stand_in.o" ]; then
     echo "NOT RUN stack: its limits are the archive's; a faulty pod tries it below"
 else

@@ -175,6 +175,7 @@ strict_unknown() {
 }
 
 stand_in 0
+cat host/example/output.txt host/example/discover.txt >"$work/examples"
 check 'make alone lists the commands' helps
 check 'run: no file is named' ends 2 'make run: which file? SCRIPT=FILE is missing' make run
 check 'run: a folder' ends 2 'make run: scripts is a folder, not a file' make run SCRIPT=scripts
@@ -196,7 +197,7 @@ check 'compare: strict' strict_compare
 check 'explain: strict' strict_explain
 check 'wear: strict' strict_wear
 check 'an unknown STRICT' strict_unknown
-check 'example' gives host/example/output.txt make example
+check 'example' gives "$work/examples" make example
 check 'run: what is proved is said' progress
 check 'run: it is said at once' at_once
 check 'run: what is not proved is said' not_proved

@@ -23,27 +23,34 @@ wait_call empty_wait;
 power_cycle_call empty_power_cycle;
 cut_call empty_cut;
 report_call empty_report;
+sfdp_read_call empty_sfdp_read;
+sfdp_revision_call empty_sfdp_revision;
+sfdp_header_call empty_sfdp_header;
+sfdp_erase_call empty_sfdp_erase;
+sfdp_write_call empty_sfdp_write;
 copy_call empty_copy;
 set_call empty_set;
 
 enum { OURS, MODEL, MEMORY, EMPTY, EMPTY_MEMORY };
-enum kind { FRAME, WAIT, POWER_CYCLE, CUT, REPORT };
+enum kind { FRAME, WAIT, POWER_CYCLE, CUT, REPORT, SFDP_READ, SFDP_REVISION, SFDP_HEADER, SFDP_ERASE, SFDP_WRITE };
 enum memory { NONE, COPY, SET };
 
 /*
- * SHORT rows have a limit of 300 instructions; FOLDED and AS_MODEL_2 are held against the row before. STRICT rows have
- * that setting, and where they are taken an erased page.
+ * SHORT rows have a limit of 300 instructions; FOLDED, AS_MODEL_2 and AS_STATUS are held against the row before. STRICT
+ * rows have that setting, and where they are taken an erased page.
  */
-enum { SHORT = 1, FOLDED = 2, AS_MODEL_2 = 4, STRICT = 8 };
+enum { SHORT = 1, FOLDED = 2, AS_MODEL_2 = 4, STRICT = 8, AS_STATUS = 16 };
 
 struct row {
     const char *name;
     uint32_t model;
     unsigned status, asleep;
-    uint32_t left_us;       /* the state: status byte, flag and time left, busy with WIP 1, settling with WIP 0 */
+    uint32_t left_us;       /* the state: status byte, flag and time left, busy with WIP 1, settling with WIP 0; of an
+                               SFDP table the index of a header, or a slot */
     enum kind kind;
-    uint8_t head[5];        /* the frame's first bytes, the others are 5A; of the other calls the running operation's */
-    size_t frame_len;
+    uint8_t head[5];        /* the frame's first bytes, the others are 5A; of the other calls the running operation's; of
+                               an SFDP table how many headers come after the first */
+    size_t frame_len;       /* of an SFDP table its bytes, or those of the buffer for it */
     uint32_t tail, wp, answer;
     enum memory memory;
     size_t moved;           /* also the length of a cut's pattern */
@@ -145,6 +152,22 @@ static const struct row rows[] = {
      0},
     {"wait, end of a chip erase, model 3", 3, 3, 0, 4999, WAIT, {0x60, 0xFF, 0xFF, 0xFF}, 0, 0, 0, 0, SET, 16777216,
      "1.1", 0},
+    {"status, 64 KiB, model 2", 2, 0, 0, 0, FRAME, {0x05}, 1 + READ_64K, 0, 1, 0, SET, READ_64K, "-", 0},
+    {"SFDP by 5A, 64 KiB", 2, 0, 0, 0, FRAME, {0x5A, 0, 0, 0}, 5 + READ_64K, 0, 1, 0, SET, READ_64K, "-", AS_STATUS},
+    {"SFDP by 5A, 112 bytes", 2, 0, 0, 0, FRAME, {0x5A, 0, 0, 0}, 5 + 112, 0, 1, 0, COPY, 112, "-", 0},
+    {"SFDP by 5A, 16 bytes", 2, 0, 0, 0, FRAME, {0x5A, 0, 0, 0x30}, 5 + 16, 0, 1, 0, COPY, 16, "-", 0},
+    {"SFDP by 5A, 16 bytes past the table", 2, 0, 0, 0, FRAME, {0x5A, 0, 1, 0}, 5 + 16, 0, 1, 0, SET, 16, "-", 0},
+    {"SFDP reader, the chip's table", 2, 0, 0, 0, SFDP_READ, {1}, 112, 0, 0, 0, NONE, 0, "-", SHORT},
+    {"SFDP reader, 256 headers", 2, 0, 0, 0, SFDP_READ, {255}, 8 + 8 * 256 + 36, 0, 0, 0, NONE, 0, "-", 0},
+    {"SFDP revision", 2, 0, 0, 0, SFDP_REVISION, {1}, 112, 0, 0, 0, NONE, 0, "-", SHORT},
+    {"SFDP header", 2, 0, 0, 1, SFDP_HEADER, {1}, 112, 0, 0, 0, NONE, 0, "-", SHORT},
+    {"SFDP erase type", 2, 0, 0, 2, SFDP_ERASE, {1}, 112, 0, 0, 0, NONE, 0, "-", SHORT},
+    {"SFDP writer", 2, 0, 0, 0, SFDP_WRITE, {0}, 112, 0, 0, 0, COPY, 112, "-", 0},
+    {"refused 14, 5A", 2, 0, 0, 0, FRAME, {0x5A}, 4, 0, 1, 14, NONE, 0, "-", SHORT},
+    {"refused 30, signature", 2, 0, 0, 0, SFDP_READ, {1}, 112, 0, 0, 30, NONE, 0, "-", SHORT},
+    {"refused 31, headers", 2, 0, 0, 0, SFDP_READ, {1}, 23, 0, 0, 31, NONE, 0, "-", SHORT},
+    {"refused 32, pointer", 2, 0, 0, 0, SFDP_READ, {1}, 111, 0, 0, 32, NONE, 0, "-", SHORT},
+    {"refused 33, exponent 0", 2, 0, 0, 0, SFDP_WRITE, {0}, 112, 0, 0, 33, NONE, 0, "-", SHORT},
     {"cut of a chip erase, model 3", 3, 3, 0, 5000, CUT, {0xC7, 0xFF, 0xFF, 0xFF}, 0, 0, 0, 0, COPY, 16777216, "-", 0},
 };
 enum { ROWS = sizeof rows / sizeof rows[0] };
@@ -160,6 +183,8 @@ static uint32_t wear[GWO_MODEL_3_SECTORS] __attribute__((aligned(4096)));
 static uint32_t from, count, fold;
 static uint64_t total;
 static uint32_t smallest, largest, sector, mean, remainder;
+static uint8_t table[8 + 8 * 256 + 36];
+static uint32_t erases[4], results[5];
 
 /* The operation that runs in a busy chip: the row's, of a frame's row a chip erase; data bytes of a program are 5A. */
 static void prepare_operation(const struct row *r)
@@ -188,6 +213,28 @@ static void prepare_wear(const struct row *r)
         wear[1] = GWO_WEAR_TOP;
 }
 
+/* The chip's own table and record; with more headers theirs are of no double words, and the first table is after them. */
+static void prepare_table(const struct row *r)
+{
+    static const uint32_t own[4] = {0x0C, 0x20, 0x10, 0xD8};
+    size_t i, headers = r->head[0] + 1u;
+
+    memcpy(erases, own, sizeof erases);
+    ref_sfdp_write(0x1FFFFF, own, 4, table, GWO_SFDP_LENGTH);
+    if (headers > 2) {
+        memset(table + 16, 0, sizeof table - 16);
+        table[6] = r->head[0];
+        table[12] = (uint8_t)(8 + 8 * headers);
+        table[13] = (uint8_t)((8 + 8 * headers) >> 8);
+        for (i = 0; i < 36; i++)
+            table[8 + 8 * headers + i] = (uint8_t)(i + 1);
+    }
+    if (r->answer == 30)
+        table[3] = 0x51;
+    if (r->answer == 33)
+        erases[2] = 0;
+}
+
 /* A number that is no model has the first one's record and array. */
 static void prepare(const struct row *r)
 {
@@ -204,6 +251,8 @@ static void prepare(const struct row *r)
     left[1] = (uint8_t)(r->left_us >> 8);
     prepare_operation(r);
     prepare_wear(r);
+    if (r->kind >= SFDP_READ)
+        prepare_table(r);
     for (i = 0; i < GWO_MODEL_2_LENGTH; i++) /* all that the rows read or write, but for model 3's chip erase */
         array[i] = (uint8_t)(i * 7);
     if ((r->marks & STRICT) != 0 && r->answer == 0)
@@ -278,6 +327,61 @@ static STRETCH uint32_t count_report(report_call *f, int stretch, const char *na
     return answer;
 }
 
+static STRETCH uint32_t count_sfdp_read(sfdp_read_call *f, const struct row *r, int stretch, const char *name)
+{
+    uint32_t answer;
+
+    (void)stretch, (void)name;
+    MARK_START(stretch);
+    answer = f(table, r->frame_len, &results[0], &results[1], &results[2]);
+    MARK_END(stretch, name);
+    return answer;
+}
+
+static STRETCH uint32_t count_sfdp_revision(sfdp_revision_call *f, const struct row *r, int stretch, const char *name)
+{
+    uint32_t answer;
+
+    (void)stretch, (void)name;
+    MARK_START(stretch);
+    answer = f(table, r->frame_len, &results[0], &results[1]);
+    MARK_END(stretch, name);
+    return answer;
+}
+
+static STRETCH uint32_t count_sfdp_header(sfdp_header_call *f, const struct row *r, int stretch, const char *name)
+{
+    uint32_t answer;
+
+    (void)stretch, (void)name;
+    MARK_START(stretch);
+    answer = f(table, r->frame_len, r->left_us, &results[0], &results[1], &results[2], &results[3], &results[4]);
+    MARK_END(stretch, name);
+    return answer;
+}
+
+static STRETCH uint32_t count_sfdp_erase(sfdp_erase_call *f, const struct row *r, int stretch, const char *name)
+{
+    uint32_t answer;
+
+    (void)stretch, (void)name;
+    MARK_START(stretch);
+    answer = f(table, r->frame_len, r->left_us, &results[0], &results[1]);
+    MARK_END(stretch, name);
+    return answer;
+}
+
+static STRETCH uint32_t count_sfdp_write(sfdp_write_call *f, const struct row *r, int stretch, const char *name)
+{
+    uint32_t answer;
+
+    (void)stretch, (void)name;
+    MARK_START(stretch);
+    answer = f(0x1FFFFF, erases, 4, out, r->frame_len);
+    MARK_END(stretch, name);
+    return answer;
+}
+
 static STRETCH void count_copy(copy_call *f, size_t n, int stretch, const char *name)
 {
     (void)stretch, (void)name;
@@ -301,6 +405,11 @@ static uint32_t call_once(const struct row *r, int who, int stretch, const char 
     static power_cycle_call *const power_cycles[] = {gwo_power_cycle, ref_power_cycle, NULL, empty_power_cycle};
     static cut_call *const cuts[] = {gwo_cut, ref_cut, NULL, empty_cut};
     static report_call *const reports[] = {gwo_wear_report, ref_wear_report, NULL, empty_report};
+    static sfdp_read_call *const reads[] = {gwo_sfdp_read, ref_sfdp_read, NULL, empty_sfdp_read};
+    static sfdp_revision_call *const revisions[] = {gwo_sfdp_revision, ref_sfdp_revision, NULL, empty_sfdp_revision};
+    static sfdp_header_call *const headers[] = {gwo_sfdp_header, ref_sfdp_header, NULL, empty_sfdp_header};
+    static sfdp_erase_call *const types[] = {gwo_sfdp_erase, ref_sfdp_erase, NULL, empty_sfdp_erase};
+    static sfdp_write_call *const writes[] = {gwo_sfdp_write, ref_sfdp_write, NULL, empty_sfdp_write};
 
     prepare(r);
     switch (r->kind) {
@@ -308,6 +417,11 @@ static uint32_t call_once(const struct row *r, int who, int stretch, const char 
     case WAIT: return count_wait(waits[who], stretch, name);
     case CUT: return count_cut(cuts[who], r, stretch, name);
     case REPORT: return count_report(reports[who], stretch, name);
+    case SFDP_READ: return count_sfdp_read(reads[who], r, stretch, name);
+    case SFDP_REVISION: return count_sfdp_revision(revisions[who], r, stretch, name);
+    case SFDP_HEADER: return count_sfdp_header(headers[who], r, stretch, name);
+    case SFDP_ERASE: return count_sfdp_erase(types[who], r, stretch, name);
+    case SFDP_WRITE: return count_sfdp_write(writes[who], r, stretch, name);
     default: return count_power_cycle(power_cycles[who], stretch, name);
     }
 }

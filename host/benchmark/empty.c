@@ -57,6 +57,37 @@ uint32_t empty_report(const uint32_t *wear, size_t wear_len, uint64_t *total, ui
     return 0;
 }
 
+uint32_t empty_sfdp_read(const uint8_t *bytes, size_t len, uint32_t *headers, uint32_t *density, uint32_t *types)
+{
+    (void)bytes, (void)len, (void)headers, (void)density, (void)types;
+    return 0;
+}
+
+uint32_t empty_sfdp_revision(const uint8_t *bytes, size_t len, uint32_t *minor, uint32_t *major)
+{
+    (void)bytes, (void)len, (void)minor, (void)major;
+    return 0;
+}
+
+uint32_t empty_sfdp_header(const uint8_t *bytes, size_t len, uint32_t index, uint32_t *id, uint32_t *minor,
+                           uint32_t *major, uint32_t *words, uint32_t *pointer)
+{
+    (void)bytes, (void)len, (void)index, (void)id, (void)minor, (void)major, (void)words, (void)pointer;
+    return 0;
+}
+
+uint32_t empty_sfdp_erase(const uint8_t *bytes, size_t len, uint32_t slot, uint32_t *exponent, uint32_t *opcode)
+{
+    (void)bytes, (void)len, (void)slot, (void)exponent, (void)opcode;
+    return 0;
+}
+
+uint32_t empty_sfdp_write(uint64_t density, const uint32_t *erases, size_t erases_len, uint8_t *out, size_t out_len)
+{
+    (void)density, (void)erases, (void)erases_len, (void)out, (void)out_len;
+    return 0;
+}
+
 void *empty_copy(void *to, const void *from, size_t n)
 {
     (void)from, (void)n;

@@ -1,5 +1,5 @@
 #!/bin/sh
-# Builds the two examples against the archive and runs them.
+# Builds the examples against the archive and runs them.
 #   host/example/run.sh [ARCHIVE]
 set -eu
 here=$(cd "$(dirname "$0")" && pwd)
@@ -12,3 +12,5 @@ for program in firmware unplugged; do
     "$host" cc -std=c99 -O2 -I"$root/host/include" "$here/$program.c" "$here/flash.c" "$archive" -o "$build/$program"
     "$host" run "$build/$program"
 done
+"$host" cc -std=c99 -O2 -I"$root/host/include" "$here/discover.c" "$archive" -o "$build/discover"
+"$host" run "$build/discover"

@@ -3,7 +3,7 @@
 
 #include <string.h>
 
-enum { WITHDRAWN = 0x52, BLOCK_ERASE = 0xD8, NO_SUCH = 0x5A };
+enum { WITHDRAWN = 0x52, BLOCK_ERASE = 0xD8, NO_SUCH = 0x3B };
 
 static int is_small(const struct call *c)
 {

@@ -50,6 +50,23 @@ uint32_t right_report(const struct call *c)
     return ref_wear_report(c->wear, c->wear_len, c->total, c->smallest, c->largest, c->sector, c->mean, c->remainder);
 }
 
+uint32_t right_reader(const struct call *c)
+{
+    uint32_t *const *r = c->results;
+
+    switch (c->reader) {
+    case READ: return ref_sfdp_read(c->table, c->table_len, r[0], r[1], r[2]);
+    case REVISION: return ref_sfdp_revision(c->table, c->table_len, r[0], r[1]);
+    case HEADER: return ref_sfdp_header(c->table, c->table_len, c->which, r[0], r[1], r[2], r[3], r[4]);
+    default: return ref_sfdp_erase(c->table, c->table_len, c->which, r[0], r[1]);
+    }
+}
+
+uint32_t right_write(const struct call *c)
+{
+    return ref_sfdp_write(c->density, c->erases, c->erases_len, c->out, c->out_len);
+}
+
 uint32_t address_in(const struct call *c)
 {
     return ((uint32_t)c->frame[1] << 16 | (uint32_t)c->frame[2] << 8 | c->frame[3]) % (uint32_t)c->array_len;
@@ -106,7 +123,9 @@ uint8_t *unit_cells(const struct call *c, const struct operation *o)
 static const struct { const struct pod *pods; int n; } books[] = {
     {mistakes, MISTAKES}, {mistakes_of_model_3, MISTAKES_OF_MODEL_3}, {mistakes_of_fold, MISTAKES_OF_FOLD},
     {mistakes_of_sleep, MISTAKES_OF_SLEEP}, {mistakes_of_cut, MISTAKES_OF_CUT}, {mistakes_of_wear, MISTAKES_OF_WEAR},
-    {mistakes_of_strict, MISTAKES_OF_STRICT}, {mistakes_of_withdrawn, MISTAKES_OF_WITHDRAWN}};
+    {mistakes_of_strict, MISTAKES_OF_STRICT}, {mistakes_of_withdrawn, MISTAKES_OF_WITHDRAWN},
+    {mistakes_of_5a, MISTAKES_OF_5A}, {mistakes_of_reader, MISTAKES_OF_READER},
+    {mistakes_of_writer, MISTAKES_OF_WRITER}};
 
 static const struct pod *choose_pod(void)
 {
@@ -198,4 +217,48 @@ uint32_t gwo_wear_report(const uint32_t *wear, size_t wear_len, uint64_t *total,
                            .largest = largest, .sector = sector, .mean = mean, .remainder = remainder};
 
     return pod()->report != NULL ? pod()->report(&c) : right_report(&c);
+}
+
+static uint32_t read_by_pod(const struct call *c)
+{
+    return pod()->sfdp_reader != NULL ? pod()->sfdp_reader(c) : right_reader(c);
+}
+
+uint32_t gwo_sfdp_read(const uint8_t *bytes, size_t len, uint32_t *headers, uint32_t *density, uint32_t *types)
+{
+    const struct call c = {.reader = READ, .table = bytes, .table_len = len, .results = {headers, density, types}};
+
+    return read_by_pod(&c);
+}
+
+uint32_t gwo_sfdp_revision(const uint8_t *bytes, size_t len, uint32_t *minor, uint32_t *major)
+{
+    const struct call c = {.reader = REVISION, .table = bytes, .table_len = len, .results = {minor, major}};
+
+    return read_by_pod(&c);
+}
+
+uint32_t gwo_sfdp_header(const uint8_t *bytes, size_t len, uint32_t index, uint32_t *id, uint32_t *minor, uint32_t *major,
+                         uint32_t *words, uint32_t *pointer)
+{
+    const struct call c = {.reader = HEADER, .table = bytes, .table_len = len, .which = index,
+                           .results = {id, minor, major, words, pointer}};
+
+    return read_by_pod(&c);
+}
+
+uint32_t gwo_sfdp_erase(const uint8_t *bytes, size_t len, uint32_t slot, uint32_t *exponent, uint32_t *opcode)
+{
+    const struct call c = {.reader = ERASE, .table = bytes, .table_len = len, .which = slot,
+                           .results = {exponent, opcode}};
+
+    return read_by_pod(&c);
+}
+
+uint32_t gwo_sfdp_write(uint64_t density, const uint32_t *erases, size_t erases_len, uint8_t *out, size_t out_len)
+{
+    const struct call c = {.density = density, .erases = erases, .erases_len = erases_len, .out = out,
+                           .out_len = out_len};
+
+    return pod()->sfdp_write != NULL ? pod()->sfdp_write(&c) : right_write(&c);
 }

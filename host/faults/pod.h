@@ -4,7 +4,11 @@
 
 #include "gwo.h"
 
-/* The arguments of gwo_frame, gwo_wait, gwo_power_cycle, gwo_cut or gwo_wear_report. */
+/* The four readers of SFDP tables; their results in the order of their arguments, as many as each has. */
+enum reader { READ, REVISION, HEADER, ERASE };
+enum { MOST_RESULTS = 5 };
+
+/* The arguments of gwo_frame, gwo_wait, gwo_power_cycle, gwo_cut or gwo_wear_report, or of a function on SFDP tables. */
 struct call {
     struct gwo_record record;
     uint8_t *state;
@@ -24,28 +28,39 @@ struct call {
     size_t pattern_len;
     uint64_t *total;
     uint32_t *smallest, *largest, *sector, *mean, *remainder;
+    enum reader reader;
+    const uint8_t *table;
+    size_t table_len;
+    uint32_t which; /* the index of a header, or a slot */
+    uint32_t *results[MOST_RESULTS];
+    uint64_t density;
+    const uint32_t *erases;
+    size_t erases_len;
 };
 
 typedef uint32_t answers(const struct call *c);
 
-/* A pod answers its calls so; where it has no function it is right. */
+/* A pod answers its calls so; where it has no function it is right. All four readers are one function. */
 struct pod {
-    answers *frame, *wait, *power_cycle, *cut, *report;
+    answers *frame, *wait, *power_cycle, *cut, *report, *sfdp_reader, *sfdp_write;
 };
 
 /*
  * 1 to 11; those of model 3, from 12 on; of the fold, from 21 on; of sleep, from 26 on; of a cut, from 31 on; of wear,
- * from 36 on; of strict, from 47 on; and of 52 withdrawn, from 56 on.
+ * from 36 on; of strict, from 47 on; of 52 withdrawn, from 56 on; of 5A, from 63 on; of the readers of SFDP tables, from
+ * 74 on; and of their writer, from 90 on.
  */
 enum { MISTAKES = 11, MISTAKES_OF_MODEL_3 = 9, MISTAKES_OF_FOLD = 5, MISTAKES_OF_SLEEP = 5, MISTAKES_OF_CUT = 5,
-       MISTAKES_OF_WEAR = 11, MISTAKES_OF_STRICT = 9, MISTAKES_OF_WITHDRAWN = 7 };
+       MISTAKES_OF_WEAR = 11, MISTAKES_OF_STRICT = 9, MISTAKES_OF_WITHDRAWN = 7,
+       MISTAKES_OF_5A = 11, MISTAKES_OF_READER = 16, MISTAKES_OF_WRITER = 11 };
 extern const struct pod mistakes[MISTAKES], mistakes_of_model_3[MISTAKES_OF_MODEL_3],
     mistakes_of_fold[MISTAKES_OF_FOLD], mistakes_of_sleep[MISTAKES_OF_SLEEP], mistakes_of_cut[MISTAKES_OF_CUT],
     mistakes_of_wear[MISTAKES_OF_WEAR], mistakes_of_strict[MISTAKES_OF_STRICT],
-    mistakes_of_withdrawn[MISTAKES_OF_WITHDRAWN];
+    mistakes_of_withdrawn[MISTAKES_OF_WITHDRAWN], mistakes_of_5a[MISTAKES_OF_5A],
+    mistakes_of_reader[MISTAKES_OF_READER], mistakes_of_writer[MISTAKES_OF_WRITER];
 
 /* Without a fault. */
-answers right_frame, right_wait, right_power_cycle, right_cut, right_report;
+answers right_frame, right_wait, right_power_cycle, right_cut, right_report, right_reader, right_write;
 
 /* The address in a frame of 4 bytes or more, modulo the array. */
 uint32_t address_in(const struct call *c);

@@ -16,7 +16,7 @@ failed=0
 rm -rf "$out"
 mkdir -p "$out"
 
-# The five programs with the pod behind the archive's names; GWO_FAULT says which fault it has.
+# The programs with the pod behind the archive's names; GWO_FAULT says which fault it has.
 for source in "$here"/*.c; do
     "$host" cc -std=c99 -O2 -Wall -Wextra -Wpedantic -I"$root/host/include" -I"$root/host/model" -c "$source" \
         -o "$out/$(basename "$source" .c).o"
@@ -26,20 +26,27 @@ pod="$out/*.o $obj/model.o"
 for program in compare thirteen; do
     "$host" cc "$obj/$program"*.o "$obj"/rig.o $pod -o "$out/$program"
 done
+for program in sfdp tables; do
+    "$host" cc "$obj/$program"*.o "$obj"/jig_sfdp_sheet.o "$obj"/rig.o $pod -o "$out/$program"
+done
 "$host" cc "$obj"/stack*.o "$obj"/empty.o "$obj"/rig.o $pod -o "$out/stack"
 for program in firmware unplugged; do
     "$host" cc "$obj/$program.o" "$obj"/flash.o $pod -o "$out/$program"
 done
 
-# The bytes of stack that the five calls take without a fault: the limits for the faulty ones.
-own=$(GWO_FAULT=0 "$host" run "$out/stack" 65536 65536 65536 65536 65536 | awk '/^  gwo_/ { print $2 }')
+# The bytes of stack that the ten calls take without a fault: the limits for the faulty ones.
+most=65536
+own=$(GWO_FAULT=0 "$host" run "$out/stack" $most $most $most $most $most $most $most $most $most $most | awk '/^  gwo_/ { print $2 }')
 
-# passes FAULT TEST: runs one of the five, or a group of rules, with that fault; its words go to $out/log.
+# passes FAULT TEST: runs one of them, or a group of rules or of sfdp, with that fault; its words go to $out/log.
 passes() {
     export GWO_FAULT="$1"
     case $2 in
     rules) "$host" run "$out/rules" first >"$out/log" 2>&1 ;;
     rules:*) "$host" run "$out/rules" first "${2#rules:}" >"$out/log" 2>&1 ;;
+    sfdp) "$host" run "$out/sfdp" first >"$out/log" 2>&1 ;;
+    sfdp:*) "$host" run "$out/sfdp" first "${2#sfdp:}" >"$out/log" 2>&1 ;;
+    tables) "$host" run "$out/tables" 10000 >"$out/log" 2>&1 ;;
     compare) "$host" run "$out/compare" 100000 >"$out/log" 2>&1 ;;
     thirteen) "$host" run "$out/thirteen" first >"$out/log" 2>&1 ;;
     stack) "$host" run "$out/stack" $own >"$out/log" 2>&1 ;;
@@ -80,7 +87,7 @@ fault() {
     fi
 }
 
-for test in rules compare thirteen example stack; do
+for test in rules compare thirteen example stack sfdp tables; do
     if passes 0 $test; then
         say passed "no fault: $test passes"
     else
@@ -150,5 +157,43 @@ fault 59 "21 comes after 14" "rules:refused by command" "rules:refused in order"
 fault 60 "21 comes before 12" "rules:refused by command" "rules:refused in order" compare
 fault 61 "a 52 that an older program has started is brought to its end" "rules:packed states" "rules:bench sheet" compare
 fault 62 "21 clears WEL" "rules:refused by command" rules:erasing "rules:bench sheet" compare
+fault 63 "5A: the address is taken modulo the array" "rules:SFDP reads" compare
+fault 64 "5A: past its end the table begins again" "rules:SFDP reads" "rules:lengths and tails" compare
+fault 65 "5A: 00 past the table's end" "rules:SFDP reads" "rules:lengths and tails" rules:folds compare
+fault 66 "5A: model 3 takes it too" "rules:SFDP reads" "rules:refused by command" "rules:lengths and tails" compare
+fault 67 "5A: it needs six bytes" "rules:SFDP reads" "rules:lengths and tails" compare
+fault 68 "5A: it is taken while busy" "rules:SFDP reads" "rules:refused by command" compare
+fault 69 "5A: no dummy byte" "rules:SFDP reads" "rules:lengths and tails" "sfdp:the chip's table" compare
+fault 70 "5A: it needs WEL" "rules:SFDP reads" "sfdp:the chip's table" compare
+fault 71 "5A: after the last address comes the table" "rules:SFDP reads" compare
+fault 72 "5A: a tail is refused" "rules:SFDP reads" "rules:lengths and tails" compare
+fault 73 "5A: still 13 on model 2" "rules:SFDP reads" "rules:lengths and tails" rules:folds "sfdp:the chip's table" compare
+fault 74 "SFDP reader: a table may end one byte past" "sfdp:table pointers" "sfdp:the sheet's table" tables
+fault 75 "SFDP reader: a table may not end with the last byte" "sfdp:table pointers" "sfdp:the sheet's table" tables
+fault 76 "SFDP reader: types are counted up to the first empty slot" "sfdp:what is read" tables
+fault 77 "SFDP reader: 32 comes before 31" "sfdp:refused in order" tables
+fault 78 "SFDP reader: 31 comes before 30" "sfdp:refused in order" tables
+fault 79 "SFDP reader: only the first header is judged" "sfdp:table lengths" "sfdp:table pointers" "sfdp:refused in order" tables
+fault 80 "SFDP reader: a first table under 36 bytes is taken" "sfdp:table lengths" "sfdp:refused in order" tables
+fault 81 "SFDP reader: refused, it leaves its results" sfdp:signatures "sfdp:header counts" "sfdp:table lengths" "sfdp:table pointers" tables
+fault 82 "SFDP reader: an index past the last header is read on" "sfdp:the sheet's table" "sfdp:the chip's table" tables
+fault 83 "SFDP reader: slots are counted from 0" "sfdp:what is read" "sfdp:the sheet's table" "sfdp:round trips" tables
+fault 84 "SFDP reader: a pointer has two bytes" "sfdp:table pointers" tables
+fault 85 "SFDP reader: the density's high byte comes first" "sfdp:what is read" "sfdp:round trips" tables
+fault 86 "SFDP reader: a byte past the table is looked at" sfdp tables
+fault 87 "SFDP reader: a table of no words may not start at the end" "sfdp:table pointers" tables
+fault 88 "SFDP reader: 256 headers are 0" "sfdp:header counts" tables
+fault 89 "SFDP reader: the revisions change places" "sfdp:what is read" "sfdp:the sheet's table" tables
+fault 90 "SFDP writer: it writes before it refuses" "sfdp:refused records" tables
+fault 91 "SFDP writer: 31h names the last 4 KiB type" "sfdp:written tables" tables
+fault 92 "SFDP writer: 30h and 31h are always the chip's own" "sfdp:written tables" tables
+fault 93 "SFDP writer: 30h says 4 KiB without such a type" "sfdp:written tables" tables
+fault 94 "SFDP writer: an empty slot is 00 00" "sfdp:written tables" "sfdp:round trips" "sfdp:the chip's table" tables
+fault 95 "SFDP writer: the density is cut to 32 bits" "sfdp:refused records" tables
+fault 96 "SFDP writer: an exponent is cut to a byte" "sfdp:refused records" tables
+fault 97 "SFDP writer: an exponent 0 is taken" "sfdp:refused records" tables
+fault 98 "SFDP writer: of five types four are written" "sfdp:refused records" tables
+fault 99 "SFDP writer: an exponent without opcode is left out" "sfdp:refused records" tables
+fault 100 "SFDP writer: the rest of the buffer is filled" "sfdp:written tables" tables
 echo "$passed passed, $failed failed"
 [ $failed -eq 0 ]

@@ -23,9 +23,11 @@
  *    of their own;
  *  - no two of the lent buffers overlap: the output is not the frame.
  *
- * A refused frame changes nothing but *from, *count and *fold, which become 0, and any other refused
- * call changes nothing. The one exception is the KH25L12845G's own: on model 3 a program or erase that
- * protection refuses (17) clears the write enable latch in the state, and 06 has to come again.
+ * A refused call changes no byte and no count that is lent to it. What it does to its results is said
+ * with each: *from, *count and *fold of a refused frame become 0, and so do all results of a refused
+ * reader of SFDP tables; those of a refused report are not written. The one exception is the
+ * KH25L12845G's own: on model 3 a program or erase that protection refuses (17) clears the write
+ * enable latch in the state, and 06 has to come again.
  *
  * The 272 bytes of a state: the status register; 1 in deep power-down, else 0; the configuration
  * register, 0 on models 1 and 2; 0; the microseconds that the chip is still busy, in four bytes,
@@ -66,6 +68,8 @@ extern "C" {
 
 #define GWO_WEAR_TOP 4294967295u /* the highest count */
 
+#define GWO_SFDP_LENGTH 112u /* the SFDP table of the KH25L2006E, and each that gwo_sfdp_write writes */
+
 /* What a call is answered. Of several that apply, the first in this order is given. */
 enum gwo_number {
     GWO_DONE = 0,           /* taken: a status write, program or erase is started, all else is done */
@@ -80,7 +84,7 @@ enum gwo_number {
     GWO_SETTLING = 22,      /* still going into deep power-down or coming out of it, whatever the command */
     GWO_BUSY = 11,          /* busy, and the command isn't 05, nor 15 on model 3; or a power cycle while busy */
     GWO_ASLEEP = 12,        /* in deep power-down, and the command isn't AB */
-    GWO_UNKNOWN = 13,       /* no command of this chip: 15 is one on model 3 only */
+    GWO_UNKNOWN = 13,       /* no command of this chip: 15 is one on model 3 only, 5A on model 2 only */
     GWO_WITHDRAWN = 21,     /* 52 on models 1 and 2, whatever its length and tail, with the write enable latch 0
                                or 1: it is not taken there any more; D8 erases the block */
     GWO_BAD_LENGTH = 14,    /* length or tail not allowed for the command */
@@ -90,6 +94,12 @@ enum gwo_number {
                                on model 3 the write enable latch clears, and nothing else changes */
     GWO_NOT_ERASED = 19,    /* strict, and a program: a cell has a 0 where the byte that counts for it has a 1 */
     GWO_WEAR_FULL = 25,     /* an erase, and the count of a sector that it covers is 4,294,967,295 */
+    GWO_NO_SFDP = 30,       /* a reader of SFDP tables: under 8 bytes, or they do not begin with 53 46 44 50 */
+    GWO_SFDP_SHORT = 31,    /* the headers or one of the tables take more bytes than there are, or the first table is
+                               under 36 bytes */
+    GWO_SFDP_POINTER = 32,  /* a table does not end within the bytes */
+    GWO_SFDP_RECORD = 33,   /* the writer: a number does not fit its place, an exponent is 0, an exponent lacks its
+                               opcode, there are over four erase types, or under 112 bytes to write to */
     GWO_BAD_PATTERN = 23,   /* a cut whose pattern isn't as long as what the running operation changes */
     GWO_BAD_LINE = 20       /* a script line that is not well formed (the runner only) */
 };
@@ -117,6 +127,10 @@ static inline const char *gwo_text(uint32_t number)
     case GWO_PROTECTED: return "unit protected";
     case GWO_NOT_ERASED: return "strict: a cell would not hold the byte sent to it";
     case GWO_WEAR_FULL: return "erase count at its highest";
+    case GWO_NO_SFDP: return "no SFDP signature, or under 8 bytes";
+    case GWO_SFDP_SHORT: return "SFDP: more headers or a longer table than bytes, or a first table under 36 bytes";
+    case GWO_SFDP_POINTER: return "SFDP: a table's pointer leads past the bytes";
+    case GWO_SFDP_RECORD: return "SFDP: a field does not fit, an exponent is 0, or the buffer is under 112 bytes";
     case GWO_BAD_PATTERN: return "pattern length is not that of the running operation";
     case GWO_BAD_LINE: return "script line not well formed";
     default: return "no number of this model";
@@ -205,6 +219,35 @@ uint32_t gwo_cut(uint32_t model, uint32_t status_us, uint32_t page_us, uint32_t 
  */
 uint32_t gwo_wear_report(const uint32_t *wear, size_t wear_len, uint64_t *total, uint32_t *smallest,
                          uint32_t *largest, uint32_t *sector, uint32_t *mean, uint32_t *remainder);
+
+/* ---- SFDP, the table in which a chip says what it is (JESD216). On model 2 the frame 5A, three address bytes, a dummy
+ * byte reads it: its 112 bytes from the address on, FF past them. The address is taken as it is sent, not modulo
+ * anything. The functions below know no chip: they read such a table, any chip's, and write one. Numbers of several
+ * bytes have the low byte first, and every result points to a number of its own.
+ *
+ * The reader: bytes are what a host has read from address 0 on. Answers 0, 30, 31 or 32, each over the whole table:
+ * first the signature, then all lengths, then all pointers. At 30, 31 and 32 every result is 0. The table is only
+ * read. Revisions, ids and unused bytes are not judged.
+ * gwo_sfdp_read: *headers is their number, 1 to 256; *density the field as it stands, on the KH25L2006E the bits of
+ *   the chip less one; *types how many of the four erase types exist, wherever they stand.
+ * gwo_sfdp_revision: bytes 5 and 4, the major and minor revision, answered as the bytes are.
+ * gwo_sfdp_header: the parameter header of an index from 0; *words its table's length in double words, *pointer where it
+ *   starts. An index that is no header's: answered as the bytes are, all five results 0.
+ * gwo_sfdp_erase: the erase type of a slot 1 to 4 as it stands: it erases 2 to the power of *exponent bytes by the
+ *   command *opcode; exponent 0 where there is none. Another slot: answered as the bytes are, both results 0.
+ *
+ * The table says what the sheet of the KH25L2006E says, and that is more than the model plays: it names 3B, the read on
+ * two wires, which is answered 13. Firmware that goes by the table must not take 3B from it. */
+uint32_t gwo_sfdp_read(const uint8_t *bytes, size_t len, uint32_t *headers, uint32_t *density, uint32_t *types);
+uint32_t gwo_sfdp_revision(const uint8_t *bytes, size_t len, uint32_t *minor, uint32_t *major);
+uint32_t gwo_sfdp_header(const uint8_t *bytes, size_t len, uint32_t index, uint32_t *id, uint32_t *minor, uint32_t *major,
+                         uint32_t *words, uint32_t *pointer);
+uint32_t gwo_sfdp_erase(const uint8_t *bytes, size_t len, uint32_t slot, uint32_t *exponent, uint32_t *opcode);
+/* The writer: `erases` holds erases_len numbers, an exponent and an opcode for each erase type, so 0, 2, 4, 6 or 8. It
+ * writes 112 bytes at the head of out: the table of the KH25L2006E with this density and these erase types, in slots 1 on. The first type
+ * with exponent 12 is also named as the erase of 4 KiB. What it writes, the reader reads as the same density and the same
+ * types. Answers 0 or 33, and at 33 nothing is written; the rest of out stays always. */
+uint32_t gwo_sfdp_write(uint64_t density, const uint32_t *erases, size_t erases_len, uint8_t *out, size_t out_len);
 
 /*
  * The chip record under one name. Firmware that fills it from a named bench record, or by field

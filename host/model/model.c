@@ -3,17 +3,18 @@
  * Sheet lines: 000 is the KH25L512, 002 the KH25L2006E, 003 the KH25L12845G.
  */
 #include "model.h"
+#include "sfdp_image.h"
 
 #include <stdbool.h>
 #include <string.h>
 
 enum { PAGE = 256, SECTOR = 4096, HALF_BLOCK = 32768, BLOCK = 65536, FRAME_LIMIT = 65541, STATE = 272 };
 
-/* HALF_ERASE is model 3's: the others had 52 for a block, until it was withdrawn. */
+/* HALF_ERASE is model 3's: the others had 52 for a block, until it was withdrawn. READ_SFDP is model 2's. */
 enum {
     WRITE_STATUS = 0x01, PROGRAM = 0x02, READ = 0x03, WRITE_DISABLE = 0x04,
     READ_STATUS = 0x05, WRITE_ENABLE = 0x06, FAST_READ = 0x0B, READ_CONFIG = 0x15, SECTOR_ERASE = 0x20,
-    HALF_ERASE = 0x52, CHIP_ERASE_60 = 0x60, READ_MAKER = 0x90, READ_ID = 0x9F,
+    HALF_ERASE = 0x52, READ_SFDP = 0x5A, CHIP_ERASE_60 = 0x60, READ_MAKER = 0x90, READ_ID = 0x9F,
     WAKE = 0xAB, SLEEP = 0xB9, CHIP_ERASE_C7 = 0xC7, BLOCK_ERASE = 0xD8
 };
 
@@ -48,16 +49,17 @@ struct chip {
     bool large;             /* 003: a configuration register, half blocks, and 17 clears WEL */
     uint8_t status, config; /* the bits that the two registers have */
     uint16_t locked[16];    /* by BP: so many blocks at the top are protected, or with TB at the bottom */
+    const uint8_t *sfdp;    /* what 5A reads, SFDP_LENGTH bytes; null where the chip has no 5A */
 };
 
 static const struct chip chips[] = {
     /* 000 L383-391, L126-131 */
-    {65536, {0xC2, 0x20, 0x10}, 0x05, false, 0x8F, 0, {0, 1, 1, 1}},
+    {65536, {0xC2, 0x20, 0x10}, 0x05, false, 0x8F, 0, {0, 1, 1, 1}, NULL},
     /* 002 L522-526, L273-276 */
-    {262144, {0xC2, 0x20, 0x12}, 0x11, false, 0x8F, 0, {0, 1, 2, 4}},
+    {262144, {0xC2, 0x20, 0x12}, 0x11, false, 0x8F, 0, {0, 1, 2, 4}, sfdp_image},
     /* 003 L735-742, L813-843, L285-323 */
     {16777216, {0xC2, 0x20, 0x18}, 0x17, true, 0xBF, VOLATILE | TB,
-     {0, 1, 2, 4, 8, 16, 32, 64, 128, 256, 256, 256, 256, 256, 256, 256}},
+     {0, 1, 2, 4, 8, 16, 32, 64, 128, 256, 256, 256, 256, 256, 256, 256}, NULL},
 };
 
 /* 01, Record. */
@@ -193,10 +195,16 @@ static bool unpack(struct state *s, uint8_t *p, size_t len, const struct record 
     return s->busy_us <= time_of(r, s->command) && s->wel && !s->asleep && s->settling_us == 0;
 }
 
-/* The 24-bit address, high byte first, modulo the array length (a power of two). */
+/* The 24-bit address as it is sent, high byte first. */
+static uint32_t sent_address(const uint8_t *frame)
+{
+    return (uint32_t)frame[1] << 16 | (uint32_t)frame[2] << 8 | frame[3];
+}
+
+/* The address in the array: modulo its length, a power of two. */
 static uint32_t address(const uint8_t *frame, uint32_t size)
 {
-    return ((uint32_t)frame[1] << 16 | (uint32_t)frame[2] << 8 | frame[3]) & (size - 1);
+    return sent_address(frame) & (size - 1);
 }
 
 /*
@@ -223,6 +231,11 @@ static uint32_t form_refusal(const struct chip *chip, uint8_t command, size_t le
         ok = len >= 4;
         break;
     case FAST_READ:
+        ok = len >= 5;
+        break;
+    case READ_SFDP:
+        if (chip->sfdp == NULL)
+            return 13;
         ok = len >= 5;
         break;
     case HALF_ERASE:
@@ -378,6 +391,18 @@ static void read_cells(const uint8_t *array, uint32_t size, uint32_t at, uint8_t
     }
 }
 
+/* The table from an address on, the one that was sent; past its end all is FF, also past the last address (02, Req 12). */
+static void read_sfdp(const uint8_t *image, uint32_t at, uint8_t *out, size_t n)
+{
+    size_t inside = at < SFDP_LENGTH ? SFDP_LENGTH - at : 0;
+
+    if (inside > n)
+        inside = n;
+    if (inside > 0)
+        memcpy(out, image + at, inside);
+    memset(out + inside, 0xFF, n - inside);
+}
+
 static void drive_id(const uint8_t id[3], uint8_t *out, size_t n)
 {
     size_t i;
@@ -426,6 +451,9 @@ static size_t answer(const struct chip *chip, const struct state *s, const uint8
         return 4;
     case FAST_READ:
         read_cells(array, chip->size, address(frame, chip->size), out + 5, len - 5);
+        return 5;
+    case READ_SFDP:
+        read_sfdp(chip->sfdp, sent_address(frame), out + 5, len - 5);
         return 5;
     case READ_MAKER:
         drive_maker(chip->signature, frame[3], out + 4, len - 4);

@@ -98,14 +98,18 @@ void wear_met(uint32_t chip);
 void strict_met(uint32_t chip);
 void history_met(uint32_t chip);
 
+/* Counts what a 5A met; a failure unless on model 2 every kind of it was met, and on the others that it is unknown. */
+void note_table(const struct call *c, uint32_t number);
+void tables_met(void);
+
 /* Counts a call, by the packed state before it and its answer. */
 void note(const struct call *c, const uint8_t *state, uint32_t number);
 
 /*
  * A failure unless on each model every number was met, by each kind of call that can be answered so, every command
  * accepted, every operation completed and cut, programs ended on both sides of their page's end, every kind of
- * wear table and of strict program, and a history with many operations; and unless all that only model 3 has was met,
- * and all that sleep takes.
+ * wear table and of strict program, and a history with many operations; and unless all that only model 2 or 3 has was
+ * met, and all that sleep takes.
  */
 void check_variety(void);
 

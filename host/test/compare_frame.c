@@ -8,7 +8,7 @@
 
 /* The commands; those that change cells, and AB, come more often. */
 static const uint8_t drawn[] = {0x01, 0x01, 0x02, 0x02, 0x02, 0x02, 0x02, 0x03, 0x03, 0x04, 0x05, 0x06, 0x0B, 0x15,
-                                0x20, 0x20, 0x52, 0x60, 0x90, 0x9F, 0xAB, 0xAB, 0xB9, 0xC7, 0xD8};
+                                0x20, 0x20, 0x52, 0x5A, 0x5A, 0x60, 0x90, 0x9F, 0xAB, 0xAB, 0xB9, 0xC7, 0xD8};
 
 /* A chip erase of 16 MiB takes its time, so it comes seldom; a half block erase comes in its place. */
 static uint8_t any_command(uint32_t chip)
@@ -39,6 +39,16 @@ uint32_t any_address(uint32_t chip)
     return (below(&dice, space / unit) * unit + below(&dice, 5) - 2) & 0xFFFFFF;
 }
 
+/* An SFDP address: in the table or just past it, as it is or with a higher bit set, or among the last ones. */
+static uint32_t table_address(void)
+{
+    uint32_t address = below(&dice, 120);
+
+    if (chance(&dice, 70))
+        return address;
+    return chance(&dice, 50) ? 0xFFFFFF - address : address | 1u << (7 + below(&dice, 17));
+}
+
 /* A length around the limits of every rule. */
 static size_t any_length(void)
 {
@@ -61,6 +71,16 @@ static size_t data_length(uint32_t address)
     }
 }
 
+/* 5A: around the table's end, or any; at times no byte, or as many as there can be. */
+static size_t table_length(uint32_t address)
+{
+    switch (below(&dice, 8)) {
+    case 0: case 1: return address < 112 ? 5 + 112 - address + below(&dice, 3) - 1 : 5 + below(&dice, 3);
+    case 2: return chance(&dice, 90) ? 5 : 65541 - below(&dice, 3);
+    default: return 5 + below(&dice, 130);
+    }
+}
+
 /* A length that the command allows, mostly. */
 static size_t fitting_length(uint32_t chip, uint8_t command, uint32_t address)
 {
@@ -70,6 +90,7 @@ static size_t fitting_length(uint32_t chip, uint8_t command, uint32_t address)
     case 0x20: case 0x52: case 0xD8: return 4;
     case 0xAB: return chance(&dice, 50) ? 1 : 4 + below(&dice, 5);
     case 0x05: case 0x15: case 0x9F: return 1 + below(&dice, 8);
+    case 0x5A: return table_length(address);
     default: return 4 + data_length(address) - (command == 0x03 && chance(&dice, 10));
     }
 }
@@ -80,6 +101,8 @@ static void choose_bytes(struct call *c)
     uint32_t chip = c->record.model, address = c->history ? address_in_history() : any_address(chip);
     uint8_t any = any_command(chip), command = c->history ? command_in_history(any) : any, *frame;
 
+    if (command == 0x5A && chance(&dice, 90))
+        address = table_address();
     c->frame_len = chance(&dice, 75) ? fitting_length(chip, command, address) : any_length();
     frame = last_of(&model.frame, c->frame_len);
     scatter(&dice, frame, c->frame_len);

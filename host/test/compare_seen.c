@@ -115,6 +115,7 @@ void note(const struct call *c, const uint8_t *state, uint32_t number)
     note_wear(c, number);
     note_strict(c, number);
     note_history(c, number);
+    note_table(c, number);
     if (c->kind != FRAME || (number != 0 && number != 17))
         return;
     if (number == 0)
@@ -250,4 +251,5 @@ void check_variety(void)
     printf("\n");
     sleep_met();
     left_met();
+    tables_met();
 }

@@ -22,7 +22,7 @@ static void check(int ok, const char *what)
 static void texts(void)
 {
     static const uint32_t numbers[] = {0, 1, 2, 24, 3, 4, 5, 10, 22, 11, 12, 13, 21, 14, 15, 16, 17, 19, 25,
-                                       23, 20, 6};
+                                       30, 31, 32, 33, 23, 20, 6};
     const size_t n = sizeof numbers / sizeof numbers[0];
     size_t i, k;
 
@@ -37,6 +37,8 @@ static void texts(void)
     check(GWO_BAD_WEAR == 24 && GWO_WEAR_FULL == 25, "the numbers of a table and of a count");
     check(GWO_NOT_ERASED == 19, "the number of a cell that is not erased");
     check(GWO_WITHDRAWN == 21, "the number of a command that is withdrawn");
+    check(GWO_NO_SFDP == 30 && GWO_SFDP_SHORT == 31 && GWO_SFDP_POINTER == 32, "the numbers of an SFDP table");
+    check(GWO_SFDP_RECORD == 33 && GWO_SFDP_LENGTH == 112, "the number of an SFDP record, and a table's length");
 }
 
 static void lengths(void)
@@ -329,6 +331,31 @@ static void nulls(const struct gwo_record *r)
     check(gwo_record_cut(r, state, s, NULL, 0, NULL, 0) == GWO_BAD_ARRAY, "a cut without an array");
 }
 
+/* The chip's own record: written, and read again; then refused, each time with results of 0. */
+static void sfdp(void)
+{
+    static const uint32_t erases[4] = {12, 0x20, 16, 0xD8};
+    uint8_t table[GWO_SFDP_LENGTH + 1];
+    uint32_t a = 9, b = 9, c = 9, d = 9, e = 9;
+
+    memset(table, 0x5A, sizeof table);
+    check(gwo_sfdp_write(0x1FFFFF, erases, 4, table, GWO_SFDP_LENGTH - 1) == GWO_SFDP_RECORD, "a short buffer");
+    check(gwo_sfdp_write(0x1FFFFF, erases, 3, table, sizeof table) == GWO_SFDP_RECORD, "an exponent alone");
+    check(gwo_sfdp_write(0x1FFFFF, NULL, 0, NULL, 0) == GWO_SFDP_RECORD && table[0] == 0x5A, "nothing to write to");
+    check(gwo_sfdp_write(0x1FFFFF, erases, 4, table, sizeof table) == GWO_DONE && table[112] == 0x5A, "a table");
+    check(gwo_sfdp_read(table, 112, &a, &b, &c) == GWO_DONE && a == 2 && b == 0x1FFFFF && c == 2, "what it says");
+    check(gwo_sfdp_revision(table, 112, &a, &b) == GWO_DONE && a == 0 && b == 1, "its revision");
+    check(gwo_sfdp_header(table, 112, 1, &a, &b, &c, &d, &e) == GWO_DONE && a == 0xC2 && b == 0, "a header");
+    check(c == 1 && d == 4 && e == 0x60, "its table");
+    check(gwo_sfdp_erase(table, 112, 2, &a, &b) == GWO_DONE && a == 16 && b == 0xD8, "an erase type");
+    check(gwo_sfdp_erase(table, 111, 2, &a, &b) == GWO_SFDP_POINTER && a == 0 && b == 0, "a table that is cut off");
+    check(gwo_sfdp_read(table, 23, &a, &b, &c) == GWO_SFDP_SHORT && a == 0 && b == 0 && c == 0, "a header that is");
+    a = b = c = 9;
+    check(gwo_sfdp_read(NULL, 0, &a, &b, &c) == GWO_NO_SFDP && a == 0 && b == 0 && c == 0, "no bytes");
+    check(gwo_sfdp_write(0, NULL, 0, table, 112) == GWO_DONE, "no erase types");
+    check(gwo_sfdp_read(table, 112, &a, &b, &c) == GWO_DONE && b == 0 && c == 0, "what that says");
+}
+
 int main(int argc, char **argv)
 {
     if (argc > 1)
@@ -361,6 +388,7 @@ int main(int argc, char **argv)
     nulls(&gwo_bench_model_1);
     nulls(&gwo_bench_model_2);
     nulls(&gwo_bench_model_3);
+    sfdp();
     printf("%s: %s\n", program, failed ? "failed" : "compiles without a warning, links and runs");
     return failed;
 }

@@ -247,6 +247,13 @@ void want_hex(uint32_t from, const char *hex)
     wanted_count = (uint32_t)unhex(hex, wanted_out + from);
 }
 
+void want_out(uint32_t from, const uint8_t *bytes, size_t n)
+{
+    wanted_from = from;
+    wanted_count = (uint32_t)n;
+    memcpy(wanted_out + from, bytes, n);
+}
+
 void want_cells(uint32_t at, uint32_t n, uint8_t value)
 {
     cells_want(cells_of(given.array_len), at, n, value);

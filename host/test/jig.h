@@ -113,6 +113,9 @@ void want_cells(uint32_t at, uint32_t n, uint8_t value);
 void want_bytes(uint32_t at, const uint8_t *bytes, uint32_t n);
 void want_fold(int folded);
 
+/* Driven from a position on: these bytes. */
+void want_out(uint32_t from, const uint8_t *bytes, size_t n);
+
 /* Driven from a position to the frame's end: the bytes given, repeated. */
 void want_repeated(uint32_t from, const char *hex);
 

@@ -23,6 +23,7 @@ static const struct {
     {"falling asleep and waking", falling_asleep_and_waking},
     {"configuration register", configuration},
     {"reading commands", reading_commands},
+    {"SFDP reads", sfdp_reads},
     {"erasing", erasing},
     {"protected areas", protected_areas},
     {"programming", programming},

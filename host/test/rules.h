@@ -13,6 +13,7 @@ void state_commands(void);             /* 06, 04, B9, AB, 05, 01 */
 void falling_asleep_and_waking(void);  /* B9 and AB: how long a chip settles, and what it answers meanwhile */
 void configuration(void);              /* 15, 01 with two data bytes, and TB, which is never cleared */
 void reading_commands(void);           /* 03, 0B, 9F, AB, 90 */
+void sfdp_reads(void);                 /* 5A on model 2: the table of its sheet, and FF past it */
 void erasing(void);                    /* 20, D8, 60, C7; 52 on model 3, and withdrawn */
 void protected_areas(void);            /* what BP and TB protect */
 void programming(void);                /* 02: fold, AND, the last byte counts */

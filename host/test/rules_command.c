@@ -5,15 +5,16 @@
 #include <string.h>
 
 /*
- * The sixteen commands of 01's list, 52 also where it is withdrawn, and on model 3 the configuration read; 3B and 5A are
- * not among them.
+ * The sixteen commands of 01's list, 52 also where it is withdrawn, on model 3 the configuration read, and on model 2 the
+ * read of the SFDP table; 3B is on no model among them.
  */
 static int known(uint32_t model, unsigned command)
 {
     static const uint8_t list[] = {0x01, 0x02, 0x03, 0x04, 0x05, 0x06, 0x0B, 0x20,
                                    0x52, 0x60, 0x90, 0x9F, 0xAB, 0xB9, 0xC7, 0xD8};
 
-    return memchr(list, (int)command, sizeof list) != NULL || (model == 3 && command == 0x15);
+    return memchr(list, (int)command, sizeof list) != NULL || (model == 3 && command == 0x15) ||
+           (model == 2 && command == 0x5A);
 }
 
 static const char *byte_of(const char *what, uint32_t model, unsigned command, size_t length, uint32_t tail)

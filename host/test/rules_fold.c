@@ -3,6 +3,7 @@
  * otherwise. The other groups want 0 of every frame that is no such program.
  */
 #include "jig.h"
+#include "jig_sfdp.h"
 #include "rules.h"
 
 /* FF leaves every cell as it is, so that only the time and the fold are seen. */
@@ -112,6 +113,11 @@ static uint32_t want_other(uint32_t model, uint8_t command)
         if (model != 3)
             return 13;
         want_repeated(1, "00");
+        return 0;
+    case 0x5A:
+        if (model != 2)
+            return 13;
+        want_table(5, 0xFF);
         return 0;
     case 0x52:
         return model == 3 ? 14 : 21;

@@ -3,11 +3,12 @@
  * each of them: one row a command, for a frame whose bytes after the command are 0.
  */
 #include "jig.h"
+#include "jig_sfdp.h"
 #include "rules.h"
 
 enum { ANY = 1, NO_TAIL = 0, END = LONGEST_FRAME };
-enum on { EVERY_MODEL, SMALL, LARGE }; /* models 1 and 2, model 3 */
-enum driven { NOTHING, STATUS_BYTE, REGISTER, CELLS, ID, SIGNATURE, BY_TURNS };
+enum on { EVERY_MODEL, SMALL, LARGE, SECOND }; /* models 1 and 2, model 3, model 2 */
+enum driven { NOTHING, STATUS_BYTE, REGISTER, CELLS, TABLE, ID, SIGNATURE, BY_TURNS };
 
 /* What it gives on an awake, idle chip with WEL 1 and the rest 0. */
 struct row {
@@ -32,6 +33,7 @@ static const struct row rows[] = {
     {0x01, LARGE, 2, 3, NO_TAIL, 0, NOTHING, 1, 0},
     {0x03, EVERY_MODEL, 4, END, ANY, 4, CELLS, 1, 0},
     {0x0B, EVERY_MODEL, 5, END, ANY, 5, CELLS, 1, 0},
+    {0x5A, SECOND, 5, END, ANY, 5, TABLE, 1, 0},
     {0x20, EVERY_MODEL, 4, 4, NO_TAIL, 0, NOTHING, 1, 0},
     {0x52, LARGE, 4, 4, NO_TAIL, 0, NOTHING, 1, 0},
     {0xD8, EVERY_MODEL, 4, 4, NO_TAIL, 0, NOTHING, 1, 0},
@@ -45,6 +47,8 @@ enum { ROWS = sizeof rows / sizeof rows[0] };
 
 static int is_for(const struct row *r, uint32_t model, uint8_t command)
 {
+    if (r->on == SECOND)
+        return r->command == command && model == 2;
     return r->command == command && (r->on == EVERY_MODEL || (r->on == LARGE) == (model == 3));
 }
 
@@ -84,6 +88,7 @@ static void want_driven(const struct row *r, uint32_t model)
     case STATUS_BYTE: want_repeated(r->first, "02"); break;
     case REGISTER: want_repeated(r->first, "00"); break;
     case CELLS: want_cells_driven(r->first, 0); break;
+    case TABLE: want_table(r->first, 0); break;
     case ID: want_repeated(r->first, part_of(model)->id); break;
     case SIGNATURE: want_repeated(r->first, part_of(model)->signature); break;
     case BY_TURNS: want_repeated(r->first, part_of(model)->by_turns[0]); break;

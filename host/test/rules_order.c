@@ -68,10 +68,11 @@ static int too_long(unsigned faults, unsigned variant)
     return (faults & FRAME) && (faults & (RECORD | ARRAY | WEAR | STATE)) == 0 && variant % 2 == 0;
 }
 
+/* 5A is unknown on models 1 and 3, and what lies beside it on model 2. */
 static void spoil_frame(unsigned faults, unsigned variant)
 {
     if (faults & UNKNOWN)
-        given.frame[0] = variant % 2 ? 0x3B : 0x5A;
+        given.frame[0] = variant % 2 ? 0x3B : given.record.model == 2 ? 0x5B : 0x5A;
     if (faults & WITHDRAWN)
         given.frame[0] = 0x52;
     if (faults & LENGTH) {

@@ -1,8 +1,8 @@
 /*
  * The deepest stack of gwo_frame, gwo_wait, gwo_power_cycle, gwo_cut and gwo_wear_report, over calls of every kind on
- * each model.
- *   stack [FRAME WAIT POWER_CYCLE CUT REPORT]
- * A call that takes more bytes than its limit is a failure. The limits are the archive's, or the five numbers.
+ * each model, and of the five functions on SFDP tables.
+ *   stack [FRAME WAIT POWER_CYCLE CUT REPORT READ REVISION HEADER ERASE WRITE]
+ * A call that takes more bytes than its limit is a failure. The limits are the archive's, or the ten numbers.
  */
 #include "stack.h"
 
@@ -12,10 +12,12 @@
 #include <stdlib.h>
 #include <string.h>
 
-static const char *const names[KINDS] = {"gwo_frame", "gwo_wait", "gwo_power_cycle", "gwo_cut", "gwo_wear_report"};
+static const char *const names[KINDS] = {
+    "gwo_frame", "gwo_wait", "gwo_power_cycle", "gwo_cut", "gwo_wear_report", "gwo_sfdp_read", "gwo_sfdp_revision",
+    "gwo_sfdp_header", "gwo_sfdp_erase", "gwo_sfdp_write"};
 
 /* What the archive was measured to take, in bytes; it may take SPARE more. */
-static const size_t measured[KINDS] = {304, 160, 67, 94, 40};
+static const size_t measured[KINDS] = {304, 160, 67, 94, 40, 48, 32, 64, 40, 48};
 enum { SPARE = 16 };
 
 static size_t limits[KINDS], most[KINDS];
@@ -87,7 +89,10 @@ static void measure(const struct call *c, uint32_t answer)
         most[c->kind] = takes;
 }
 
-/* The command and its address, zeros after them; the models before first_model do not take it, and 21 is not model 3's. */
+/*
+ * The command and its address, zeros after them; the models before first_model do not take it, and 21 and 5A are not
+ * model 3's.
+ */
 static const struct {
     uint8_t head[4];
     size_t n;
@@ -98,6 +103,7 @@ static const struct {
     {{0xAB}, 1, 0, 1}, {{0xAB}, 5, 0, 1}, {{0xAB}, 65541, 0, 1},
     {{0x03, 0, 0x12, 0x34}, 20, 0, 1}, {{0x03, 0xFF, 0xFF, 0xFF}, 65541, 0, 1},
     {{0x0B, 0, 0x12, 0x34}, 21, 0, 1}, {{0x0B, 0xFF, 0xFF, 0xFF}, 65541, 0, 1},
+    {{0x5A}, 5, 0, 2}, {{0x5A}, 117, 0, 2}, {{0x5A}, 65541, 0, 2}, {{0x5A, 0xFF, 0xFF, 0xFF}, 65541, 0, 2},
     {{0x06}, 1, 0, 1}, {{0x04}, 1, 0, 1}, {{0xB9}, 1, 0, 1}, {{0x01}, 2, 0, 1}, {{0x01}, 3, 0, 3},
     {{0x02, 0, 0x12, 0x34}, 4 + 1, 0, 1}, {{0x02, 0, 0x12, 0xFF}, 4 + 2, 0, 1}, {{0x02, 0, 0x12, 0}, 4 + 256, 0, 1},
     {{0x02, 0, 0x12, 0x34}, 4 + 256, 0, 1}, {{0x02, 0, 0x12, 0}, 4 + 257, 0, 1},
@@ -123,7 +129,7 @@ static void frames(uint32_t model)
     for (i = 0; i < sizeof rows / sizeof rows[0]; i++) {
         struct call c = call_on(model, FRAME);
 
-        if (model < rows[i].first_model || (rows[i].answer == 21 && model == 3))
+        if (model < rows[i].first_model || (model == 3 && (rows[i].answer == 21 || rows[i].head[0] == 0x5A)))
             continue;
         memcpy(frame, rows[i].head, sizeof rows[i].head);
         c.frame_len = c.out_len = rows[i].n;
@@ -212,6 +218,49 @@ static void reports(uint32_t model)
     measure(&c, 24);
 }
 
+/* The sheet's own table, one of 256 headers, and each refusal. */
+static void sfdp(enum kind kind)
+{
+    static uint8_t table[8 + 8 * 256 + 36];
+    static const uint32_t erases[8] = {12, 0x20, 15, 0x52, 16, 0xD8, 8, 0x81};
+    struct call c = call_on(2, kind);
+    size_t n;
+
+    c.table = table;
+    c.which = 1;
+    if (gwo_sfdp_write(0x1FFFFF, erases, 8, table, GWO_SFDP_LENGTH) != 0)
+        fail("a table was not written");
+    for (n = 0; n <= GWO_SFDP_LENGTH; n++) {
+        c.table_len = n;
+        measure(&c, n < 8 ? 30 : n < 36 ? 31 : n < GWO_SFDP_LENGTH ? 32 : 0);
+    }
+    memset(table + 16, 0, sizeof table - 16);
+    table[6] = 255;
+    table[12] = (8 + 8 * 256) & 0xFF;
+    table[13] = (8 + 8 * 256) >> 8;
+    c.table_len = sizeof table;
+    measure(&c, 0);
+    c.table_len = 8 + 8 * 256 - 1;
+    measure(&c, 31);
+}
+
+static void sfdp_writes(void)
+{
+    static const uint32_t erases[8] = {12, 0x20, 15, 0x52, 16, 0xD8, 0, 0x81};
+    struct call c = call_on(2, SFDP_WRITE);
+
+    c.erases = erases;
+    c.out_len = GWO_SFDP_LENGTH;
+    for (c.erases_len = 0; c.erases_len <= 8; c.erases_len++)
+        measure(&c, c.erases_len % 2 == 0 && c.erases_len < 8 ? 0 : 33);
+    c.erases_len = 6;
+    c.density = UINT64_MAX;
+    measure(&c, 33);
+    c.density = 0xFFFFFFFF;
+    c.out_len -= 1;
+    measure(&c, 33);
+}
+
 int main(int argc, char **argv)
 {
     uint32_t model;
@@ -219,7 +268,7 @@ int main(int argc, char **argv)
 
     rig_begin("stack");
     if (argc != 1 && argc != 1 + KINDS) {
-        printf("usage: stack [FRAME WAIT POWER_CYCLE CUT REPORT]\n");
+        printf("usage: stack [FRAME WAIT POWER_CYCLE CUT REPORT READ REVISION HEADER ERASE WRITE]\n");
         return 2;
     }
     for (k = 0; k < KINDS; k++)
@@ -232,8 +281,11 @@ int main(int argc, char **argv)
         times(model, CUT);
         reports(model);
     }
+    for (k = SFDP_READ; k < SFDP_WRITE; k++)
+        sfdp((enum kind)k);
+    sfdp_writes();
     for (k = 0; k < KINDS; k++)
-        printf("  %-15s %4lu bytes, at most %lu\n", names[k], (unsigned long)most[k], (unsigned long)limits[k]);
+        printf("  %-17s %4lu bytes, at most %lu\n", names[k], (unsigned long)most[k], (unsigned long)limits[k]);
     printf("stack: %lu calls, %lu failures; gwo_frame takes %lu bytes, gwo_wait %lu, gwo_power_cycle %lu, "
            "gwo_cut %lu, gwo_wear_report %lu\n", rig_calls, failures(), (unsigned long)most[FRAME],
            (unsigned long)most[WAIT], (unsigned long)most[POWER_CYCLE], (unsigned long)most[CUT],

@@ -17,6 +17,11 @@ wait_call empty_wait;
 power_cycle_call empty_power_cycle;
 cut_call empty_cut;
 report_call empty_report;
+sfdp_read_call empty_sfdp_read;
+sfdp_revision_call empty_sfdp_revision;
+sfdp_header_call empty_sfdp_header;
+sfdp_erase_call empty_sfdp_erase;
+sfdp_write_call empty_sfdp_write;
 
 /* What is called next: its arguments, who it is, and what it has answered. */
 static const struct call *now;
@@ -25,6 +30,11 @@ static wait_call *called_wait;
 static power_cycle_call *called_power_cycle;
 static cut_call *called_cut;
 static report_call *called_report;
+static sfdp_read_call *called_sfdp_read;
+static sfdp_revision_call *called_sfdp_revision;
+static sfdp_header_call *called_sfdp_header;
+static sfdp_erase_call *called_sfdp_erase;
+static sfdp_write_call *called_sfdp_write;
 static uint32_t answered;
 
 /* Lent to the call, which alters it. */
@@ -75,10 +85,45 @@ static void make_report(void)
     answered = called_report(now->wear, now->wear_len, &total, &smallest, &largest, &sector, &mean, &remainder);
 }
 
+static void make_sfdp_read(void)
+{
+    uint32_t headers, density, types;
+
+    answered = called_sfdp_read(now->table, now->table_len, &headers, &density, &types);
+}
+
+static void make_sfdp_revision(void)
+{
+    uint32_t minor, major;
+
+    answered = called_sfdp_revision(now->table, now->table_len, &minor, &major);
+}
+
+static void make_sfdp_header(void)
+{
+    uint32_t id, minor, major, words, pointer;
+
+    answered = called_sfdp_header(now->table, now->table_len, now->which, &id, &minor, &major, &words, &pointer);
+}
+
+static void make_sfdp_erase(void)
+{
+    uint32_t exponent, opcode;
+
+    answered = called_sfdp_erase(now->table, now->table_len, now->which, &exponent, &opcode);
+}
+
+static void make_sfdp_write(void)
+{
+    answered = called_sfdp_write(now->density, now->erases, now->erases_len, now->out, now->out_len);
+}
+
 /* From the top of the painted stack to the deepest byte that the call has written. */
 static size_t depth(uint8_t paint)
 {
-    static void (*const makes[KINDS])(void) = {make_frame, make_wait, make_power_cycle, make_cut, make_report};
+    static void (*const makes[KINDS])(void) = {
+        make_frame, make_wait, make_power_cycle, make_cut, make_report, make_sfdp_read, make_sfdp_revision,
+        make_sfdp_header, make_sfdp_erase, make_sfdp_write};
     static ucontext_t here, there;
     static struct lent stack;
     uint8_t *deepest;
@@ -109,22 +154,42 @@ static size_t deepest(void)
     return one > other ? one : other;
 }
 
-size_t stack_of(const struct call *c, uint32_t *answer)
+static void call_the_empty(void)
 {
-    size_t empty, whole;
-
-    now = c;
     called_frame = empty_frame;
     called_wait = empty_wait;
     called_power_cycle = empty_power_cycle;
     called_cut = empty_cut;
     called_report = empty_report;
-    empty = deepest();
+    called_sfdp_read = empty_sfdp_read;
+    called_sfdp_revision = empty_sfdp_revision;
+    called_sfdp_header = empty_sfdp_header;
+    called_sfdp_erase = empty_sfdp_erase;
+    called_sfdp_write = empty_sfdp_write;
+}
+
+static void call_the_archive(void)
+{
     called_frame = gwo_frame;
     called_wait = gwo_wait;
     called_power_cycle = gwo_power_cycle;
     called_cut = gwo_cut;
     called_report = gwo_wear_report;
+    called_sfdp_read = gwo_sfdp_read;
+    called_sfdp_revision = gwo_sfdp_revision;
+    called_sfdp_header = gwo_sfdp_header;
+    called_sfdp_erase = gwo_sfdp_erase;
+    called_sfdp_write = gwo_sfdp_write;
+}
+
+size_t stack_of(const struct call *c, uint32_t *answer)
+{
+    size_t empty, whole;
+
+    now = c;
+    call_the_empty();
+    empty = deepest();
+    call_the_archive();
     whole = deepest();
     *answer = answered;
     return whole - empty;

@@ -1,9 +1,9 @@
--- The answers and their numbers: 01, "Numbers returned, in order of checking", Req 04 to 06, Req 08, and Req 11. Assumes nothing.
+-- The answers and their numbers: 01, "Numbers returned, in order of checking", Req 04 to 06, Req 08, Req 11 and Req 12. Assumes nothing.
 use mathlib.Core.Bool.{Bool}
 use Prim.Native.Nat.{ℕ}
 use lib.Dec.{eqb}
 use Rattle.answers.specs.declared.Answer.{Answer}
-use Rattle.answers.specs.declared.Answer.the-variants.{Done, BadRecord, BadArray, BadState, BadFrame, ShortOut, Empty, Settling, Busy, Asleep, NoCommand, BadLength, NotEnabled, Locked, Protected, BadPattern, BadTable, WornOut, NotErased, Withdrawn}
+use Rattle.answers.specs.declared.Answer.the-variants.{Done, BadRecord, BadArray, BadState, BadFrame, ShortOut, Empty, Settling, Busy, Asleep, NoCommand, BadLength, NotEnabled, Locked, Protected, BadPattern, BadTable, WornOut, NotErased, Withdrawn, NoSignature, BadHeader, BadPointer, BadEntry}
 
 abbrev pub numberOf : Answer → ℕ
 numberOf Done = 0
@@ -26,6 +26,10 @@ numberOf BadTable = 24
 numberOf WornOut = 25
 numberOf NotErased = 19
 numberOf Withdrawn = 21
+numberOf NoSignature = 30
+numberOf BadHeader = 31
+numberOf BadPointer = 32
+numberOf BadEntry = 33
 
 -- nothing was refused
 abbrev pub isDone : Answer → Bool

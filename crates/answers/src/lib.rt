@@ -24,6 +24,10 @@ pub enum Answer {
     WornOut,
     NotErased,
     Withdrawn,
+    NoSignature,
+    BadHeader,
+    BadPointer,
+    BadEntry,
 }
 
 // The answer's number in the table of refusals.
@@ -51,6 +55,10 @@ pub fn number_of(a: Answer) -> u32
         Answer::WornOut => 25,
         Answer::NotErased => 19,
         Answer::Withdrawn => 21,
+        Answer::NoSignature => 30,
+        Answer::BadHeader => 31,
+        Answer::BadPointer => 32,
+        Answer::BadEntry => 33,
     }
 }
 

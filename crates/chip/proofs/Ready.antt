@@ -15,7 +15,7 @@ use Rattle.commands.specs.Commands.{traitsOf, lengthOk, fewest, mostWritten, op
 use Rattle.commands.proofs.Rows.{long-enough, write-length, program-length}
 use Rattle.states.specs.declared.Record.{Record}
 use Rattle.commands.specs.declared.Command.{Command}
-use Rattle.commands.specs.declared.Command.the-variants.{Unknown, Withdrawn, WriteEnable, WriteDisable, ReadStatus, ReadConfig, WriteStatus, Read, FastRead, EraseSector, EraseHalf, EraseBlock, EraseChip, Program, ReadId, Wake, ReadMaker, Sleep}
+use Rattle.commands.specs.declared.Command.the-variants.{Unknown, Withdrawn, WriteEnable, WriteDisable, ReadStatus, ReadConfig, WriteStatus, Read, FastRead, EraseSector, EraseHalf, EraseBlock, EraseChip, Program, ReadId, Wake, ReadMaker, Sleep, ReadSfdp}
 use Rattle.answers.specs.declared.Answer.{Answer}
 use Rattle.answers.specs.declared.Answer.the-variants.{Done, WornOut, NotErased}
 use Rattle.commands.specs.declared.Operation.{Operation}
@@ -77,6 +77,7 @@ module _ (rec : Record) (x : Chip) (at : Address) (bytes wear out : List ℕ) {r
   with-table Sleep g = record { reply = g .reply; page-is = g .page-is; wear-is = refl; out = g .out }
   with-table Unknown g = record { reply = g .reply; page-is = g .page-is; wear-is = refl; out = g .out }
   with-table Withdrawn g = record { reply = g .reply; page-is = g .page-is; wear-is = refl; out = g .out }
+  with-table ReadSfdp g = record { reply = g .reply; page-is = g .page-is; wear-is = refl; out = g .out }
 
 module _ (rec : Record) (x : Chip) (f : Sent) where
   abbrev H : Head

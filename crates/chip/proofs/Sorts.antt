@@ -9,7 +9,8 @@ use lib.ListN.{length, getD, drop, replicate, length-drop, drop-of-length-le}
 use lib.Seq.{drop-at}
 use borrow.Author.Tests.{eqb-true, eqb-false, not-false, eq-eqb, ltb-true, ltb-false, lt-ltb}
 use Rattle.units.specs.declared.Address.{Address}
-use Rattle.units.specs.Kinds.{pageOffset}
+use Rattle.units.specs.Kinds.{pageOffset, sfdpAddress}
+use Rattle.sfdp_image.specs.Image.{sfdpFrom}
 use Rattle.fold.specs.Fold.{folds, pageAfter}
 use Rattle.fold.proofs.Fold.{length-pageAfter}
 use Rattle.models.specs.Models.{modelOf}
@@ -27,11 +28,11 @@ use Rattle.states.specs.declared.State.{State}
 use Rattle.answers.specs.declared.Answer.{Answer}
 use Rattle.answers.specs.declared.Answer.the-variants.{Done}
 use Rattle.commands.specs.declared.Command.{Command}
-use Rattle.commands.specs.declared.Command.the-variants.{WriteEnable, WriteDisable, ReadStatus, ReadConfig, WriteStatus, Read, FastRead, EraseSector, EraseHalf, EraseBlock, EraseChip, Program, ReadId, Wake, ReadMaker, Sleep, Unknown, Withdrawn}
+use Rattle.commands.specs.declared.Command.the-variants.{WriteEnable, WriteDisable, ReadStatus, ReadConfig, WriteStatus, Read, FastRead, EraseSector, EraseHalf, EraseBlock, EraseChip, Program, ReadId, Wake, ReadMaker, Sleep, Unknown, Withdrawn, ReadSfdp}
 use Rattle.commands.proofs.Rows.{half-only-3}
 use Rattle.states.proofs.States.{sleep-le, wake-le, sign-le, times, half-some}
 use Rattle.counts.specs.Counts.{sectorAt, counted, covered, sectors}
-use Rattle.effects.specs.Effects.{Effect, stateOnly, turned, drives, folding, latched, dozing, starting, refusalLeaves, writeEnable, writeDisable, writeStatus, eraseStarts, nowhere, sleep, idBytes, makerBytes, readStatus, readConfig, readFrom, programPage, readId, wakingTime, wake, readMaker}
+use Rattle.effects.specs.Effects.{Effect, stateOnly, turned, drives, folding, latched, dozing, starting, refusalLeaves, writeEnable, writeDisable, writeStatus, eraseStarts, nowhere, sleep, idBytes, makerBytes, readStatus, readConfig, readFrom, programPage, readId, wakingTime, wake, readMaker, readSfdp}
 use Rattle.chip.specs.Frames.{acceptedOf}
 use Rattle.chip.specs.Driven.{drivenBytes, foldOf}
 use Rattle.counts.proofs.Laws.{uncounted, all-counted}
@@ -192,7 +193,7 @@ module _ (rec : Record) (x : Chip) (at : Address) (bytes wear out : List ℕ) wh
       (λ q. begin rec x at bytes c l q op (at .0) (x .page) e (p ∙ lt-ltb (at .0) (modelOf (rec .model) .length) (q .inside)) (t q) b a (λ z. rw u (blank-stays z)))
 
   pub kind : (c : Command) → Kind rec x c at bytes wear out (drivenBytes c (length bytes)) (foldOf c at (length bytes)) (acceptedOf rec x c at bytes wear out)
-  unfolding acceptedOf writeEnable writeDisable writeStatus eraseStarts sleep traitsOf drivenBytes foldOf readStatus readConfig readFrom programPage readId wake readMaker
+  unfolding acceptedOf writeEnable writeDisable writeStatus eraseStarts sleep traitsOf drivenBytes foldOf readStatus readConfig readFrom programPage readId wake readMaker readSfdp
   kind WriteEnable = turns (latched s true) (λ q. latches true (idle (s .busy) (q .listens)))
   kind WriteDisable = turns (latched s false) (λ q. latches false (idle (s .busy) (q .listens)))
   kind ReadStatus = drove s 1 (replicate (length bytes - 1) (statusOf s)) (λ q. stays)
@@ -220,6 +221,7 @@ module _ (rec : Record) (x : Chip) (at : Address) (bytes wear out : List ℕ) wh
   kind Sleep = turns (dozing s true (rec .sleep)) (λ q. dozes true (rec .sleep) (idle (s .busy) (q .listens)) (sleep-le rec))
   kind Unknown = turns s (λ q. stays)
   kind Withdrawn = turns s (λ q. stays)
+  kind ReadSfdp = drove s 5 (sfdpFrom (sfdpAddress (getD bytes 1 0) (getD bytes 2 0) (getD bytes 3 0) .0) (length bytes - 5)) (λ q. stays)
 
 -- ---- what holds of every kind
 drives-within : (t : State) (from n : ℕ) → drives t from n .from + drives t from n .count ≤ n
@@ -289,3 +291,4 @@ module _ (rec : Record) (x : Chip) (at : Address) (bytes wear out : List ℕ) wh
   table-after Sleep = none Idle refl
   table-after Unknown = none Idle refl
   table-after Withdrawn = none Idle refl
+  table-after ReadSfdp = none Idle refl

@@ -5,7 +5,7 @@ use Rattle.fold.specs.Fold.{folds}
 use Rattle.units.specs.declared.Address.{Address}
 use Rattle.units.specs.Kinds.{pageOffset}
 use Rattle.commands.specs.declared.Command.{Command}
-use Rattle.commands.specs.declared.Command.the-variants.{WriteEnable, WriteDisable, ReadStatus, ReadConfig, WriteStatus, Read, FastRead, EraseSector, EraseHalf, EraseBlock, EraseChip, Program, ReadId, Wake, ReadMaker, Sleep, Unknown, Withdrawn}
+use Rattle.commands.specs.declared.Command.the-variants.{WriteEnable, WriteDisable, ReadStatus, ReadConfig, WriteStatus, Read, FastRead, EraseSector, EraseHalf, EraseBlock, EraseChip, Program, ReadId, Wake, ReadMaker, Sleep, Unknown, Withdrawn, ReadSfdp}
 
 -- how many bytes an accepted frame of n bytes drives
 unfoldable pub drivenBytes : Command → ℕ → ℕ
@@ -27,6 +27,7 @@ drivenBytes ReadMaker n = n - 4
 drivenBytes Sleep n = 0
 drivenBytes Unknown n = 0
 drivenBytes Withdrawn n = 0
+drivenBytes ReadSfdp n = n - 5
 
 -- whether an accepted frame of n bytes says that a byte went past the page's end: only a program can
 unfoldable pub foldOf : Command → Address → ℕ → Bool
@@ -48,3 +49,4 @@ foldOf ReadMaker at n = false
 foldOf Sleep at n = false
 foldOf Unknown at n = false
 foldOf Withdrawn at n = false
+foldOf ReadSfdp at n = false

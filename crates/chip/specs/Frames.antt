@@ -11,13 +11,13 @@ use Rattle.states.specs.States.{pageOk, Chip}
 use Rattle.commands.specs.declared.Operation.the-variants.{ErasesSector, ErasesHalf, ErasesBlock, ErasesChip}
 use Rattle.states.specs.declared.Record.{Record}
 use Rattle.commands.specs.declared.Command.{Command}
-use Rattle.commands.specs.declared.Command.the-variants.{WriteEnable, WriteDisable, ReadStatus, ReadConfig, WriteStatus, Read, FastRead, EraseSector, EraseHalf, EraseBlock, EraseChip, Program, ReadId, Wake, ReadMaker, Sleep, Unknown, Withdrawn}
+use Rattle.commands.specs.declared.Command.the-variants.{WriteEnable, WriteDisable, ReadStatus, ReadConfig, WriteStatus, Read, FastRead, EraseSector, EraseHalf, EraseBlock, EraseChip, Program, ReadId, Wake, ReadMaker, Sleep, Unknown, Withdrawn, ReadSfdp}
 use Rattle.answers.specs.declared.Answer.{Answer}
 use Rattle.answers.specs.declared.Answer.the-variants.{Done, WornOut, NotErased}
 use Rattle.ladder.specs.Ladder.{refusalOf}
 use Rattle.ladder.specs.declared.Head.{Head}
 use Rattle.counts.specs.Counts.{wornOut, counted}
-use Rattle.effects.specs.Effects.{Effect, shown, started, turned, stateOnly, writeEnable, writeDisable, writeStatus, eraseStarts, nowhere, sleep, refusalLeaves, readStatus, readConfig, readFrom, programPage, goesOver, readId, wake, readMaker}
+use Rattle.effects.specs.Effects.{Effect, shown, started, turned, stateOnly, writeEnable, writeDisable, writeStatus, eraseStarts, nowhere, sleep, refusalLeaves, readStatus, readConfig, readFrom, programPage, goesOver, readId, wake, readMaker, readSfdp}
 
 -- what a frame sends: its whole bytes, the tail bits after them, the WP# level and the strict setting; and the wear table and the output lent to it
 pub record Sent : Type 0 where
@@ -82,6 +82,7 @@ acceptedOf rec x ReadMaker at bytes wear out = shown (x .page) wear (readMaker r
 acceptedOf rec x Sleep at bytes wear out = turned (x .page) wear out (sleep rec (x .state))
 acceptedOf rec x Unknown at bytes wear out = stateOnly Done (x .state) (x .page) wear out
 acceptedOf rec x Withdrawn at bytes wear out = stateOnly Done (x .state) (x .page) wear out
+acceptedOf rec x ReadSfdp at bytes wear out = shown (x .page) wear (readSfdp (x .state) bytes out)
 
 -- a refusal drives nothing and leaves the page data and the wear table; what it leaves of the state is one definition by model and answer
 abbrev pub refusedOf : Record → Answer → Chip → Sent → Effect

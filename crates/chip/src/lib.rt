@@ -89,6 +89,7 @@ fn accepted(
         Command::Sleep => effects::sleep(rec, st),
         Command::Unknown => effects::quiet(Answer::Done, st),
         Command::Withdrawn => effects::quiet(Answer::Done, st),
+        Command::ReadSfdp => shows::read_sfdp(st, bytes, out),
     }
 }
 

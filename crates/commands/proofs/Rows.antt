@@ -10,7 +10,7 @@ use Rattle.commands.specs.declared.Operation.{Operation}
 use Rattle.commands.specs.declared.Operation.the-variants.{Idle, WritesStatus, Programs, ErasesSector, ErasesHalf, ErasesBlock, ErasesChip}
 use Rattle.commands.specs.declared.Traits.{Traits}
 use Rattle.commands.specs.declared.Command.{Command}
-use Rattle.commands.specs.declared.Command.the-variants.{WriteEnable, WriteDisable, ReadStatus, ReadConfig, WriteStatus, Read, FastRead, EraseSector, EraseHalf, EraseBlock, EraseChip, Program, ReadId, Wake, ReadMaker, Sleep, Unknown, Withdrawn}
+use Rattle.commands.specs.declared.Command.the-variants.{WriteEnable, WriteDisable, ReadStatus, ReadConfig, WriteStatus, Read, FastRead, EraseSector, EraseHalf, EraseBlock, EraseChip, Program, ReadId, Wake, ReadMaker, Sleep, Unknown, Withdrawn, ReadSfdp}
 use Rattle.commands.specs.Commands.{Byte, _is_, common, own, lookUp, traitsOf, lengthOk, fewest, operationOf, decodeOf, startedBy, mostWritten}
 
 -- ---- which lengths are allowed
@@ -61,6 +61,7 @@ row-test r ReadMaker = refl
 row-test r Sleep = refl
 row-test r Unknown = refl
 row-test r Withdrawn = refl
+row-test r ReadSfdp = refl
 
 pub fewest-allowed : (r : Bool) (c : Command) → lengthOk (traitsOf r c) (fewest (traitsOf r c)) 0 ≡ true
 unfolding rowTest
@@ -145,6 +146,7 @@ program-row r ReadMaker e = absurd (false≢true e)
 program-row r Sleep e = absurd (false≢true e)
 program-row r Unknown e = absurd (false≢true e)
 program-row r Withdrawn e = absurd (false≢true e)
+program-row r ReadSfdp e = absurd (false≢true e)
 
 pub program-length : (r : Bool) (c : Command) → operationOf c ≡ Programs → 5 ≤ fewest (traitsOf r c)
 unfolding isProgram
@@ -170,6 +172,7 @@ isHalf ReadMaker = false
 isHalf Sleep = false
 isHalf Unknown = false
 isHalf Withdrawn = false
+isHalf ReadSfdp = false
 
 -- no row of the table means such a command
 lacks : (Command → Bool) → List Byte → Bool
@@ -207,12 +210,15 @@ module _ (p : Command → Bool) (u : p Unknown ≡ false) where
 
 pub half-only-3 : (n b : ℕ) → decodeOf n b ≡ EraseHalf → n ≡ 3
 unfolding decodeOf isHalf lacks
-half-only-3 n b e = go (eqb n 3) refl
+half-only-3 n b e = go (eqb n 3) refl (eqb n 2) refl
   where
-    go : (t : Bool) → eqb n 3 ≡ t → n ≡ 3
-    go true p = eqb-true n 3 p
-    go false p =
-        let no : isHalf (lookUp b (common ++ own n)) ≡ false = rw p (never isHalf refl b (common ++ ((0x52 is Withdrawn) ∷ [])) refl) in
+    go : (t : Bool) → eqb n 3 ≡ t → (k : Bool) → eqb n 2 ≡ k → n ≡ 3
+    go true p k q = eqb-true n 3 p
+    go false p true q =
+        let no : isHalf (decodeOf n b) ≡ false = rw (p, q) (never isHalf refl b (common ++ ((0x5A is ReadSfdp) ∷ (0x52 is Withdrawn) ∷ [])) refl) in
+        absurd (false≢true (sym no ∙ ap isHalf e))
+    go false p false q =
+        let no : isHalf (decodeOf n b) ≡ false = rw (p, q) (never isHalf refl b (common ++ ((0x5A is Unknown) ∷ (0x52 is Withdrawn) ∷ [])) refl) in
         absurd (false≢true (sym no ∙ ap isHalf e))
 
 -- ---- only 52 is withdrawn, and not on model 3
@@ -222,13 +228,17 @@ means-withdrawn n m = rw (ne-eqb n 3 m)
 
 pub only-52 : (r : Bool) (n b : ℕ) → traitsOf r (decodeOf n b) .withdrawn ≡ true → (b ≡ 0x52) × (n ≡ 3 → ⊥)
 unfolding decodeOf traitsOf lacks
-only-52 r n b e = go (eqb n 3) refl
+only-52 r n b e = go (eqb n 3) refl (eqb n 2) refl
   where
     gone : Command → Bool
     gone c = traitsOf r c .withdrawn
 
-    go : (t : Bool) → eqb n 3 ≡ t → (b ≡ 0x52) × (n ≡ 3 → ⊥)
-    go true p =
-        let no : gone (lookUp b (common ++ own n)) ≡ false = rw p (never gone refl b (common ++ ((0x52 is EraseHalf) ∷ (0x15 is ReadConfig) ∷ [])) refl) in
+    go : (t : Bool) → eqb n 3 ≡ t → (k : Bool) → eqb n 2 ≡ k → (b ≡ 0x52) × (n ≡ 3 → ⊥)
+    go true p true q =
+        let no : gone (decodeOf n b) ≡ false = rw (p, q) (never gone refl b (common ++ ((0x5A is ReadSfdp) ∷ (0x52 is EraseHalf) ∷ (0x15 is ReadConfig) ∷ [])) refl) in
         absurd (false≢true (sym no ∙ e))
-    go false p = (only-last gone refl b common (0x52 is Withdrawn) refl (rw p at e), eqb-false n 3 p)
+    go true p false q =
+        let no : gone (decodeOf n b) ≡ false = rw (p, q) (never gone refl b (common ++ ((0x5A is Unknown) ∷ (0x52 is EraseHalf) ∷ (0x15 is ReadConfig) ∷ [])) refl) in
+        absurd (false≢true (sym no ∙ e))
+    go false p true q = (only-last gone refl b (common ++ ((0x5A is ReadSfdp) ∷ [])) (0x52 is Withdrawn) refl (rw (p, q) at e), eqb-false n 3 p)
+    go false p false q = (only-last gone refl b (common ++ ((0x5A is Unknown) ∷ [])) (0x52 is Withdrawn) refl (rw (p, q) at e), eqb-false n 3 p)

@@ -7,7 +7,7 @@ use Rattle.commands.specs.declared.Traits.{Traits}
 use Rattle.commands.specs.declared.Command.{Command}
 use Rattle.commands.specs.declared.Operation.{Operation}
 use Rattle.commands.specs.declared.Operation.the-variants.{Idle, WritesStatus, Programs, ErasesSector, ErasesHalf, ErasesBlock, ErasesChip}
-use Rattle.commands.specs.declared.Command.the-variants.{WriteEnable, WriteDisable, ReadStatus, ReadConfig, WriteStatus, Read, FastRead, EraseSector, EraseHalf, EraseBlock, EraseChip, Program, ReadId, Wake, ReadMaker, Sleep, Unknown, Withdrawn}
+use Rattle.commands.specs.declared.Command.the-variants.{WriteEnable, WriteDisable, ReadStatus, ReadConfig, WriteStatus, Read, FastRead, EraseSector, EraseHalf, EraseBlock, EraseChip, Program, ReadId, Wake, ReadMaker, Sleep, Unknown, Withdrawn, ReadSfdp}
 
 -- the command bytes
 pub record Byte : Type 0 where
@@ -38,7 +38,11 @@ common =
     ∷ (0xB9 is Sleep)
     ∷ []
 
--- and those that do not: 52 erases 32 KiB on model 3 (003 L1233) and is withdrawn on models 1 and 2 (Req 11, against 000 L158, L327 and 002 L304); 15 only model 3 has (003 L505)
+-- and those that do not: 5A reads the SFDP table, which only model 2 has (002 L534; Req 12)
+abbrev pub sfdpRead : ℕ → Command
+sfdpRead n = cond (eqb n 2) ReadSfdp Unknown
+
+-- 52 erases 32 KiB on model 3 (003 L1233) and is withdrawn on models 1 and 2 (Req 11, against 000 L158, L327 and 002 L304); 15 only model 3 has (003 L505)
 abbrev pub own : ℕ → List Byte
 own n = cond (eqb n 3) ((0x52 is EraseHalf) ∷ (0x15 is ReadConfig) ∷ []) ((0x52 is Withdrawn) ∷ [])
 
@@ -48,7 +52,7 @@ lookUp b (r ∷ rs) = cond (eqb b (r .byte)) (r .means) (lookUp b rs)
 
 -- what a byte means on the model of a number
 unfoldable pub decodeOf : ℕ → ℕ → Command
-decodeOf n b = lookUp b (common ++ own n)
+decodeOf n b = lookUp b (common ++ ((0x5A is sfdpRead n) ∷ own n))
 
 -- the operation that a command starts, which keeps the chip busy; Idle where it starts none
 abbrev pub operationOf : Command → Operation
@@ -70,6 +74,7 @@ operationOf ReadMaker = Idle
 operationOf Sleep = Idle
 operationOf Unknown = Idle
 operationOf Withdrawn = Idle
+operationOf ReadSfdp = Idle
 
 -- and the one of a command byte on the model of a number
 abbrev pub startedBy : ℕ → ℕ → Operation
@@ -150,6 +155,8 @@ traitsOf r Sleep =  -- B9
     row □ □ □ □ □ □ 1 1 never
 traitsOf r Unknown = unknown
 traitsOf r Withdrawn = withdrawn  -- 52 of models 1 and 2
+traitsOf r ReadSfdp =  -- 5A of model 2
+    row □ □ □ □ □ □ 5 5 5
 
 -- whole bytes and tail bits that the command may have
 unfoldable pub lengthOk : Traits → ℕ → ℕ → Bool

@@ -1,6 +1,6 @@
 // The commands: what a byte means, and what the refusals ask of each command.
 ghost use mathlib.Core.Path.{_≡_};
-ghost use Rattle.commands.specs.Commands.{lookUp, own as Commands·own, decodeOf, row as Commands·row, unknown as Commands·unknown, withdrawn as Commands·withdrawn, mostWritten, traitsOf, lengthOk, operationOf, startedBy};
+ghost use Rattle.commands.specs.Commands.{lookUp, sfdpRead, own as Commands·own, decodeOf, row as Commands·row, unknown as Commands·unknown, withdrawn as Commands·withdrawn, mostWritten, traitsOf, lengthOk, operationOf, startedBy};
 
 pub enum Command {
     WriteEnable,
@@ -21,9 +21,21 @@ pub enum Command {
     Sleep,
     Unknown,
     Withdrawn,
+    ReadSfdp,
 }
 
-// The bytes that do not mean the same on every model.
+// 5A, which only model 2 has. It is told before the others that differ, so that a byte that is no command stays cheap.
+fn sfdp_read(model: u32) -> Command
+    ensures { λ r. ⌜ r ≡ sfdpRead model ⌝ }
+{
+    if model == 2 {
+        Command::ReadSfdp
+    } else {
+        Command::Unknown
+    }
+}
+
+// The other bytes that do not mean the same on every model.
 fn own(model: u32, byte: u8) -> Command
     ensures { λ r. ⌜ r ≡ lookUp byte (Commands·own model) ⌝ }
 {
@@ -60,6 +72,7 @@ pub fn decode(model: u32, byte: u8) -> Command
         0xAB => Command::Wake,
         0x90 => Command::ReadMaker,
         0xB9 => Command::Sleep,
+        0x5A => sfdp_read(model),
         _ => own(model, byte),
     }
 }
@@ -98,6 +111,7 @@ pub fn operation_of(c: Command) -> Operation
         Command::Sleep => Operation::Idle,
         Command::Unknown => Operation::Idle,
         Command::Withdrawn => Operation::Idle,
+        Command::ReadSfdp => Operation::Idle,
     }
 }
 
@@ -247,6 +261,8 @@ pub fn traits_of(register: bool, c: Command) -> Traits
             row(N, N, N, N, N, N, 1, 1, NEVER),
         Command::Unknown => unknown(),
         Command::Withdrawn => withdrawn(), // 52 of models 1 and 2
+        Command::ReadSfdp => // 5A of model 2
+            row(N, N, N, N, N, N, 5, 5, 5),
     }
 }
 

@@ -6,7 +6,8 @@ use lib.Dec.{eqb, ltb}
 use lib.ListN.{length, getD, drop, replicate}
 use Rattle.units.specs.declared.Address.{Address}
 use Rattle.models.specs.declared.Model.{Model}
-use Rattle.units.specs.Kinds.{pageOffset, pageStart}
+use Rattle.units.specs.Kinds.{pageOffset, pageStart, sfdpAddress}
+use Rattle.sfdp_image.specs.Image.{sfdpFrom}
 use Rattle.models.specs.Models.{modelOf}
 use Rattle.parts.specs.Parts.{part, lay}
 use Rattle.rings.specs.Ring.{ring}
@@ -173,6 +174,14 @@ readMaker rec s bytes out =
     record {
       reply = drives s 4 (length bytes);
       out = lay out 4 (ring (makerBytes (modelOf (rec .model)) (getD bytes 3 0)) 0 (length bytes - 4));
+    }
+
+-- 5A: from position 5 the SFDP table from the address sent, and FF past its end (002 L534, Req 12)
+unfoldable pub readSfdp : State → List ℕ → List ℕ → Shown
+readSfdp s bytes out =
+    record {
+      reply = drives s 5 (length bytes);
+      out = lay out 5 (sfdpFrom (sfdpAddress (getD bytes 1 0) (getD bytes 2 0) (getD bytes 3 0) .0) (length bytes - 5));
     }
 
 -- B9: enters deep power-down, and settles (000 L359, 002 L802)

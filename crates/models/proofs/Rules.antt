@@ -3,8 +3,7 @@ use mathlib.Core.Path.{_≡_, refl, sym, ap, subst, _∙_}
 use mathlib.Core.Bool.{Bool, true, false, not, _&&_, _||_, cond, true≢false, false≢true}
 use mathlib.Core.Logic.{⊎-elim}
 use mathlib.Core.List.{List, [], _∷_}
-use Prim.Native.Nat.{ℕ, zero, suc, _+_, _*_, _-_, _/_, _%_, _^_, _≤_, _<_}
-use native.Mathlib.Nat.{not-suc-le-zero, le-of-suc-le-suc}
+use Prim.Native.Nat.{ℕ, _+_, _*_, _-_, _/_, _%_, _^_, _≤_, _<_}
 use native.Mathlib.Omega.{arith}
 use lib.Dec.{eqb, leb, ltb}
 use lib.ListN.{length, getD, List·getD-eq-default}
@@ -14,6 +13,7 @@ use Rattle.units.specs.declared.HalfBlock.{HalfBlock}
 use Rattle.models.specs.declared.Range.{Range}
 use Rattle.models.specs.Models.{Part, models, kh25l512, kh25l2006e, kh25l12845g, partOf, modelOf, rangesOf, rangeOf, range}
 use Rattle.models.specs.Rules.{RowRules, RangeRules, PageInBlock, SectorInBlock, HalfInBlock, BlockOfSector, BlockOfHalf, UnitsInside}
+use Rattle.parts.proofs.Lay.{other-default}
 use Rattle.units.proofs.Bools.{both, either, neither, unless}
 use Rattle.models.proofs.Table.{every, at, found}
 
@@ -62,12 +62,6 @@ ranges-test : (tb : Bool) (n : ℕ) → rangesTest tb (partOf n) ≡ true
 unfolding partOf rangesTest rangeTest
 ranges-test true n = found (rangesTest true) n kh25l512 models refl refl
 ranges-test false n = found (rangesTest false) n kh25l512 models refl refl
-
--- a list's entry does not depend on what stands in for the entries that it lacks
-other-default : {A : Type 0} (xs : List A) (k : ℕ) (d e : A) → k < length xs → getD xs k d ≡ getD xs k e
-other-default [] k d e h = absurd (not-suc-le-zero h)
-other-default (x ∷ xs) zero d e h = refl
-other-default (x ∷ xs) (suc k) d e h = other-default xs k d e (le-of-suc-le-suc h)
 
 empty-at-none : (b : Bool) (x : ℕ) → cond b (eqb x 0) (ltb 0 x) ≡ true → b ≡ true → x ≡ 0
 empty-at-none true x t e = eqb-true x 0 t

@@ -1,4 +1,4 @@
--- Laws of bytes: numbers little-endian, lists that are the same, four bytes of a list. Assumes nothing.
+-- Laws of bytes: three bytes as an address, lists that are the same, four bytes of a list. Assumes nothing.
 use mathlib.Core.Path.{_≡_, refl}
 use mathlib.Core.Bool.{true, false≢true}
 use mathlib.Core.List.{List, [], _∷_}
@@ -9,20 +9,7 @@ use lib.ListN.{length, getD, take, drop}
 use lib.Seq.{drop-cons}
 use borrow.Author.Tests.{eqb-true, eq-eqb}
 use Rattle.units.proofs.Bools.{both}
-use Rattle.packing.specs.Packing.{bytesOf, spelt, placeBytes, placeSpelt, same}
-
--- ---- numbers little-endian
-pub spelt-bytes : (x : ℕ) → x < 2 ^ 32 → spelt (bytesOf 4 x) ≡ x
-spelt-bytes x h = omega arith
-
-lowest : (b s : ℕ) → b < 256 → ((b + 256 * s) % 256 ≡ b) × ((b + 256 * s) / 256 ≡ s)
-lowest b s h = (omega arith, omega arith)
-
-pub bytes-spelt : (bs : List ℕ) → ((i : ℕ) → getD bs i 0 < 256) → bytesOf (length bs) (spelt bs) ≡ bs
-bytes-spelt [] h = refl
-bytes-spelt (b ∷ bs) h =
-    let k = lowest b (spelt bs) (h 0) in
-    rw (k .0, k .1, bytes-spelt bs (λ (i : ℕ). h (suc i)))
+use Rattle.packing.specs.Packing.{placeBytes, placeSpelt, same}
 
 -- ---- three bytes, the high byte first
 pub place-back : (x : ℕ) → x < 2 ^ 24 → placeSpelt (x / 65536 % 256) (x / 256 % 256) (x % 256) ≡ x

@@ -9,11 +9,13 @@ use lib.ListN.{length, getD, take, drop, take-append-drop}
 use lib.Seq.{sets, sets-eq, take-add, drop-drop}
 use mir.Val.{boolByte}
 use borrow.Author.Tests.{eqb-true, eq-eqb, ne-eqb}
+use Rattle.parts.specs.Parts.{bytesOf, spelt}
+use Rattle.parts.proofs.Bytes.{spelt-bytes, bytes-spelt}
 use Rattle.units.proofs.Bools.{both}
 use Rattle.states.specs.States.{flag, statusOf}
 use Rattle.states.specs.declared.State.{State}
-use Rattle.packing.specs.Packing.{bytesOf, spelt, timeAt, placeBytes, placeSpelt, packOf, packed, pageIn, readOf, same, isPacking, noState, unpackOf, busyIn}
-use Rattle.packing.proofs.Bytes.{spelt-bytes, bytes-spelt, place-back, place-bytes, same-refl, same-eq, four-at}
+use Rattle.packing.specs.Packing.{timeAt, placeBytes, placeSpelt, packOf, packed, pageIn, readOf, same, isPacking, noState, unpackOf, busyIn}
+use Rattle.packing.proofs.Bytes.{place-back, place-bytes, same-refl, same-eq, four-at}
 use Rattle.packing.proofs.Status.{flag-byte, flag-back, srwd-back, bp-back, wel-back, status-test, flag-test}
 
 -- a state that fits its sixteen bytes

@@ -2,20 +2,12 @@
 use mathlib.Core.Bool.{Bool, true, false, _&&_, cond}
 use mathlib.Core.Path.{_≡_}
 use mathlib.Core.List.{List, [], _∷_, _++_}
-use Prim.Native.Nat.{ℕ, zero, suc, _+_, _*_, _/_, _%_}
+use Prim.Native.Nat.{ℕ, _+_, _*_, _/_, _%_}
 use lib.Dec.{eqb, leb}
 use lib.ListN.{length, getD, take, drop}
+use Rattle.parts.specs.Parts.{bytesOf, spelt}
 use Rattle.states.specs.States.{flag, statusOf, noCommand, noAddress}
 use Rattle.states.specs.declared.State.{State}
-
--- a number little-endian in n bytes, and the number that bytes spell
-abbrev pub bytesOf : ℕ → ℕ → List ℕ
-bytesOf zero x = []
-bytesOf (suc n) x = x % 256 ∷ bytesOf n (x / 256)
-
-abbrev pub spelt : List ℕ → ℕ
-spelt [] = 0
-spelt (b ∷ bs) = b + 256 * spelt bs
 
 -- the number in the four bytes from place k on
 abbrev pub timeAt : ℕ → List ℕ → ℕ

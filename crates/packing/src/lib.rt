@@ -3,7 +3,8 @@ ghost use mathlib.Core.Path.{_≡_};
 ghost use mathlib.Core.List.{_∷_, []};
 ghost use Prim.Native.Nat.{_≤_};
 ghost use lib.ListN.{length};
-ghost use Rattle.packing.specs.Packing.{spelt, placeSpelt, packed, pageIn, readOf, isPacking, busyIn};
+ghost use Rattle.parts.specs.Parts.{spelt};
+ghost use Rattle.packing.specs.Packing.{placeSpelt, packed, pageIn, readOf, isPacking, busyIn};
 use parts::wide;
 use states::State;
 

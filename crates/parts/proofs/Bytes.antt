@@ -1,14 +1,14 @@
--- Lists of bytes: what is made of bytes is bytes. Assumes nothing.
+-- Lists of bytes: what is made of bytes is bytes, and numbers in bytes. Assumes nothing.
 use mathlib.Core.Path.{_≡_, refl}
 use mathlib.Core.Bool.{Bool, true, false}
-use mathlib.Core.List.{List, _++_}
-use Prim.Native.Nat.{ℕ, _+_, _-_, _≤_, _<_}
+use mathlib.Core.List.{List, [], _∷_, _++_}
+use Prim.Native.Nat.{ℕ, suc, _+_, _*_, _-_, _/_, _%_, _^_, _≤_, _<_}
 use native.Mathlib.Omega.{arith}
 use lib.Dec.{ltb}
 use lib.ListN.{length, take, drop, getD, replicate, length-take, length-replicate, getD-replicate, List·getD-append, List·getD-eq-default}
 use lib.Seq.{getD-take, getD-drop, getD-append-add}
 use borrow.Author.Tests.{ltb-true, ltb-false}
-use Rattle.parts.specs.Parts.{Bytes, part, lay}
+use Rattle.parts.specs.Parts.{Bytes, part, lay, bytesOf, spelt}
 
 -- it is enough to look at the list's own indices
 pub bytes : {xs : List ℕ} → ((k : ℕ) → k < length xs → getD xs k 0 < 256) → Bytes xs
@@ -43,3 +43,16 @@ bytes-part at n p = bytes-take n (bytes-drop at p)
 pub bytes-lay : (at : ℕ) {xs ys : List ℕ} → Bytes xs → Bytes ys → Bytes (lay xs at ys)
 unfolding lay
 bytes-lay at {xs} {ys} p q = bytes-append (bytes-take at p) (bytes-append q (bytes-drop (at + length ys) p))
+
+-- ---- numbers, the low byte first
+pub spelt-bytes : (x : ℕ) → x < 2 ^ 32 → spelt (bytesOf 4 x) ≡ x
+spelt-bytes x h = omega arith
+
+lowest : (b s : ℕ) → b < 256 → ((b + 256 * s) % 256 ≡ b) × ((b + 256 * s) / 256 ≡ s)
+lowest b s h = (omega arith, omega arith)
+
+pub bytes-spelt : (bs : List ℕ) → ((i : ℕ) → getD bs i 0 < 256) → bytesOf (length bs) (spelt bs) ≡ bs
+bytes-spelt [] h = refl
+bytes-spelt (b ∷ bs) h =
+    let k = lowest b (spelt bs) (h 0) in
+    rw (k .0, k .1, bytes-spelt bs (λ (i : ℕ). h (suc i)))

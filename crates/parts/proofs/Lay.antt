@@ -1,8 +1,8 @@
 -- Laws of a part of a list and of a list with one part replaced. Assumes nothing.
 use mathlib.Core.Path.{_≡_, refl, sym, ap, _∙_}
 use mathlib.Core.List.{List, [], _∷_, _++_, append-assoc}
-use Prim.Native.Nat.{ℕ, _+_, _-_, _≤_, _<_}
-use native.Mathlib.Nat.{add-zero, add-assoc}
+use Prim.Native.Nat.{ℕ, zero, suc, _+_, _-_, _≤_, _<_}
+use native.Mathlib.Nat.{add-zero, add-assoc, not-suc-le-zero, le-of-suc-le-suc}
 use native.Mathlib.Numerals.{add-one}
 use native.Mathlib.Omega.{arith}
 use lib.ListN.{length, take, drop, getD, set, length-append, length-drop, take-append-drop, List·getD-append, replicate, length-replicate}
@@ -16,6 +16,12 @@ length-part xs at n h = length-take-le n (drop at xs) (simp length-drop (omega a
 
 pub part-at : (xs : List ℕ) (at n k : ℕ) → k < n → getD (part xs at n) k 0 ≡ getD xs (at + k) 0
 part-at xs at n k l = getD-take n (drop at xs) k 0 l ∙ getD-drop at xs k 0
+
+-- a list's entry does not depend on what stands in for the entries that it lacks
+pub other-default : {A : Type 0} (xs : List A) (k : ℕ) (d e : A) → k < length xs → getD xs k d ≡ getD xs k e
+other-default [] k d e h = absurd (not-suc-le-zero h)
+other-default (x ∷ xs) zero d e h = refl
+other-default (x ∷ xs) (suc k) d e h = other-default xs k d e (le-of-suc-le-suc h)
 
 -- ---- one part replaced
 -- nothing in place of nothing

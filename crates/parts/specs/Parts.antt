@@ -1,7 +1,7 @@
--- A part of a list, and a list with one part replaced. Every change of a lent slice is said by `lay`. Assumes nothing.
+-- A part of a list, a list with one part replaced, and numbers in bytes. Every change of a lent slice is said by `lay`. Assumes nothing.
 use mathlib.Core.Bool.{Bool, true, false, _&&_, _||_}
 use mathlib.Core.List.{List, [], _∷_, _++_}
-use Prim.Native.Nat.{ℕ, suc, _+_, _<_}
+use Prim.Native.Nat.{ℕ, zero, suc, _+_, _*_, _/_, _%_, _<_}
 use lib.Dec.{eqb}
 use lib.ListN.{length, getD, take, drop}
 
@@ -33,6 +33,15 @@ someByIndex f xs = someFrom f 0 xs
 abbrev pub allAre : ℕ → List ℕ → Bool
 allAre v [] = true
 allAre v (x ∷ xs) = eqb x v && allAre v xs
+
+-- a number in n bytes, the low byte first, and the number that bytes spell
+abbrev pub bytesOf : ℕ → ℕ → List ℕ
+bytesOf zero x = []
+bytesOf (suc n) x = x % 256 ∷ bytesOf n (x / 256)
+
+abbrev pub spelt : List ℕ → ℕ
+spelt [] = 0
+spelt (b ∷ bs) = b + 256 * spelt bs
 
 -- every element is a byte
 pub record Bytes (xs : List ℕ) : Type 0 where

@@ -15,7 +15,7 @@ use Rattle.models.specs.Models.{modelOf, isProtected}
 use Rattle.answers.specs.Answers.{isDone}
 use Rattle.commands.specs.Commands.{decodeOf, traitsOf, operationOf, startedBy}
 use Rattle.commands.specs.declared.Command.{Command}
-use Rattle.commands.specs.declared.Command.the-variants.{WriteEnable, WriteDisable, ReadStatus, ReadConfig, WriteStatus, Read, FastRead, EraseSector, EraseHalf, EraseBlock, EraseChip, Program, ReadId, Wake, ReadMaker, Sleep, Unknown, Withdrawn}
+use Rattle.commands.specs.declared.Command.the-variants.{WriteEnable, WriteDisable, ReadStatus, ReadConfig, WriteStatus, Read, FastRead, EraseSector, EraseHalf, EraseBlock, EraseChip, Program, ReadId, Wake, ReadMaker, Sleep, Unknown, Withdrawn, ReadSfdp}
 use Rattle.commands.specs.declared.Operation.{Operation}
 use Rattle.commands.specs.declared.Operation.the-variants.{Idle, WritesStatus, Programs, ErasesSector, ErasesHalf, ErasesBlock, ErasesChip}
 use Rattle.commands.proofs.Rows.{none-started}
@@ -24,7 +24,7 @@ use Rattle.states.specs.declared.Record.{Record}
 use Rattle.states.specs.declared.State.{State}
 use Rattle.states.proofs.States.{sound}
 use Rattle.ladder.proofs.Passed.{passed}
-use Rattle.effects.specs.Effects.{Effect, latched, dozing, starting, drives, writeEnable, writeDisable, writeStatus, eraseStarts, sleep, readStatus, readConfig, readFrom, programPage, readId, wake, readMaker}
+use Rattle.effects.specs.Effects.{Effect, latched, dozing, starting, drives, writeEnable, writeDisable, writeStatus, eraseStarts, sleep, readStatus, readConfig, readFrom, programPage, readId, wake, readMaker, readSfdp}
 use Rattle.operations.specs.Operations.{Extent, unitOf, runs, runsAt, forgotten, finished}
 use Rattle.time.specs.Time.{later, waited, cycled, cutOff, chipRefusal, powerRefusal, cutRefusal, waitOf, powerOf, powerCutOf}
 use Rattle.time.proofs.Time.{Fit, chip-fits, cuttable}
@@ -105,7 +105,7 @@ module _ (rec : Record) (s : State) (wp : Bool) where
     accepted-next : (c : Command) → decodeOf (rec .model) (getD bytes 0 0) ≡ c → (traitsOf (modelOf (rec .model) .register) c .lock && (s .srwd && not wp)) ≡ false
         → ((traitsOf (modelOf (rec .model) .register) c .unit && isProtected (rec .model) (tbOf s) (s .bp) (blockOf at)) || (traitsOf (modelOf (rec .model) .register) c .whole && not (eqb (s .bp) 0))) ≡ false
         → (page cells : List ℕ) → Next rec s wp (acceptedOf rec (chipOf s page cells) c at bytes wear out .reply .state)
-    unfolding acceptedOf traitsOf writeEnable writeDisable writeStatus eraseStarts sleep drives readStatus readConfig readFrom programPage readId wake readMaker
+    unfolding acceptedOf traitsOf writeEnable writeDisable writeStatus eraseStarts sleep drives readStatus readConfig readFrom programPage readId wake readMaker readSfdp
     accepted-next WriteEnable m l f page cells = enables true
     accepted-next WriteDisable m l f page cells = enables false
     accepted-next ReadStatus m l f page cells = remains
@@ -124,6 +124,7 @@ module _ (rec : Record) (s : State) (wp : Bool) where
     accepted-next Sleep m l f page cells = rests true _
     accepted-next Unknown m l f page cells = remains
     accepted-next Withdrawn m l f page cells = remains
+    accepted-next ReadSfdp m l f page cells = remains
 
 pub frame-next : (rec : Record) (x : Chip) (f : Sent) → Next rec (x .state) (f .wp) (frameOf rec x f .reply .state)
 unfolding headFor

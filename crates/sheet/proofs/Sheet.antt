@@ -21,7 +21,8 @@ use Rattle.states.specs.States.{inRange, halfOk, recordOk, longestSettle, confi
 use Rattle.states.proofs.States.{valid}
 use Rattle.ladder.specs.Ladder.{refusalOf}
 use Rattle.counts.specs.Counts.{covered, wornOut}
-use Rattle.effects.specs.Effects.{Effect, drives, latched, dozing, starting, refusalLeaves, writeEnable, writeStatus, eraseStarts, sleep, readStatus, readConfig, readFrom, programPage, programsOver, wakingTime, wake}
+use Rattle.effects.specs.Effects.{Effect, drives, latched, dozing, starting, refusalLeaves, writeEnable, writeStatus, eraseStarts, sleep, readStatus, readConfig, readFrom, programPage, programsOver, wakingTime, wake, readSfdp}
+use Rattle.sfdp_image.specs.Image.{image}
 use Rattle.operations.specs.Operations.{configWritten, configAfter, written, forgotten, finished}
 use Rattle.time.specs.Time.{Aftermath, later, waited, cycled, powerOf, powerRefusal, powerCutOf, afterOf}
 use Rattle.time.specs.declared.After.{After}
@@ -124,7 +125,7 @@ abbrev rowsAt : ℕ → List ℕ → List Row
 rowsAt n xs = sheet (getD xs (65535 % n) 0) (getD xs (65536 % n) 0)
 
 rows : (array : ℕ → List ℕ) → RowByRow array 17 (rowsAt (length (array 1)) (array 1))
-unfolding covered wornOut isModel partOf halfOk configOk tbOf configWritten configAfter refusalLeaves cycled readConfig addressOf rangeOf isProtected lay ring counts cellAfter pageAfter sectorErased programmed decodeOf traitsOf lengthOk inRange recordOk longestSettle idleOk busyOk stateOk statusOf refusalOf drives latched dozing starting written forgotten finished eraseStarts writeEnable writeStatus sleep readStatus readFrom programPage programsOver wakingTime wake headFor acceptedOf after answer later waited
+unfolding covered wornOut isModel partOf halfOk configOk tbOf configWritten configAfter refusalLeaves cycled readConfig addressOf rangeOf isProtected lay ring counts cellAfter pageAfter sectorErased programmed decodeOf traitsOf lengthOk inRange recordOk longestSettle idleOk busyOk stateOk statusOf refusalOf drives latched dozing starting written forgotten finished eraseStarts writeEnable writeStatus sleep readStatus readFrom programPage programsOver wakingTime wake readSfdp image headFor acceptedOf after answer later waited
 rows array = (refl, (refl, (refl, (refl, (refl, (refl, (refl, (refl, (refl, (refl, (refl, (refl, (refl, (refl, (refl, (refl, (refl, refl)))))))))))))))))
 
 pub bench-sheet : BenchSheet

@@ -1,4 +1,4 @@
--- The bench sheet: 01's cases marked ●, in its order and words, and what sleep (Req 04), model 3 (Req 01) and 52 withdrawn (Req 11) add. One table, and one statement over it.
+-- The bench sheet: 01's cases marked ●, in its order and words, and what sleep (Req 04), model 3 (Req 01), 52 withdrawn (Req 11) and 5A (Req 12) add. One table, and one statement over it.
 -- A line is a call and what is seen of it: `says`, the answer and the status byte after; `drivesFrom`, the first driven position, the driven bytes and the status byte.
 use mathlib.Core.Path.{_≡_}
 use mathlib.Core.Bool.{true, false}
@@ -132,6 +132,18 @@ sheet last first =
     ∣ send (0x06 ∷ []) ⇒ says 0 0x02
     ∣ send (0x52 ∷ 0 ∷ 0 ∷ 0 ∷ []) ⇒ says 21 0x02
     ∣ send (0xD8 ∷ 0 ∷ 0 ∷ 0 ∷ []) ⇒ says 0 0x03
+    -- Model 2, 5A: four bytes 14; five drive nothing; from 0 the signature, from 4C the erase types, and at 040000, which is no array address, FF (Req 12)
+    ∷ onModel 2
+    ∣ send (0x5A ∷ 0 ∷ 0 ∷ 0 ∷ []) ⇒ says 14 0x00
+    ∣ send (0x5A ∷ 0 ∷ 0 ∷ 0 ∷ 0 ∷ []) ⇒ says 0 0x00
+    ∣ sendTail 3 (0x5A ∷ 0 ∷ 0 ∷ 0 ∷ 0 ∷ 0 ∷ 0 ∷ 0 ∷ 0 ∷ []) ⇒ drivesFrom 5 (0x53 ∷ 0x46 ∷ 0x44 ∷ 0x50 ∷ []) 0x00
+    ∣ send (0x5A ∷ 0 ∷ 0 ∷ 0x4C ∷ 0 ∷ 0 ∷ 0 ∷ 0 ∷ 0 ∷ []) ⇒ drivesFrom 5 (0x0C ∷ 0x20 ∷ 0x10 ∷ 0xD8 ∷ []) 0x00
+    ∣ send (0x5A ∷ 0x04 ∷ 0 ∷ 0 ∷ 0 ∷ 0 ∷ []) ⇒ drivesFrom 5 (0xFF ∷ []) 0x00
+    -- Models 1 and 3, 5A: 13
+    ∷ onModel 1
+    ∣ send (0x5A ∷ 0 ∷ 0 ∷ 0 ∷ 0 ∷ 0 ∷ []) ⇒ says 13 0x00
+    ∷ onModel 3
+    ∣ send (0x5A ∷ 0 ∷ 0 ∷ 0 ∷ 0 ∷ 0 ∷ []) ⇒ says 13 0x00
     ∷ []
 
 -- whatever the arrays hold: filled in by our model, the sheet is as it stands

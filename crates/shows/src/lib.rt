@@ -2,7 +2,7 @@
 ghost use mathlib.Core.Path.{_≡_};
 ghost use Prim.Native.Nat.{_≤_, _<_};
 ghost use lib.ListN.{length};
-ghost use Rattle.effects.specs.Effects.{readStatus, readConfig, readFrom, readId, wakingTime, wake as Effects·wake, makerBytes, readMaker};
+ghost use Rattle.effects.specs.Effects.{readStatus, readConfig, readFrom, readId, wakingTime, wake as Effects·wake, makerBytes, readMaker, readSfdp};
 ghost use Rattle.effects.specs.Contracts.{Shows, Room};
 use answers::Answer;
 use effects::Reply;
@@ -10,6 +10,7 @@ use models::Model;
 use states::Record;
 use states::State;
 use units::Address;
+use units::SfdpAddress;
 
 // 05
 pub fn read_status(st: State, bytes: &[u8], out: &mut [u8]) -> Reply
@@ -106,4 +107,19 @@ pub fn read_maker(rec: Record, st: State, bytes: &[u8], out: &mut [u8]) -> Reply
     let pair = maker_bytes(row, parts::byte_at(bytes, 3));
     rings::repeat_part(out, 4, n, &pair);
     effects::driven(st, 4, n as u32)
+}
+
+// 5A
+pub fn read_sfdp(st: State, bytes: &[u8], out: &mut [u8]) -> Reply
+    requires { ⌜ Room 5 (now bytes) (now out) ⌝ }
+    ensures { λ r. ⌜ Shows (readSfdp st (now (bytes .entry)) (now (out .entry))) r (now (out .exit)) ⌝ }
+{
+    let n = bytes.len();
+    let at = SfdpAddress::sent(
+        parts::byte_at(bytes, 1),
+        parts::byte_at(bytes, 2),
+        parts::byte_at(bytes, 3),
+    );
+    sfdp_image::drive(at, out, 5, n);
+    effects::driven(st, 5, n as u32)
 }

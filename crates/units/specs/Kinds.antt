@@ -1,9 +1,10 @@
--- Addresses, sectors, half blocks, blocks and pages: 01, "Units" (000 L173-179, 002 L208-223, 003 L346-394). Assumes nothing.
-use Prim.Native.Nat.{ℕ, _*_, _/_, _%_}
+-- Addresses, sectors, half blocks, blocks and pages: 01, "Units" (000 L173-179, 002 L208-223, 003 L346-394); addresses of the SFDP table: Req 12 (002 L534). Assumes nothing.
+use Prim.Native.Nat.{ℕ, _+_, _*_, _/_, _%_}
 use Rattle.units.specs.declared.Address.{Address}
 use Rattle.units.specs.declared.Sector.{Sector}
 use Rattle.units.specs.declared.HalfBlock.{HalfBlock}
 use Rattle.units.specs.declared.Block.{Block}
+use Rattle.units.specs.declared.SfdpAddress.{SfdpAddress}
 
 -- a sector is 4,096 bytes, a half block 32,768, a block 65,536, a page 256
 abbrev pub sectorOf : Address → Sector
@@ -43,3 +44,7 @@ halfBlockStart h = h .0 * 32768
 
 abbrev pub blockStart : Block → ℕ
 blockStart b = b .0 * 65536
+
+-- an address of the SFDP table is the one that was sent, 24 bits, high byte first: no array has a part in it, so there is no modulo
+abbrev pub sfdpAddress : ℕ → ℕ → ℕ → SfdpAddress
+sfdpAddress high middle low = record { 0 = high * 65536 + (middle * 256 + low) }

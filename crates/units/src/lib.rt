@@ -1,9 +1,9 @@
-// The numbers of the sheets as kinds of their own: addresses, sectors, half blocks and blocks.
+// The numbers of the sheets as kinds of their own: addresses, sectors, half blocks and blocks, and addresses of the SFDP table.
 ghost use mathlib.Core.Path.{_≡_};
 ghost use Prim.Native.Nat.{_<_};
-ghost use Rattle.units.specs.Kinds.{sectorOf, halfBlockOf, blockOf, pageStart, pageOffset, blockOfSector, blockOfHalf, firstOfHalf, firstOfBlock, sectorStart, halfBlockStart, blockStart};
+ghost use Rattle.units.specs.Kinds.{sectorOf, halfBlockOf, blockOf, pageStart, pageOffset, blockOfSector, blockOfHalf, firstOfHalf, firstOfBlock, sectorStart, halfBlockStart, blockStart, sfdpAddress};
 
-// A byte address, and the numbers of a sector, of a half block of 32 KiB and of a block: four kinds, so that none passes for another.
+// A byte address, the numbers of a sector, of a half block of 32 KiB and of a block, and an address of the SFDP table: five kinds, so that none passes for another.
 pub struct Address(pub u32);
 
 pub struct Sector(pub u32);
@@ -11,6 +11,8 @@ pub struct Sector(pub u32);
 pub struct HalfBlock(pub u32);
 
 pub struct Block(pub u32);
+
+pub struct SfdpAddress(pub u32);
 
 impl Address {
     // The sector that holds the address.
@@ -106,5 +108,14 @@ impl Block {
         ensures { λ r. ⌜ r .0 ≡ blockStart self ⌝ }
     {
         Address(self.0 * 65536)
+    }
+}
+
+impl SfdpAddress {
+    // The address of three bytes, the high byte first, as they were sent.
+    pub fn sent(high: u8, middle: u8, low: u8) -> SfdpAddress
+        ensures { λ r. ⌜ r ≡ sfdpAddress high middle low ⌝ }
+    {
+        SfdpAddress(high as u32 * 65536 + (middle as u32 * 256 + low as u32))
     }
 }

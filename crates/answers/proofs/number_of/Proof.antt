@@ -65,10 +65,26 @@ returns-19 c = sym (ap numberOf (c .enum-told19 .given .1))
 returns-20 : tie.Need-returns-20
 returns-20 c = sym (ap numberOf (c .enum-told20 .given .1))
 
+returns-21 : tie.Need-returns-21
+returns-21 c = sym (ap numberOf (c .enum-told21 .given .1))
+
+returns-22 : tie.Need-returns-22
+returns-22 c = sym (ap numberOf (c .enum-told22 .given .1))
+
+returns-23 : tie.Need-returns-23
+returns-23 c = sym (ap numberOf (c .enum-told23 .given .1))
+
+returns-24 : tie.Need-returns-24
+returns-24 c = sym (ap numberOf (c .enum-told24 .given .1))
+
 pub number-of-spec : {M : Type 1} → statement M
 number-of-spec =
     tie.close
     (tie.spec
+    (λ c. search needs)
+    (λ c. search needs)
+    (λ c. search needs)
+    (λ c. search needs)
     (λ c. search needs)
     (λ c. search needs)
     (λ c. search needs)
@@ -108,4 +124,8 @@ number-of-spec =
     returns-17
     returns-18
     returns-19
-    returns-20)
+    returns-20
+    returns-21
+    returns-22
+    returns-23
+    returns-24)

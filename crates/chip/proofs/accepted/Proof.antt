@@ -76,6 +76,13 @@ read-maker-requires c κs =
     let e = c .before .enum-told15 .given .1 in
     room-for p e
 
+read-sfdp-requires : tie.Need-read-sfdp-requires
+unfolding traitsOf
+read-sfdp-requires c κs =
+    let p = c .before .before .before .before .before .before .before .pre in
+    let e = c .before .enum-told19 .given .1 in
+    room-for p e
+
 returns : tie.Need-returns
 unfolding acceptedOf
 returns c =
@@ -202,6 +209,13 @@ returns-18 c =
     at-command (a .rec) (chipOf (a .st) (now (a .page)) (now (a .array))) (a .at) (now (a .bytes)) (now (a .out)) (c .before .enum-told18 .given .1)
     (record { reply = c .quiet2 .ensures; page-is = refl; out = refl })
 
+returns-19 : tie.Need-returns-19
+unfolding acceptedOf
+returns-19 c =
+    let a = c .before .before .before .before .before .before .before .before .before .before .args in
+    at-command (a .rec) (chipOf (a .st) (now (a .page)) (now (a .array))) (a .at) (now (a .bytes)) (now (a .out)) (c .before .before .before .before .enum-told19 .given .1)
+    (record { reply = c .before .before .read-sfdp .ensures .reply; page-is = refl; out = c .before .before .read-sfdp .ensures .out })
+
 pub accepted-spec : {M : Type 1} → statement M
 accepted-spec =
     tie.close
@@ -242,6 +256,8 @@ accepted-spec =
     (λ c κs. search needs)
     (λ c. search needs)
     (λ c κs. search needs)
+    (λ c. search needs)
+    read-sfdp-requires
     returns
     returns-2
     (λ c. search needs)
@@ -268,4 +284,6 @@ accepted-spec =
     returns-15
     returns-16
     returns-17
-    returns-18)
+    returns-18
+    (λ c. search needs)
+    returns-19)

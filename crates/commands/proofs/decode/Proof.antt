@@ -68,7 +68,11 @@ returns-15 c = rw (c .match .keys15)
 
 returns-16 : tie.Need-returns-16
 unfolding decodeOf
-returns-16 c =
+returns-16 c = rw (c .before .match .keys16) (c .sfdp-read .ensures)
+
+returns-17 : tie.Need-returns-17
+unfolding decodeOf
+returns-17 c =
     let r = c .before .match .rest in
     c .own .ensures
     ∙ simp (
@@ -87,12 +91,14 @@ returns-16 c =
       ne-eqb _ _ (r .0 .0 .0 .0 .0 .0 .0 .0 .0 .0 .0 .0 .1),
       ne-eqb _ _ (r .0 .0 .0 .0 .0 .0 .0 .0 .0 .0 .0 .0 .0 .1),
       ne-eqb _ _ (r .0 .0 .0 .0 .0 .0 .0 .0 .0 .0 .0 .0 .0 .0 .1),
+      ne-eqb _ _ (r .0 .0 .0 .0 .0 .0 .0 .0 .0 .0 .0 .0 .0 .0 .0 .1),
     )
 
 pub decode-spec : {M : Type 1} → statement M
 decode-spec =
     tie.close
     (tie.spec
+    (λ c κs. search needs)
     (λ c κs. search needs)
     returns
     returns-2
@@ -109,4 +115,5 @@ decode-spec =
     returns-13
     returns-14
     returns-15
-    returns-16)
+    returns-16
+    returns-17)

@@ -59,10 +59,14 @@ returns-17 c = sym (ap operationOf (c .enum-told17 .given .1))
 returns-18 : tie.Need-returns-18
 returns-18 c = sym (ap operationOf (c .enum-told18 .given .1))
 
+returns-19 : tie.Need-returns-19
+returns-19 c = sym (ap operationOf (c .enum-told19 .given .1))
+
 pub operation-of-spec : {M : Type 1} → statement M
 operation-of-spec =
     tie.close
     (tie.spec
+    (λ c. search needs)
     (λ c. search needs)
     (λ c. search needs)
     (λ c. search needs)
@@ -98,4 +102,5 @@ operation-of-spec =
     returns-15
     returns-16
     returns-17
-    returns-18)
+    returns-18
+    returns-19)

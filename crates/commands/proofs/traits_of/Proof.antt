@@ -78,6 +78,10 @@ returns-18 : tie.Need-returns-18
 unfolding traitsOf
 returns-18 c = c .withdrawn .ensures ∙ sym (ap (traitsOf _) (c .before .enum-told18 .given .1))
 
+returns-19 : tie.Need-returns-19
+unfolding traitsOf
+returns-19 c = c .row17 .ensures ∙ sym (ap (traitsOf _) (c .before .enum-told19 .given .1))
+
 pub traits-of-spec : {M : Type 1} → statement M
 traits-of-spec =
     tie.close
@@ -92,6 +96,8 @@ traits-of-spec =
     (λ c κs. search needs)
     (λ c. search needs)
     (λ c κs. search needs)
+    (λ c κs. search needs)
+    (λ c. search needs)
     (λ c κs. search needs)
     (λ c. search needs)
     (λ c κs. search needs)
@@ -136,4 +142,5 @@ traits-of-spec =
     returns-15
     returns-16
     returns-17
-    returns-18)
+    returns-18
+    returns-19)
