@@ -57,10 +57,7 @@ compile() {
 stand_in() {
     echo "the independent model stands in for the archive: this tries the tests only"
     archive=$obj/stand_in.o
-    "$host" cc -std=c99 $flags -Dref_frame=gwo_frame -Dref_wait=gwo_wait -Dref_power_cycle=gwo_power_cycle \
-        -Dref_cut=gwo_cut -Dref_wear_report=gwo_wear_report -Dref_sfdp_read=gwo_sfdp_read \
-        -Dref_sfdp_revision=gwo_sfdp_revision -Dref_sfdp_header=gwo_sfdp_header -Dref_sfdp_erase=gwo_sfdp_erase \
-        -Dref_sfdp_write=gwo_sfdp_write -r -nostdlib "$here"/model/*.c -o "$archive"
+    "$host" cc -std=c99 $flags -include "$here/model/names.h" -r -nostdlib "$here"/model/*.c -o "$archive"
 }
 
 link() {
@@ -77,7 +74,7 @@ link() {
         "$host" cc "$obj/$program.o" "$obj/flash.o" "$archive" "$obj/model.o" -o "$bin/$program"
     done
     "$host" cc "$obj"/scripts*.o "$obj/rig.o" "$obj/model.o" -o "$bin/scripts"
-    "$host" cc -std=c99 $flags "$here"/explain/*.c -o "$bin/explain"
+    "$host" cc "$obj/lines.o" "$obj/scripts_play.o" "$obj/rig.o" "$archive" "$obj/model.o" -o "$bin/lines"
 }
 
 # header LANGUAGE STANDARD: without a warning, and it links with the archive and runs. As C++ it needs no more than C's
@@ -113,6 +110,21 @@ discover() {
         echo "discover: size and erases from the SFDP table; 3B, which it names, is 13"
 }
 
+# Each C program of docs/FIRMWARE.md, as it stands there, prints the block after it.
+documented() {
+    rm -f "$GWO_BUILD"/program.*
+    awk -v to="$GWO_BUILD/program" '
+        /^```c$/ { file = sprintf("%s.%d.c", to, ++count); after = 1; next }
+        /^```$/ && file == "" && after { file = sprintf("%s.%d.want", to, count); after = 0; next }
+        /^```/ { file = ""; next }
+        file != "" { print > file }' "$root/docs/FIRMWARE.md"
+    for source in "$GWO_BUILD"/program.*.c; do
+        "$host" cc -std=c99 $flags -Werror "$source" "$archive" "$obj/model.o" -o "$bin/documented" &&
+            "$host" run "$bin/documented" >"$GWO_BUILD/program.got" && diff "${source%.c}.want" "$GWO_BUILD/program.got" || return
+    done
+    echo "documented: the C programs of docs/FIRMWARE.md compile without a warning and print what is said there"
+}
+
 # The C of README.md, as it stands there, prints what is said there.
 readme() {
     awk '/^```c$/ { inside = 1; next } /^```$/ { inside = 0 } inside' "$root/README.md" >"$GWO_BUILD/readme.c" &&
@@ -144,16 +156,40 @@ faults() {
     esac
 }
 
+# Script text in blocks, on each model, with the setting off and on: lines SEED..
+lines_are_played() {
+    for seed in "$@"; do
+        for model in 1 2 3; do
+            "$host" run "$bin/scripts" gen "$seed" $([ $model = 3 ] && echo 400 || echo 4000) $model >"$GWO_BUILD/lines.script" &&
+                "$host" run "$bin/lines" $model "$seed" <"$GWO_BUILD/lines.script" &&
+                "$host" run "$bin/lines" $model "$seed" strict <"$GWO_BUILD/lines.script" || return
+        done
+    done
+    echo "lines: text in blocks of any length, seeds $*, strict and not, on each model: rows and chip are the model's"
+}
+
+# struct gwo_chip as LANGUAGE STANDARD, without a warning.
+chip() {
+    case $1 in c) compiler=cc ;; c++) compiler=cxx ;; esac
+    "$host" $compiler -x "$1" -std="$2" -Wall -Wextra -Wconversion -pedantic -Werror -I"$here/include" \
+        -c "$here/test/chip.c" -o "$obj/chip_$2.o" &&
+        "$host" cc "$obj/chip_$2.o" "$archive" "$obj/model.o" -o "$bin/chip_$2" &&
+        "$host" run "$bin/chip_$2" "chip as $2"
+}
+
 compile
 [ "$archive" != model ] || stand_in
 link
 for standard in c99 c11; do check "header-$standard" header c $standard; done
 for standard in c++98 c++17; do check "header-$standard" header c++ $standard; done
+for standard in c99 c11; do check "chip-$standard" chip c $standard; done
+for standard in c++98 c++17; do check "chip-$standard" chip c++ $standard; done
 for request in 05 06; do check "by_names_$request" by_names $request; done
 check no_sheet no_sheet
 check example example
 check discover discover
 check readme readme
+check documented documented
 check rules "$host" run "$bin/rules"
 check compare "$host" run "$bin/compare" "$calls" ${GWO_SEED:-}
 check thirteen "$host" run "$bin/thirteen"
@@ -165,7 +201,7 @@ else
     check stack "$host" run "$bin/stack"
 fi
 check sample sample
-check explain "$here/test/explain.sh" "$bin/scripts" "$bin/explain"
+check lines lines_are_played 1 2
 if [ -n "${GWO_RUNNER:-}" ]; then
     check runner "$here/test/runner.sh" "$bin/scripts" "$lines" 1 2
     check words "$here/test/words.sh"

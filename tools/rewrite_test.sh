@@ -1,7 +1,8 @@
 #!/usr/bin/env bash
-# The program behind `make rewrite`: on the stored cases, on scripts of random lines against tools/rewrite_reference.py, and where it cannot read or write.
+# The program behind `gwo rewrite` and `make rewrite`: on the stored cases, on scripts of random lines against tools/rewrite_reference.py; and both commands,
+# where it can be done and where not.
 #   tools/rewrite_test.sh
-# target/bin/run_rewrite is built.
+# target/bin/run_rewrite and build/gwo are built.
 set -u
 cd "$(dirname "$0")/.." || exit 1
 passed=0
@@ -52,7 +53,7 @@ told() {
     ! same crates/run_rewrite/stdin "$1"
 }
 
-# rewrites WANTED-STATUS WORDS COMMAND..
+# ends WANTED-STATUS WORDS COMMAND..
 ends() {
     local wanted=$1 words=$2 got=0
     shift 2
@@ -60,15 +61,53 @@ ends() {
     [ "$got" -eq "$wanted" ] && grep -qF -- "$words" "$work/err" || { echo "status $got"; cat "$work/err"; return 1; }
 }
 
-full_disk() {
-    local got=0
-    tools/rewrite.sh scripts/withdrawn.txt >/dev/full 2>"$work/err" || got=$?
-    [ "$got" -eq 2 ] && grep -q '^rewrite: standard output' "$work/err" || { echo "status $got"; cat "$work/err"; return 1; }
+# gwo rewrite gives what the reference gives, from a file, from standard input, by a pipe and by an odd name.
+by_gwo() {
+    local name="$work/it's a \$b.txt"
+    cp scripts/withdrawn.txt "$name"
+    "${reference[@]}" rewrite none <scripts/withdrawn.txt >"$work/want" 2>"$work/numbers" || return 1
+    for script in scripts/withdrawn.txt - "$name" <(cat scripts/withdrawn.txt); do
+        build/gwo rewrite "$script" <scripts/withdrawn.txt >"$work/out" 2>"$work/err" && cmp "$work/want" "$work/out" && diff -a "$work/numbers" "$work/err" || { echo "$script"; return 1; }
+    done
 }
 
 by_make() {
-    make -s rewrite SCRIPT=scripts/withdrawn.txt >"$work/out" 2>"$work/err" && "${reference[@]}" rewrite none <scripts/withdrawn.txt >"$work/want" 2>"$work/numbers" &&
-        cmp "$work/want" "$work/out" && diff -a "$work/numbers" "$work/err"
+    "${reference[@]}" rewrite none <scripts/withdrawn.txt >"$work/want" 2>"$work/numbers" || return 1
+    for script in scripts/withdrawn.txt -; do
+        make -s rewrite SCRIPT="$script" <scripts/withdrawn.txt >"$work/out" 2>"$work/err" && cmp "$work/want" "$work/out" && diff -a "$work/numbers" "$work/err" || { echo "$script"; return 1; }
+    done
+}
+
+full_disk() {
+    local command got
+    for command in 'build/gwo rewrite scripts/withdrawn.txt' 'make -s rewrite SCRIPT=scripts/withdrawn.txt'; do
+        got=0
+        $command >/dev/full 2>"$work/err" || got=$?
+        [ "$got" -eq 2 ] && grep -q '^rewrite: standard output: No space left on device' "$work/err" || { echo "$command: status $got"; cat "$work/err"; return 1; }
+    done
+}
+
+# A reader that has gone, and standard files that are closed.
+closed() {
+    local got
+    trap '' PIPE
+    head -c 300000 /dev/zero | tr '\0' '\n' >"$work/long"
+    build/gwo rewrite "$work/long" 2>"$work/err" | true
+    got=${PIPESTATUS[0]}
+    trap - PIPE
+    [ "$got" -eq 2 ] && grep -q '^rewrite: standard output: Broken pipe' "$work/err" || { echo "a pipe: status $got"; head -n 3 "$work/err"; return 1; }
+    got=0
+    build/gwo rewrite - <&- >"$work/out" 2>"$work/err" || got=$?
+    [ "$got" -eq 2 ] && grep -q '^rewrite: standard input: ' "$work/err" || { echo "standard input: status $got"; return 1; }
+    got=0
+    build/gwo rewrite scripts/withdrawn.txt 2>/dev/full >"$work/out" || got=$?
+    [ "$got" -eq 2 ] || { echo "standard error: status $got"; return 1; }
+}
+
+# A copy of gwo that has not the program beside it.
+alone() {
+    mkdir -p "$work/alone" && cp build/gwo* "$work/alone/" && rm "$work/alone/gwo-rewrite" || return 1
+    [ -s build/gwo.x86-64 ] || ends 2 'the program that rewrites is not where it should be' "$work/alone/gwo" rewrite scripts/withdrawn.txt
 }
 
 check 'the stored cases' stored
@@ -77,8 +116,15 @@ check 'twice is once' twice
 for fault in second bad lower inside newline numbers; do
     check "a rewriter with the fault: $fault" told $fault
 done
+check 'gwo rewrite' by_gwo
 check 'make rewrite' by_make
-check 'a file that is not there' ends 2 'make rewrite' tools/rewrite.sh "$work/none"
+check 'a file that is not there' ends 2 'make rewrite' make rewrite SCRIPT="$work/none"
+check 'gwo: a file that is not there' ends 2 "gwo rewrite: $work/none: No such file" build/gwo rewrite "$work/none"
+check 'gwo: a folder' ends 2 'gwo rewrite: scripts: Is a directory' build/gwo rewrite scripts
+check 'gwo: a word too many' ends 2 'is another' build/gwo rewrite a b
+check 'make: words that are not for it' ends 2 'are for scripts that are played' make rewrite SCRIPT=scripts/withdrawn.txt MODEL=2
 check 'a full disk' full_disk
+check 'closed files' closed
+check 'the program is missing' alone
 echo "$passed passed, $failed failed"
 [ "$failed" -eq 0 ]

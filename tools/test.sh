@@ -33,11 +33,12 @@ proved=$SECONDS
 count tools/host.sh python -B tools/refusals.py
 count tools/refusals_test.sh
 count tools/edits_test.sh
-if rt staticlib pod; then
+if tools/rattle.sh 'make test' archive; then
     GWO_RUNNER="$PWD/tools/host.sh program $PWD/target/bin/runner"
     GWO_WEAR="$PWD/tools/host.sh program $PWD/target/bin/wear"
     export GWO_RUNNER GWO_WEAR
     count host/test.sh
+    count host/gwo/test.sh
     count scripts/test.sh
     count tools/commands.sh
     count tools/rewrite_test.sh

@@ -1,7 +1,7 @@
 /*
  * A plugin of qemu-user that counts guest instructions between the marks of mark.h and
  * writes a line `ROW INSTRUCTIONS` for each stretch into the file of its argument
- * counts=FILE. It declares the few names it needs of qemu's plugin interface, since Debian
+ * counts=FILE, and at the program's end one, `all INSTRUCTIONS`, for all of it. It declares the few names it needs of qemu's plugin interface, since Debian
  * ships no header for it; VERSION is the interface version that it claims.
  */
 #include <stddef.h>
@@ -24,6 +24,8 @@ void qemu_plugin_register_vcpu_insn_exec_cb(struct qemu_plugin_insn *, executed 
 void qemu_plugin_register_vcpu_syscall_cb(plugin_id, system_call *);
 size_t qemu_plugin_tb_n_insns(const struct qemu_plugin_tb *);
 struct qemu_plugin_insn *qemu_plugin_tb_get_insn(const struct qemu_plugin_tb *, size_t);
+
+enum { EXIT_GROUP = 231 }; /* the system call that ends an x86-64 program */
 
 #define EXPORTED __attribute__((visibility("default")))
 
@@ -55,6 +57,10 @@ static void mark(plugin_id id, unsigned cpu, int64_t number, uint64_t row, uint6
                  uint64_t a5, uint64_t a6, uint64_t a7, uint64_t a8)
 {
     (void)id, (void)cpu, (void)a3, (void)a4, (void)a5, (void)a6, (void)a7, (void)a8;
+    if (number == EXIT_GROUP)
+        fprintf(counts, "all %llu\n", (unsigned long long)instructions);
+    if (number == EXIT_GROUP)
+        fflush(counts);
     if (number != MARK_NUMBER)
         return;
     if (start) {

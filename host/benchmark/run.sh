@@ -17,10 +17,7 @@ mkdir -p "$build"
 "$host" cc $flags -c "$here/empty.c" -o "$build/empty.o"
 "$host" cc $flags -fno-builtin $("$host" count-flags) -c "$here/benchmark.c" -o "$build/benchmark.o"
 if [ "$archive" = model ]; then
-    "$host" cc $flags -Dref_frame=gwo_frame -Dref_wait=gwo_wait -Dref_power_cycle=gwo_power_cycle \
-        -Dref_cut=gwo_cut -Dref_wear_report=gwo_wear_report -Dref_sfdp_read=gwo_sfdp_read \
-        -Dref_sfdp_revision=gwo_sfdp_revision -Dref_sfdp_header=gwo_sfdp_header -Dref_sfdp_erase=gwo_sfdp_erase \
-        -Dref_sfdp_write=gwo_sfdp_write -r -nostdlib "$root"/host/model/*.c -o "$build/stand_in.o"
+    "$host" cc $flags -include "$root/host/model/names.h" -r -nostdlib "$root"/host/model/*.c -o "$build/stand_in.o"
     archive=$build/stand_in.o
 elif [ ! -f "$archive" ]; then
     echo "host/benchmark/run.sh: there is no archive at $archive" >&2

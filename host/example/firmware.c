@@ -102,5 +102,5 @@ int main(void)
 {
     tell("Last spring's firmware: each record is one program.", write_record_last_spring);
     tell("Mended: a program ends at the page's end.", write_record_mended);
-    return 0;
+    return all_written();
 }

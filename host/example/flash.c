@@ -6,10 +6,7 @@
 
 void flash_power_on(struct flash *f)
 {
-    f->record = gwo_bench_model_1;
-    gwo_factory_state(f->state);
-    memset(f->array, 0xFF, sizeof f->array);
-    memset(f->wear, 0, sizeof f->wear);
+    stop_unless_done(gwo_chip_init(&f->chip, gwo_bench(1), f->array, sizeof f->array, f->wear, GWO_MODEL_1_SECTORS));
 }
 
 void stop_unless_done(uint32_t number)
@@ -31,12 +28,12 @@ size_t addressed(uint8_t *frame, uint8_t command, uint32_t address)
 
 uint32_t transfer(struct flash *f, const uint8_t *out, uint8_t *in, size_t n)
 {
-    uint32_t from, count, fold;
+    struct gwo_reply reply;
 
     memset(in, 0, n);
-    stop_unless_done(gwo_record_frame_wear(&f->record, f->state, sizeof f->state, f->array, sizeof f->array,
-                                           f->wear, GWO_MODEL_1_SECTORS, out, n, 0, 1, in, n, &from, &count, &fold));
-    return fold;
+    reply = gwo_chip_send(&f->chip, out, in, n, 0);
+    stop_unless_done(reply.answer);
+    return reply.fold;
 }
 
 void write_enable(struct flash *f)
@@ -54,7 +51,7 @@ void wait_until_ready(struct flash *f)
 
     transfer(f, frame, in, 2);
     while ((in[1] & 1) != 0) {
-        stop_unless_done(gwo_record_wait(&f->record, f->state, sizeof f->state, f->array, sizeof f->array, 100));
+        stop_unless_done(gwo_chip_wait(&f->chip, 100));
         transfer(f, frame, in, 2);
     }
 }
@@ -70,14 +67,12 @@ void erase_sector(struct flash *f, uint32_t address)
 
 void show_wear(const struct flash *f)
 {
-    uint64_t total;
-    uint32_t smallest, largest, sector, mean, remainder;
+    struct gwo_sheet sheet;
 
-    stop_unless_done(gwo_wear_report(f->wear, GWO_MODEL_1_SECTORS, &total, &smallest, &largest, &sector, &mean,
-                                     &remainder));
+    stop_unless_done(gwo_chip_wear(&f->chip, &sheet));
     printf("  erases counted: %lu, from %lu to %lu a sector, the most in sector %lu; mean %lu, remainder %lu\n",
-           (unsigned long)total, (unsigned long)smallest, (unsigned long)largest, (unsigned long)sector,
-           (unsigned long)mean, (unsigned long)remainder);
+           (unsigned long)sheet.total, (unsigned long)sheet.smallest, (unsigned long)sheet.largest,
+           (unsigned long)sheet.sector, (unsigned long)sheet.mean, (unsigned long)sheet.remainder);
 }
 
 void read_bytes(struct flash *f, uint32_t address, uint8_t *bytes, size_t n)
@@ -88,4 +83,12 @@ void read_bytes(struct flash *f, uint32_t address, uint8_t *bytes, size_t n)
     memset(frame + at, 0, n);
     transfer(f, frame, in, at + n);
     memcpy(bytes, in + at, n);
+}
+
+int all_written(void)
+{
+    if (fflush(stdout) == 0 && !ferror(stdout))
+        return 0;
+    perror("standard output");
+    return 1;
 }

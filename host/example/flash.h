@@ -4,10 +4,9 @@
 
 #include "gwo.h"
 
-/* The chip on the board: here the model. */
+/* The chip on the board: here the model, and the memory that is lent to it. */
 struct flash {
-    struct gwo_record record;
-    uint8_t state[GWO_STATE_LENGTH];
+    struct gwo_chip chip;
     uint8_t array[GWO_MODEL_1_LENGTH];
     uint32_t wear[GWO_MODEL_1_SECTORS]; /* how often each sector was erased */
 };
@@ -36,5 +35,8 @@ void show_wear(const struct flash *f);
 
 /* Up to a page, from one address on. */
 void read_bytes(struct flash *f, uint32_t address, uint8_t *bytes, size_t n);
+
+/* The exit status: 0 where all that was printed has been written. */
+int all_written(void);
 
 #endif

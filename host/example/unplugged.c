@@ -85,14 +85,12 @@ static void pull_the_board(void)
 
     write_enable(&flash);
     transfer(&flash, frame, in, addressed(frame, 0x20, TABLE));
-    stop_unless_done(gwo_record_wait(&flash.record, flash.state, sizeof flash.state, flash.array, sizeof flash.array,
-                                     flash.record.sector_us / 2));
+    stop_unless_done(gwo_chip_wait(&flash.chip, flash.chip.record.sector_us / 2));
     for (i = 0; i < SECTOR; i++) {
         noise = noise * 1664525u + 1013904223u;
         pattern[i] = (uint8_t)(before[TABLE + i] | (noise >> 24 & noise >> 16));
     }
-    stop_unless_done(gwo_record_cut(&flash.record, flash.state, sizeof flash.state, flash.array, sizeof flash.array,
-                                    pattern, sizeof pattern));
+    stop_unless_done(gwo_chip_cut(&flash.chip, pattern, sizeof pattern));
 }
 
 /* One of the thirteen calls, as it is answered. */
@@ -106,10 +104,8 @@ static void say(const char *what, uint32_t answer)
 static void frame_is(const char *what, const uint8_t *frame, size_t n)
 {
     uint8_t in[4 + GWO_PAGE_LENGTH];
-    uint32_t from, count, fold;
 
-    say(what, gwo_record_frame_wear(&flash.record, flash.state, sizeof flash.state, flash.array, sizeof flash.array,
-                                    flash.wear, GWO_MODEL_1_SECTORS, frame, n, 0, 1, in, n, &from, &count, &fold));
+    say(what, gwo_chip_send(&flash.chip, frame, in, n, 0).answer);
 }
 
 static void wait_is(uint32_t us)
@@ -117,7 +113,7 @@ static void wait_is(uint32_t us)
     char what[40];
 
     sprintf(what, "wait %lu us", (unsigned long)us);
-    say(what, gwo_record_wait(&flash.record, flash.state, sizeof flash.state, flash.array, sizeof flash.array, us));
+    say(what, gwo_chip_wait(&flash.chip, us));
 }
 
 /* The first wait is for the longest of the record's times; it is the chip erase's. */
@@ -126,19 +122,19 @@ static void thirteen_calls(void)
     static const uint8_t wake[] = {0xAB}, enable[] = {0x06}, unprotect[] = {0x01, 0x00};
     uint8_t frame[4 + LENGTH];
 
-    wait_is(flash.record.chip_us);
+    wait_is(flash.chip.record.chip_us);
     frame_is("AB", wake, 1);
-    wait_is(flash.record.wake_us);
+    wait_is(flash.chip.record.wake_us);
     frame_is("06", enable, 1);
     frame_is("01 00", unprotect, 2);
-    wait_is(flash.record.status_us);
+    wait_is(flash.chip.record.status_us);
     frame_is("06", enable, 1);
     frame_is("20 002000", frame, addressed(frame, 0x20, TABLE));
-    wait_is(flash.record.sector_us);
+    wait_is(flash.chip.record.sector_us);
     frame_is("06", enable, 1);
     memcpy(frame + 4, records, LENGTH);
     frame_is("02 002000 and the table", frame, addressed(frame, 0x02, TABLE) + LENGTH);
-    wait_is(flash.record.page_us);
+    wait_is(flash.chip.record.page_us);
     frame_is("03 002000 and 240 bytes", frame, addressed(frame, 0x03, TABLE) + LENGTH);
 }
 
@@ -147,7 +143,7 @@ int main(void)
     write_table();
     pull_the_board();
     printf("The board was pulled %lu us into the erase of the table's sector.\n",
-           (unsigned long)flash.record.sector_us / 2);
+           (unsigned long)flash.chip.record.sector_us / 2);
     show_table();
     show_changed();
     show_wear(&flash);
@@ -156,5 +152,5 @@ int main(void)
     show_table();
     show_changed();
     show_wear(&flash);
-    return 0;
+    return all_written();
 }

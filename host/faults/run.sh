@@ -30,9 +30,11 @@ for program in sfdp tables; do
     "$host" cc "$obj/$program"*.o "$obj"/jig_sfdp_sheet.o "$obj"/rig.o $pod -o "$out/$program"
 done
 "$host" cc "$obj"/stack*.o "$obj"/empty.o "$obj"/rig.o $pod -o "$out/stack"
+"$host" cc "$obj"/lines.o "$obj"/scripts_play.o "$obj"/rig.o $pod -o "$out/lines"
 for program in firmware unplugged; do
     "$host" cc "$obj/$program.o" "$obj"/flash.o $pod -o "$out/$program"
 done
+"$host" run "$build/bin/scripts" gen 1 3000 >"$out/script"
 
 # The bytes of stack that the ten calls take without a fault: the limits for the faulty ones.
 most=65536
@@ -50,6 +52,7 @@ passes() {
     compare) "$host" run "$out/compare" 100000 >"$out/log" 2>&1 ;;
     thirteen) "$host" run "$out/thirteen" first >"$out/log" 2>&1 ;;
     stack) "$host" run "$out/stack" $own >"$out/log" 2>&1 ;;
+    lines) "$host" run "$out/lines" 1 1 strict <"$out/script" >"$out/log" 2>&1 ;;
     example)
         "$host" run "$out/firmware" >"$out/log" 2>&1 && "$host" run "$out/unplugged" >>"$out/log" 2>&1 || return 1
         diff "$root/host/example/output.txt" "$out/log" >"$out/example.diff" && return 0
@@ -87,7 +90,7 @@ fault() {
     fi
 }
 
-for test in rules compare thirteen example stack sfdp tables; do
+for test in rules compare thirteen example stack sfdp tables lines; do
     if passes 0 $test; then
         say passed "no fault: $test passes"
     else
@@ -195,5 +198,19 @@ fault 97 "SFDP writer: an exponent 0 is taken" "sfdp:refused records" tables
 fault 98 "SFDP writer: of five types four are written" "sfdp:refused records" tables
 fault 99 "SFDP writer: an exponent without opcode is left out" "sfdp:refused records" tables
 fault 100 "SFDP writer: the rest of the buffer is filled" "sfdp:written tables" tables
+fault 101 "the start of a line in the block before is forgotten" lines
+fault 102 "the next line has the number of this one" lines
+fault 103 "the last row of a block is lost" lines
+fault 104 "a byte more is taken than was played" lines
+fault 105 "lines are never strict" lines
+fault 106 "erases of lines are not counted" lines
+fault 107 "a line is played without room for its row" lines
+fault 108 "one line, and the rest of the block waits" lines
+fault 109 "a line over 640 bytes is held as one of 640" lines
+fault 110 "a refused block is taken" lines
+fault 111 "5 comes before 3" lines
+fault 112 "an empty line is played at the end" lines
+fault 113 "the last line stays held" lines
+fault 114 "the last line without room for its row is done" lines
 echo "$passed passed, $failed failed"
 [ $failed -eq 0 ]

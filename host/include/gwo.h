@@ -16,11 +16,14 @@
  * erase covers, at once, whether the erase then comes to its end or is cut. On a chip from the factory all
  * counts are 0. gwo_wear_report sums a table up.
  *
+ * Firmware has the calls in one thing: struct gwo_chip, further down, and the functions gwo_chip_...
+ * gwo_play_lines plays the text of a script on a chip.
+ *
  * The caller's duties are those of C, and no others:
  *  - each pointer points to as many bytes as its length says, that to a wear table to as many
  *    32-bit numbers, and may be null where the length is 0;
- *  - the pointers to results (from, count and fold, and the six of a report) each point to a number
- *    of their own;
+ *  - the pointers to results (from, count and fold, the six of a report, and those of a player of
+ *    lines) each point to a number of their own;
  *  - no two of the lent buffers overlap: the output is not the frame.
  *
  * A refused call changes no byte and no count that is lent to it. What it does to its results is said
@@ -50,6 +53,11 @@
 extern "C" {
 #endif
 
+/* The version of this header, and of what is built with it. */
+#define GWO_VERSION_MAJOR 1
+#define GWO_VERSION_MINOR 0
+#define GWO_VERSION "1.0"
+
 /* Lengths, in bytes. */
 #define GWO_STATE_LENGTH 272u   /* a packed state */
 #define GWO_FRAME_LIMIT 65541u  /* the longest frame */
@@ -60,6 +68,10 @@ extern "C" {
 #define GWO_MODEL_1_LENGTH 65536u    /* the array of the KH25L512 */
 #define GWO_MODEL_2_LENGTH 262144u   /* the array of the KH25L2006E */
 #define GWO_MODEL_3_LENGTH 16777216u /* the array of the KH25L12845G */
+
+#define GWO_LINE_LIMIT 640u          /* the longest script line, without its newline */
+#define GWO_HELD_LENGTH 641u         /* what a player of lines is lent for a line that is not whole yet */
+#define GWO_ROW_LENGTH 670u          /* the longest row of a log, with its newline */
 
 /* Sectors: so many counts has the wear table. */
 #define GWO_MODEL_1_SECTORS 16u
@@ -79,7 +91,8 @@ enum gwo_number {
     GWO_BAD_WEAR = 24,      /* the wear table's length isn't the model's number of sectors; of a report: no model's */
     GWO_BAD_STATE = 3,      /* the 272 bytes are not the packing of a valid state */
     GWO_BAD_FRAME = 4,      /* over 65,541 bytes, or over 7 tail bits */
-    GWO_SHORT_OUTPUT = 5,   /* the output buffer is shorter than the frame */
+    GWO_SHORT_OUTPUT = 5,   /* the output buffer is shorter than the frame; of a player of lines: the room for a line
+                               or a row is not what it has to be */
     GWO_NO_COMMAND = 10,    /* no whole byte in the frame */
     GWO_SETTLING = 22,      /* still going into deep power-down or coming out of it, whatever the command */
     GWO_BUSY = 11,          /* busy, and the command isn't 05, nor 15 on model 3; or a power cycle while busy */
@@ -101,7 +114,7 @@ enum gwo_number {
     GWO_SFDP_RECORD = 33,   /* the writer: a number does not fit its place, an exponent is 0, an exponent lacks its
                                opcode, there are over four erase types, or under 112 bytes to write to */
     GWO_BAD_PATTERN = 23,   /* a cut whose pattern isn't as long as what the running operation changes */
-    GWO_BAD_LINE = 20       /* a script line that is not well formed (the runner only) */
+    GWO_BAD_LINE = 20       /* a script line that is not well formed (in a row only) */
 };
 
 /* The number in words. */
@@ -250,11 +263,49 @@ uint32_t gwo_sfdp_erase(const uint8_t *bytes, size_t len, uint32_t slot, uint32_
 uint32_t gwo_sfdp_write(uint64_t density, const uint32_t *erases, size_t erases_len, uint8_t *out, size_t out_len);
 
 /*
- * The chip record under one name. Firmware that fills it from a named bench record, or by field
- * names in an initialiser, and calls through the functions below compiles unchanged when the record
- * gains further times. A time that it does not name is 0. half_us has to be 0 on models 1 and 2; for
- * a sleep_us, wake_us or sign_us of 0 the functions below pass the model's bench value. gwo_frame,
- * gwo_wait, gwo_power_cycle and gwo_cut themselves answer 1 to a 0 there.
+ * Lines of a script, played on a chip; the text comes in blocks, which may end anywhere. The lines that end in the block
+ * are played one after the other, as gwo_frame, gwo_wait and gwo_power_cycle do it, and for each a row goes into log,
+ * without a header: what the line is answered stands there, a 20 for one that is not well formed, and a 1, 2, 24 or 3
+ * for every line of a chip that is not in order.
+ *
+ * held is GWO_HELD_LENGTH lent bytes, which keep the start of a line that the blocks before left open. *used of them
+ * are in use: 0 at the start, and 641 for a line that is over 640 bytes already. *line is the number of the next line,
+ * 1 at the start.
+ *
+ * It goes on until the block is used up or the log lacks room for one more row, GWO_ROW_LENGTH bytes. *taken bytes of
+ * the block are used then, and *written bytes of the log: the caller empties the log and comes again with the rest.
+ *
+ * Answers 0; 3 where the state is no packing (a length other than 272, a bit that is never set, WIP that is not as the
+ * busy time has it); 5 where held_len is not 641, or *used is above it. At 3 and 5 nothing changes, and *taken and
+ * *written are 0.
+ */
+uint32_t gwo_play_lines(uint32_t model, uint32_t status_us, uint32_t page_us, uint32_t sector_us,
+                        uint32_t block_us, uint32_t chip_us, uint32_t half_us,
+                        uint32_t sleep_us, uint32_t wake_us, uint32_t sign_us, uint32_t strict,
+                        uint8_t *state, size_t state_len, uint8_t *array, size_t array_len,
+                        uint32_t *wear, size_t wear_len,
+                        uint8_t *held, size_t held_len, uint32_t *used, uint64_t *line,
+                        const uint8_t *script, size_t script_len, uint8_t *log, size_t log_len,
+                        uint64_t *taken, uint64_t *written);
+
+/*
+ * The text has ended: a line that is held lacks its newline, and is the last one. It is played, *line is one more and
+ * *used 0; held is only read. Where none is held nothing is played. Answered as above, and 5 also where the log has no room for a row.
+ */
+uint32_t gwo_play_last(uint32_t model, uint32_t status_us, uint32_t page_us, uint32_t sector_us,
+                       uint32_t block_us, uint32_t chip_us, uint32_t half_us,
+                       uint32_t sleep_us, uint32_t wake_us, uint32_t sign_us, uint32_t strict,
+                       uint8_t *state, size_t state_len, uint8_t *array, size_t array_len,
+                       uint32_t *wear, size_t wear_len,
+                       const uint8_t *held, size_t held_len, uint32_t *used, uint64_t *line,
+                       uint8_t *log, size_t log_len, uint64_t *written);
+
+/*
+ * The chip record under one name. Firmware that fills it from a bench record, or by field names in an
+ * initialiser, compiles unchanged when the record gains further times. A time that it does not name is
+ * 0. half_us has to be 0 on models 1 and 2; for a sleep_us, wake_us or sign_us of 0 the functions below
+ * take the model's bench value. gwo_frame, gwo_wait, gwo_power_cycle and gwo_cut themselves answer 1 to
+ * a 0 there.
  */
 struct gwo_record {
     uint32_t model;     /* 1, 2 or 3 */
@@ -300,13 +351,25 @@ static inline size_t gwo_sector_count(uint32_t model)
     return gwo_array_length(model) / GWO_SECTOR_LENGTH;
 }
 
-/* The record that the functions below pass: a sleep_us, wake_us or sign_us of 0 is the model's bench value. */
+/* The bench record of a model; null for a number that is no model. */
+static inline const struct gwo_record *gwo_bench(uint32_t model)
+{
+    switch (model) {
+    case 1u: return &gwo_bench_model_1;
+    case 2u: return &gwo_bench_model_2;
+    case 3u: return &gwo_bench_model_3;
+    default: return NULL;
+    }
+}
+
+/* The record with every time of sleep: one that is 0 becomes the model's bench value. */
 static inline struct gwo_record gwo_record_filled(const struct gwo_record *r)
 {
-    const struct gwo_record *bench = r->model == 3u ? &gwo_bench_model_3
-                                     : r->model == 2u ? &gwo_bench_model_2 : &gwo_bench_model_1;
+    const struct gwo_record *bench = gwo_bench(r->model);
     struct gwo_record filled = *r;
 
+    if (bench == NULL)
+        return filled; /* no model: every call is answered 1 */
     if (filled.sleep_us == 0u)
         filled.sleep_us = bench->sleep_us;
     if (filled.wake_us == 0u)
@@ -316,109 +379,138 @@ static inline struct gwo_record gwo_record_filled(const struct gwo_record *r)
     return filled;
 }
 
-/* gwo_frame under a record. */
-static inline uint32_t gwo_record_frame_strict(const struct gwo_record *r, uint8_t *state, size_t state_len,
-                                               const uint8_t *array, size_t array_len,
-                                               uint32_t *wear, size_t wear_len,
-                                               const uint8_t *frame, size_t frame_len,
-                                               uint32_t tail, uint32_t wp, uint32_t strict,
-                                               uint8_t *out, size_t out_len,
-                                               uint32_t *from, uint32_t *count, uint32_t *fold)
-{
-    const struct gwo_record f = gwo_record_filled(r);
+/*
+ * A chip in one thing. The caller owns all of it, the array and the wear table too, which it lends for as long as the
+ * chip is used, and may look at every part between two calls. wp and strict are heeded by each frame as they stand.
+ */
+struct gwo_chip {
+    struct gwo_record record;
+    uint8_t state[GWO_STATE_LENGTH];
+    uint8_t *array; /* gwo_array_length(record.model) cells */
+    size_t array_len;
+    uint32_t *wear; /* gwo_sector_count(record.model) counts */
+    size_t wear_len;
+    uint32_t wp;     /* WP#: 0 low, any other number high */
+    uint32_t strict; /* 0 off, any other number on: a program over old data is refused (19) */
+};
 
-    return gwo_frame(f.model, f.status_us, f.page_us, f.sector_us, f.block_us, f.chip_us, f.half_us,
-                     f.sleep_us, f.wake_us, f.sign_us,
-                     state, state_len, array, array_len, wear, wear_len, frame, frame_len, tail, wp, strict,
-                     out, out_len, from, count, fold);
-}
+/* What a frame comes to: its answer, the first driven position and how many (0 and 0: none), and whether it folded. */
+struct gwo_reply {
+    uint32_t answer, from, count, fold;
+};
 
-/* The same with strict off, so that 19 is never answered. */
-static inline uint32_t gwo_record_frame_wear(const struct gwo_record *r, uint8_t *state, size_t state_len,
-                                             const uint8_t *array, size_t array_len,
-                                             uint32_t *wear, size_t wear_len,
-                                             const uint8_t *frame, size_t frame_len,
-                                             uint32_t tail, uint32_t wp,
-                                             uint8_t *out, size_t out_len,
-                                             uint32_t *from, uint32_t *count, uint32_t *fold)
+/* What a wear table comes to, as of gwo_wear_report. */
+struct gwo_sheet {
+    uint64_t total;
+    uint32_t smallest, largest, sector, mean, remainder;
+};
+
+/* us microseconds pass. */
+static inline uint32_t gwo_chip_wait(struct gwo_chip *c, uint32_t us)
 {
-    return gwo_record_frame_strict(r, state, state_len, array, array_len, wear, wear_len, frame, frame_len,
-                                   tail, wp, 0u, out, out_len, from, count, fold);
+    const struct gwo_record *r = &c->record;
+
+    return gwo_wait(r->model, r->status_us, r->page_us, r->sector_us, r->block_us, r->chip_us, r->half_us, r->sleep_us,
+                    r->wake_us, r->sign_us, c->state, sizeof c->state, c->array, c->array_len, us);
 }
 
 /*
- * The same for firmware that keeps no wear sheet either: its erases are counted in a table that nobody reads, and that
- * is cleared when a count in it is full, so that 24 and 25 are never answered. The table takes 16 KiB in each source
- * file that calls this or gwo_record_frame. All chips share it: of several threads each lends a table of its own, to
- * the function above.
+ * A chip from the factory at power-on: idle, awake, nothing protected, every cell FF, every count 0; WP# high, strict
+ * off. Cells and counts that were kept from another run are put there after it. Answers 1, 2 or 24 where the record,
+ * the array's length or the table's is not in order; no cell and no count changes then, and every frame is answered so.
  */
-static inline uint32_t gwo_record_frame_fold(const struct gwo_record *r, uint8_t *state, size_t state_len,
-                                             const uint8_t *array, size_t array_len,
-                                             const uint8_t *frame, size_t frame_len,
-                                             uint32_t tail, uint32_t wp,
-                                             uint8_t *out, size_t out_len,
-                                             uint32_t *from, uint32_t *count, uint32_t *fold)
+static inline uint32_t gwo_chip_init(struct gwo_chip *c, const struct gwo_record *record, uint8_t *array,
+                                     size_t array_len, uint32_t *wear, size_t wear_len)
 {
-    static uint32_t unread[GWO_MODEL_3_SECTORS];
-    const size_t sectors = gwo_sector_count(r->model);
-    uint32_t number = gwo_record_frame_wear(r, state, state_len, array, array_len, unread, sectors, frame, frame_len,
-                                            tail, wp, out, out_len, from, count, fold);
+    const struct gwo_record none = {0u, 0u, 0u, 0u, 0u, 0u, 0u, 0u, 0u, 0u};
+    uint32_t number;
     size_t i;
 
-    if (number != GWO_WEAR_FULL)
+    c->record = record == NULL ? none : gwo_record_filled(record);
+    gwo_factory_state(c->state);
+    c->array = array;
+    c->array_len = array_len;
+    c->wear = wear;
+    c->wear_len = wear_len;
+    c->wp = 1u;
+    c->strict = 0u;
+    number = gwo_chip_wait(c, 0u);
+    if (number == GWO_DONE && wear_len != gwo_sector_count(c->record.model))
+        number = GWO_BAD_WEAR;
+    if (number != GWO_DONE)
         return number;
-    for (i = 0u; i < sectors; i++)
-        unread[i] = 0u;
-    return gwo_record_frame_wear(r, state, state_len, array, array_len, unread, sectors, frame, frame_len, tail, wp,
-                                 out, out_len, from, count, fold);
+    for (i = 0u; i < array_len; i++)
+        array[i] = 0xFFu;
+    for (i = 0u; i < wear_len; i++)
+        wear[i] = 0u;
+    return GWO_DONE;
 }
 
-/* And for firmware that does not ask for the fold. */
-static inline uint32_t gwo_record_frame(const struct gwo_record *r, uint8_t *state, size_t state_len,
-                                        const uint8_t *array, size_t array_len,
-                                        const uint8_t *frame, size_t frame_len,
-                                        uint32_t tail, uint32_t wp,
-                                        uint8_t *out, size_t out_len,
-                                        uint32_t *from, uint32_t *count)
+/*
+ * A frame: n bytes of tx and tail bits go in while CS# is low. rx has room for n bytes, and is not tx; what is driven
+ * stands there at its positions, reply.from on, and the others keep their contents.
+ */
+static inline struct gwo_reply gwo_chip_send(struct gwo_chip *c, const void *tx, void *rx, size_t n, uint32_t tail)
 {
-    uint32_t fold;
+    const struct gwo_record *r = &c->record;
+    struct gwo_reply reply;
 
-    return gwo_record_frame_fold(r, state, state_len, array, array_len, frame, frame_len, tail, wp,
-                                 out, out_len, from, count, &fold);
+    reply.answer = gwo_frame(r->model, r->status_us, r->page_us, r->sector_us, r->block_us, r->chip_us, r->half_us,
+                             r->sleep_us, r->wake_us, r->sign_us, c->state, sizeof c->state, c->array, c->array_len,
+                             c->wear, c->wear_len, (const uint8_t *)tx, n, tail, c->wp, c->strict, (uint8_t *)rx,
+                             rx == NULL ? 0u : n, &reply.from, &reply.count, &reply.fold);
+    return reply;
 }
 
-/* gwo_wait under a record. */
-static inline uint32_t gwo_record_wait(const struct gwo_record *r, uint8_t *state, size_t state_len,
-                                       uint8_t *array, size_t array_len, uint32_t us)
+/* How many microseconds the chip is still busy or settles; 0 where it is ready. */
+static inline uint32_t gwo_chip_left(const struct gwo_chip *c)
 {
-    const struct gwo_record f = gwo_record_filled(r);
+    const uint8_t *s = c->state;
+    const uint32_t busy = s[4] | (uint32_t)s[5] << 8 | (uint32_t)s[6] << 16 | (uint32_t)s[7] << 24;
+    const uint32_t settling = s[8] | (uint32_t)s[9] << 8 | (uint32_t)s[10] << 16 | (uint32_t)s[11] << 24;
 
-    return gwo_wait(f.model, f.status_us, f.page_us, f.sector_us, f.block_us, f.chip_us, f.half_us,
-                    f.sleep_us, f.wake_us, f.sign_us, state, state_len, array, array_len, us);
+    return busy > settling ? busy : settling;
 }
 
-/* gwo_power_cycle under a record. */
-static inline uint32_t gwo_record_power_cycle(const struct gwo_record *r, uint8_t *state, size_t state_len)
+/* As much time passes as is left: what runs comes to its end. */
+static inline uint32_t gwo_chip_finish(struct gwo_chip *c)
 {
-    const struct gwo_record f = gwo_record_filled(r);
-
-    return gwo_power_cycle(f.model, f.status_us, f.page_us, f.sector_us, f.block_us, f.chip_us, f.half_us,
-                           f.sleep_us, f.wake_us, f.sign_us, state, state_len);
+    return gwo_chip_wait(c, gwo_chip_left(c));
 }
 
-/* gwo_cut under a record. */
-static inline uint32_t gwo_record_cut(const struct gwo_record *r, uint8_t *state, size_t state_len,
-                                      uint8_t *array, size_t array_len,
-                                      const uint8_t *pattern, size_t pattern_len)
+/* Power off and on again; 11 while the chip is busy. */
+static inline uint32_t gwo_chip_power_cycle(struct gwo_chip *c)
 {
-    const struct gwo_record f = gwo_record_filled(r);
+    const struct gwo_record *r = &c->record;
 
-    return gwo_cut(f.model, f.status_us, f.page_us, f.sector_us, f.block_us, f.chip_us, f.half_us,
-                   f.sleep_us, f.wake_us, f.sign_us, state, state_len, array, array_len, pattern, pattern_len);
+    return gwo_power_cycle(r->model, r->status_us, r->page_us, r->sector_us, r->block_us, r->chip_us, r->half_us,
+                           r->sleep_us, r->wake_us, r->sign_us, c->state, sizeof c->state);
+}
+
+/* The power is cut at this moment and comes back: pattern is what a running operation leaves (gwo_cut). */
+static inline uint32_t gwo_chip_cut(struct gwo_chip *c, const void *pattern, size_t pattern_len)
+{
+    const struct gwo_record *r = &c->record;
+
+    return gwo_cut(r->model, r->status_us, r->page_us, r->sector_us, r->block_us, r->chip_us, r->half_us, r->sleep_us,
+                   r->wake_us, r->sign_us, c->state, sizeof c->state, c->array, c->array_len,
+                   (const uint8_t *)pattern, pattern_len);
+}
+
+/* What the chip's wear table comes to. */
+static inline uint32_t gwo_chip_wear(const struct gwo_chip *c, struct gwo_sheet *sheet)
+{
+    return gwo_wear_report(c->wear, c->wear_len, &sheet->total, &sheet->smallest, &sheet->largest, &sheet->sector,
+                           &sheet->mean, &sheet->remainder);
 }
 
 #ifdef __cplusplus
 }
+#endif
+
+/* The names that firmware used before struct gwo_chip. */
+#ifndef GWO_NO_OLDER_NAMES
+#include "gwo_older.h"
 #endif
 
 #endif

@@ -7,6 +7,7 @@
 #include <string.h>
 
 static struct dice dice;
+static const struct gwo_record *chip; /* whose times are waited for */
 static unsigned long lines_left;
 static int last_newline;
 
@@ -109,7 +110,7 @@ static void program_scene(void)
 
     put_text("F\t1\t0\t06");
     put_addressed(0x02, address, ONE_OF(counts));
-    put_wait_near(5000);
+    put_wait_near(chip->page_us);
     put_addressed(0x03, address & 0xFFFF00, 256);
     put_addressed(0x0B, address + 250, 1 + below(&dice, 290));
 }
@@ -125,30 +126,33 @@ static void erase_scene(void)
         put_frame(0, 0, &command, 1);
     else
         put_addressed(command, address, 0);
-    put_wait_near(command == 0x20 ? 120000 : 2000000);
+    put_wait_near(us_of(chip, command));
     put_addressed(0x03, address - 20, 40);
 }
 
 static void status_scene(void)
 {
-    uint8_t bytes[2] = {0x01, 0x00};
+    uint8_t bytes[3] = {0x01, 0x00, 0x00};
+    size_t n = chip->model == 3 && chance(&dice, 30) ? 3 : 2; /* with the configuration register, TB only now and then */
 
     if (chance(&dice, 50))
         bytes[1] = (uint8_t)roll(&dice);
+    if (n == 3)
+        bytes[2] = (uint8_t)(roll(&dice) & (chance(&dice, 5) ? 0xFF : 0xF7));
     put_text("F\t1\t0\t06");
-    put_frame(chance(&dice, 70), 0, bytes, 2);
+    put_frame(chance(&dice, 70), 0, bytes, n);
     put_text("F\t0\t3\t050000");
-    put_wait_near(15000);
+    put_wait_near(chip->status_us);
     put_text("F\t0\t0\t0500");
 }
 
 static void sleep_scene(void)
 {
     put_text("F\t1\t0\tB9");
-    put_wait_near(10);
+    put_wait_near(chip->sleep_us);
     put_text(chance(&dice, 50) ? "F\t1\t0\t9F000000" : "F\t0\t7\tFF");
     put_text(chance(&dice, 50) ? "F\t1\t0\tAB" : "F\t1\t5\tAB0000000000");
-    put_wait_near(10);
+    put_wait_near(chip->wake_us);
     put_text("F\t1\t0\t9000000100000000");
 }
 
@@ -254,13 +258,14 @@ static void bad_scene(void)
     }
 }
 
-void generate(uint64_t seed, unsigned long lines)
+void generate(uint64_t seed, unsigned long lines, uint32_t model)
 {
     static void (*const scenes[])(void) = {program_scene, program_scene, erase_scene, status_scene,
                                            sleep_scene, any_frame_scene, any_frame_scene, any_frame_scene,
                                            time_scene, time_scene};
 
     dice.at = seed;
+    chip = gwo_bench(model);
     last_newline = seed % 2 == 0;
     lines_left = lines;
     while (lines_left > 0) {

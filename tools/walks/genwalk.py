@@ -120,7 +120,7 @@ def gen(S, mode, command):               # mode 'step': over the callee.   mode 
     types = []
     for t in [S.state, S.res] + [p.of for p in rest if p.kind == 'struct']:
         if t not in types: types.append(t)
-    o = [f'-- `{here}::{me}` meets its contract: a walk of its MIR. All that it knows of `{cc}::{cf}` is that it meets its contract.', f'-- Written by `{command}`; change the generator, not this file. Assumes nothing.', USES.rstrip()]
+    o = [f'-- `{here}::{me}` meets its contract: a walk of its MIR. All that it knows of `{cc}::{cf}` is that it meets its contract.', f'-- Written by `{command}`; change the generator, not this file.', USES.rstrip()]
     for c, t in types: o += [f'use {spm(c)}.specs.declared.{t}.{{{t}}}', f'use {mod(c)}.proofs.{t} as T{t}', f'use {mod(c)}.proofs.{t}.Laws as T{t}′']
     o += S.uses
     if not step: o.append(f'use Rattle.{here}.proofs.Lent.{{lies-in, lies-out}}')

@@ -1,4 +1,4 @@
--- Laws of every table of refusals. A row is told by its answer, never by its place. Assumes nothing.
+-- Laws of every table of refusals. A row is told by its answer, never by its place.
 use mathlib.Core.Path.{_≡_, refl, sym, _∙_}
 use mathlib.Core.Bool.{Bool, true, false, not, _&&_, cond, and-eq-true-iff, true≢false, false≢true}
 use mathlib.Core.List.{List, [], _∷_, _++_}

@@ -1,4 +1,4 @@
--- The answers and their numbers: 01, "Numbers returned, in order of checking", Req 04 to 06, Req 08, Req 11 and Req 12. Assumes nothing.
+-- The answers and their numbers: 01, "Numbers returned, in order of checking", Req 04 to 06, Req 08, Req 11 and Req 12.
 use mathlib.Core.Bool.{Bool}
 use Prim.Native.Nat.{ℕ}
 use lib.Dec.{eqb}

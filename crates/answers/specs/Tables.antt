@@ -1,4 +1,4 @@
--- Tables of refusals: rows in the order of checking. Assumes nothing.
+-- Tables of refusals: rows in the order of checking.
 use mathlib.Core.Bool.{Bool, cond}
 use mathlib.Core.List.{List, [], _∷_}
 use Rattle.answers.specs.declared.Answer.{Answer}

@@ -1,4 +1,4 @@
--- Laws of single calls of the model, and how calls compose. Assumes nothing.
+-- Laws of single calls of the model, and how calls compose.
 use mathlib.Core.Path.{_≡_, refl, sym, ap, subst, _∙_}
 use mathlib.Core.Bool.{Bool, true, false, not, _&&_, _||_, and-false, cond}
 use mathlib.Core.List.{List, [], _∷_, _++_, append-assoc}

@@ -1,4 +1,4 @@
--- Every call leaves a valid state valid, its page data fitting and the array as long as it was. Assumes nothing.
+-- Every call leaves a valid state valid, its page data fitting and the array as long as it was.
 use mathlib.Core.Path.{_≡_, refl, sym, ap, _∙_}
 use mathlib.Core.Bool.{Bool, true, false, _||_, cond}
 use mathlib.Core.List.{List}

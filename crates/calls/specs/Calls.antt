@@ -1,4 +1,4 @@
--- Calls, pods, and what a list of calls does. Assumes nothing.
+-- Calls, pods, and what a list of calls does.
 use mathlib.Core.Path.{_≡_}
 use mathlib.Core.Bool.{Bool, true}
 use mathlib.Core.List.{List, [], _∷_}

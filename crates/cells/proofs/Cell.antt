@@ -1,4 +1,4 @@
--- Laws of one cell: AND and FF, and what it misses of a byte. They know nothing of how a chip is spoken to. Assumes nothing.
+-- Laws of one cell: AND and FF, and what it misses of a byte. They know nothing of how a chip is spoken to.
 -- `lib.Bits` has more: and-self (x AND x is x), and-le-l and and-le-r (the result is at most each operand), and-comm.
 use mathlib.Core.Path.{_≡_, refl, sym, ap, ap₂, _∙_}
 use mathlib.Core.Bool.{Bool, true, false, cond, not, _||_}

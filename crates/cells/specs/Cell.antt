@@ -1,5 +1,5 @@
 -- One cell of a flash array. It holds a byte; erased it is FF, all bits 1 (000 L315, L548); a program can only make bits 0 (000 L343).
--- Nothing here knows how a chip is spoken to. Assumes nothing.
+-- Nothing here knows how a chip is spoken to.
 use mathlib.Core.Bool.{Bool, not}
 use mathlib.Core.List.{List}
 use Prim.Native.Nat.{ℕ, _/_, _%_, _^_}

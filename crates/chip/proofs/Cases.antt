@@ -1,4 +1,4 @@
--- What holds of an accepted frame and of a refused one holds of every frame. Assumes nothing.
+-- What holds of an accepted frame and of a refused one holds of every frame.
 use mathlib.Core.Path.{_≡_, refl, subst, ap, _∙_}
 use mathlib.Core.Bool.{Bool, true, false, cond}
 use Prim.Native.Nat.{_+_, _≤_}

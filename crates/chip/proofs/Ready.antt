@@ -1,4 +1,4 @@
--- What the refusals have shown is what the commands ask for. Assumes nothing.
+-- What the refusals have shown is what the commands ask for.
 use mathlib.Core.Path.{_≡_, refl, sym, ap, subst, _∙_}
 use mathlib.Core.Bool.{Bool, true, false, cond, not}
 use mathlib.Core.List.{List, []}

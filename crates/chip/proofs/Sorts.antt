@@ -1,4 +1,4 @@
--- Each command is of one of three kinds, in one clause of `kind`; what holds of every accepted frame is shown of the kinds. Assumes nothing.
+-- Each command is of one of three kinds, in one clause of `kind`; what holds of every accepted frame is shown of the kinds.
 use mathlib.Core.Path.{_≡_, refl, sym, ap, _∙_}
 use mathlib.Core.Bool.{Bool, true, false, not, _&&_, _||_, cond}
 use mathlib.Core.List.{List, [], _∷_}

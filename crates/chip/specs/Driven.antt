@@ -1,4 +1,4 @@
--- How much a command drives and whether it folds: a number of bytes, a note. Assumes nothing.
+-- How much a command drives and whether it folds: a number of bytes, a note.
 use mathlib.Core.Bool.{Bool, false}
 use Prim.Native.Nat.{ℕ, _-_}
 use Rattle.fold.specs.Fold.{folds}

@@ -1,4 +1,4 @@
--- Any frame: its head, the refusals, and what its command does. Assumes nothing.
+-- Any frame: its head, the refusals, and what its command does.
 use mathlib.Core.Bool.{Bool, cond}
 use mathlib.Core.List.{List}
 use Prim.Native.Nat.{ℕ}

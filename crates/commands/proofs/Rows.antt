@@ -1,4 +1,4 @@
--- What holds of every command's row, by one computed test, and which lengths are allowed. Assumes nothing.
+-- What holds of every command's row, by one computed test, and which lengths are allowed.
 use mathlib.Core.Path.{_≡_, refl, sym, ap, _∙_}
 use mathlib.Core.List.{List, [], _∷_, _++_}
 use mathlib.Core.Bool.{Bool, true, false, not, _&&_, _||_, cond, and-eq-true-iff, or-true, or-false, false≢true}

@@ -1,4 +1,4 @@
--- The commands: 01, "Commands" (000 L158-187, 002 L304-340, 003 L467-571). Assumes nothing.
+-- The commands: 01, "Commands" (000 L158-187, 002 L304-340, 003 L467-571).
 use mathlib.Core.Bool.{Bool, true, false, _&&_, _||_, cond}
 use mathlib.Core.List.{List, [], _∷_, _++_}
 use Prim.Native.Nat.{ℕ, min}

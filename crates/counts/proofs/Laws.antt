@@ -1,4 +1,4 @@
--- Laws of counts and of the report. Assumes nothing.
+-- Laws of counts and of the report.
 use mathlib.Core.Path.{_≡_, refl, sym, ap, _∙_}
 use mathlib.Core.Bool.{Bool, true, false, _||_, false≢true}
 use mathlib.Core.List.{List, [], _∷_, _++_}

@@ -1,4 +1,4 @@
--- One pass over a table: what is known of the counts looked at so far, and of all. Assumes nothing.
+-- One pass over a table: what is known of the counts looked at so far, and of all.
 use mathlib.Core.Path.{_≡_, refl, sym, ap, _∙_}
 use mathlib.Core.Bool.{Bool, true, false, cond}
 use mathlib.Core.List.{List, [], _∷_}

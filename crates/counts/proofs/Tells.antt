@@ -1,4 +1,4 @@
--- The figures of a report are what they are called. Assumes nothing.
+-- The figures of a report are what they are called.
 use mathlib.Core.Path.{_≡_, refl, sym, ap, _∙_}
 use mathlib.Core.Bool.{Bool, true, false, cond}
 use mathlib.Core.List.{List, [], _∷_}

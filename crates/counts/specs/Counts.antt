@@ -1,4 +1,4 @@
--- Erase counts, one 32-bit number a sector: which of them an erase raises, and what the report says of a table (Req 06). Assumes nothing.
+-- Erase counts, one 32-bit number a sector: which of them an erase raises, and what the report says of a table (Req 06).
 use mathlib.Core.Bool.{Bool, true, false, _||_, cond}
 use mathlib.Core.List.{List, [], _∷_}
 use mathlib.Core.Path.{_≡_}

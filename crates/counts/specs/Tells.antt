@@ -1,4 +1,4 @@
--- What the figures of a report are, in the words of the one who reads the sheet (Req 06). Assumes nothing.
+-- What the figures of a report are, in the words of the one who reads the sheet (Req 06).
 use mathlib.Core.Path.{_≡_}
 use mathlib.Core.Bool.{true}
 use mathlib.Core.List.{List}

@@ -1,4 +1,4 @@
--- Laws of replies and of what is driven. Assumes nothing.
+-- Laws of replies and of what is driven.
 use mathlib.Core.Path.{_≡_}
 use mathlib.Core.Bool.{true, false, and-false}
 use mathlib.Core.List.{List}

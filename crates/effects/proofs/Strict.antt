@@ -1,4 +1,4 @@
--- Laws of the strict setting. Assumes nothing.
+-- Laws of the strict setting.
 use mathlib.Core.Path.{_≡_, refl}
 use mathlib.Core.Bool.{true, false}
 use mathlib.Core.List.{List}

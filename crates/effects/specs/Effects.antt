@@ -1,4 +1,4 @@
--- What each command does once it is accepted, one definition a command in the order of 01's list. Assumes nothing.
+-- What each command does once it is accepted, one definition a command in the order of 01's list.
 use mathlib.Core.Bool.{Bool, true, false, _&&_, cond}
 use mathlib.Core.List.{List, [], _∷_}
 use Prim.Native.Nat.{ℕ, _-_, _%_}

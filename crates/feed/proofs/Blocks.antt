@@ -1,4 +1,4 @@
--- A caller's loops: a block fed again and again until it is used up, and block after block. Assumes nothing.
+-- A caller's loops: a block fed again and again until it is used up, and block after block.
 use mathlib.Core.Path.{_≡_, refl, sym, ap, subst, _∙_}
 use mathlib.Core.Bool.{Bool}
 use mathlib.Core.List.{List, [], _∷_, _++_}

@@ -1,4 +1,4 @@
--- Turns one after the other, and the input's end. Assumes nothing.
+-- Turns one after the other, and the input's end.
 use mathlib.Core.Path.{_≡_, refl, sym, ap, subst, _∙_}
 use mathlib.Core.Bool.{Bool, true, false, cond}
 use mathlib.Core.List.{List, [], _∷_, _++_, append-assoc, append-nil}
@@ -20,7 +20,7 @@ use Rattle.stepper.specs.Rows.{Device, lineTurn, rowText, chipAfter, logFrom, d
 use Rattle.stepper.proofs.Rows.{row-short}
 use Rattle.log.specs.Row.{longestRow}
 use Rattle.feed.specs.declared.Run.{Run}
-use Rattle.feed.specs.Feed.{Start, TurnStart, Stand, standing, chipNow, deviceNow, lineDone, feedTurn, feedFor, feedOf, lastOf, Stands, Finishes, OneStands, OneFinishes}
+use Rattle.feed.specs.Feed.{Start, TurnStart, Stand, standing, chipNow, deviceNow, lineDone, feedTurn, feedFor, feedOf, lastOf, Stands, OneStands}
 use Rattle.feed.specs.Fed.{Did, Fed, Finished, FeedFeeds, LastFinishes}
 use Rattle.feed.proofs.Turns.{Same, same-clip, stands, line-kept, Turned, turned}
 
@@ -178,17 +178,15 @@ feeding-fed {rec} {strict} {block} {start} {s} g e =
     record { run′ = ap (λ (t : Stand). t .run) q; held′ = ap (λ (t : Stand). t .held) q; page′ = ap (λ (t : Stand). t .page) q; cells′ = ap (λ (t : Stand). t .cells) q; wear′ = ap (λ (t : Stand). t .wear) q; log′ = ap (λ (t : Stand). t .log) q }
 
 -- ---- the input's end
-pub finishes-none : (rec : Record) (strict : Bool) (s : Stand) → s .run .used ≡ 0 → Finishes (lastOf rec strict s) (s .run .filled) (s .page) (s .cells) (s .wear) (s .log)
+pub finishes-none : (rec : Record) (strict : Bool) (s : Stand) → s .run .used ≡ 0 → Stands (lastOf rec strict s) (s .run) (s .held) (s .page) (s .cells) (s .wear) (s .log)
 unfolding lastOf
-finishes-none rec strict s u = rw (eq-eqb (s .run .used) 0 u) (record { filled′ = refl; page′ = refl; cells′ = refl; wear′ = refl; log′ = refl })
+finishes-none rec strict s u = rw (eq-eqb (s .run .used) 0 u) (record { run′ = refl; held′ = refl; page′ = refl; cells′ = refl; wear′ = refl; log′ = refl })
 
 pub finishes-line : (rec : Record) (strict : Bool) (s : Stand) {handed held page′ cells′ wear′ log′ : List ℕ} {r : Run} → (s .run .used ≡ 0 → ⊥) → handed ≡ take (s .run .used) (s .held)
     → Stands (lineDone rec strict (standing (s .run) held (s .page) (s .cells) (s .wear) (s .log)) held handed (s .run .at)) r held page′ cells′ wear′ log′
-    → Finishes (lastOf rec strict s) (r .filled) page′ cells′ wear′ log′
+    → Stands (lastOf rec strict s) r (s .held) page′ cells′ wear′ log′
 unfolding lastOf
-finishes-line rec strict s u m d =
-    let e = line-kept rec strict s (s .run .at) {held′ = s .held} m refl d in
-    rw (ne-eqb (s .run .used) 0 u) (record { filled′ = ap (λ (z : Run). z .filled) (e .run′); page′ = e .page′; cells′ = e .cells′; wear′ = e .wear′; log′ = e .log′ })
+finishes-line rec strict s u m d = rw (ne-eqb (s .run .used) 0 u) (line-kept rec strict s (s .run .at) {held′ = s .held} m refl d)
 
 module _ (rec : Record) (strict : Bool) (s : Stand) (l : length (s .held) ≡ heldRoom) (room : s .run .filled + longestRow ≤ length (s .log)) where
   abbrev x : Chip
@@ -254,6 +252,3 @@ last-finishes rec strict s l room = go (eqb (s .run .used) 0) refl
 pub one-stands : OneStands
 one-stands t r r₂ held held₂ page page₂ cells cells₂ wear wear₂ log log₂ p q =
     (p .run′ ∙ sym (q .run′), p .held′ ∙ sym (q .held′), p .page′ ∙ sym (q .page′), p .cells′ ∙ sym (q .cells′), p .wear′ ∙ sym (q .wear′), p .log′ ∙ sym (q .log′))
-
-pub one-finishes : OneFinishes
-one-finishes t filled filled₂ page page₂ cells cells₂ wear wear₂ log log₂ p q = (p .filled′ ∙ sym (q .filled′), p .page′ ∙ sym (q .page′), p .cells′ ∙ sym (q .cells′), p .wear′ ∙ sym (q .wear′), p .log′ ∙ sym (q .log′))

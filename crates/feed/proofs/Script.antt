@@ -1,4 +1,4 @@
--- A whole script: what is written is the log of its lines. Assumes nothing.
+-- A whole script: what is written is the log of its lines.
 use mathlib.Core.Path.{_≡_, refl, sym, ap, _∙_}
 use mathlib.Core.Bool.{Bool, true, false}
 use mathlib.Core.List.{List, [], _∷_, _++_, append-assoc}
@@ -22,7 +22,7 @@ use Rattle.feed.specs.Script.{emptied, begun, filledPart, Wrote, blockFo
 use Rattle.feed.proofs.Feeds.{feed-feeds, last-finishes}
 
 -- a text that was put into an empty log is what is written out of it
-put-filled : {text d e : List ℕ} {r : ℕ} → Put text d 0 e r → take r e ≡ text
+pub put-filled : {text d e : List ℕ} {r : ℕ} → Put text d 0 e r → take r e ≡ text
 put-filled {text} {d} {e} {r} p =
     let n : r ≡ length text = omega (arith, p .next) in
     ap (λ (k : ℕ). take k e) n ∙ ap (take (length text)) (p .is) ∙ part-lay d 0 text (omega arith)

@@ -1,4 +1,4 @@
--- One turn of a feed: a line that lies in the block, one that began before it, or none that ends. Assumes nothing.
+-- One turn of a feed: a line that lies in the block, one that began before it, or none that ends.
 use mathlib.Core.Path.{_≡_, refl, sym, ap, subst, _∙_}
 use mathlib.Core.Bool.{Bool, true, false}
 use mathlib.Core.List.{List, [], _∷_, _++_}

@@ -1,4 +1,4 @@
--- What follows from a feed, whatever was held of its first line and whatever comes after the block. Assumes nothing.
+-- What follows from a feed, whatever was held of its first line and whatever comes after the block.
 use mathlib.Core.Path.{_≡_}
 use mathlib.Core.Bool.{Bool}
 use mathlib.Core.List.{List, _++_}

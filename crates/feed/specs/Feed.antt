@@ -1,4 +1,4 @@
--- What feeding a block does: one turn after the other, each one line or the rest of the block. Assumes nothing.
+-- What feeding a block does: one turn after the other, each one line or the rest of the block.
 use mathlib.Core.Path.{_≡_}
 use mathlib.Core.Bool.{Bool, cond, _&&_}
 use mathlib.Core.List.{List}
@@ -111,18 +111,7 @@ pub record Stands (t : Stand) (r : Run) (held page cells wear log : List ℕ) : 
   pub wear′ : wear ≡ t .wear
   pub log′ : log ≡ t .log
 
-pub record Finishes (t : Stand) (filled : ℕ) (page cells wear log : List ℕ) : Type 0 where
-  pub filled′ : filled ≡ t .run .filled
-  pub page′ : page ≡ t .page
-  pub cells′ : cells ≡ t .cells
-  pub wear′ : wear ≡ t .wear
-  pub log′ : log ≡ t .log
-
 -- no second answer
 abbrev pub OneStands : Type 0
 OneStands = (t : Stand) (r r₂ : Run) (held held₂ page page₂ cells cells₂ wear wear₂ log log₂ : List ℕ) → Stands t r held page cells wear log → Stands t r₂ held₂ page₂ cells₂ wear₂ log₂
     → (r ≡ r₂) × (held ≡ held₂) × (page ≡ page₂) × (cells ≡ cells₂) × (wear ≡ wear₂) × (log ≡ log₂)
-
-abbrev pub OneFinishes : Type 0
-OneFinishes = (t : Stand) (filled filled₂ : ℕ) (page page₂ cells cells₂ wear wear₂ log log₂ : List ℕ) → Finishes t filled page cells wear log → Finishes t filled₂ page₂ cells₂ wear₂ log₂
-    → (filled ≡ filled₂) × (page ≡ page₂) × (cells ≡ cells₂) × (wear ≡ wear₂) × (log ≡ log₂)

@@ -1,4 +1,4 @@
--- A whole script, fed in blocks: what is written is the log of its lines. Assumes nothing.
+-- A whole script, fed in blocks: what is written is the log of its lines.
 use mathlib.Core.Path.{_≡_}
 use mathlib.Core.Bool.{Bool, cond}
 use mathlib.Core.List.{List, [], _∷_, _++_}

@@ -5,7 +5,7 @@ ghost use lib.ListN.{length};
 ghost use Rattle.log.specs.Row.{longestRow};
 ghost use Rattle.lines.specs.Cutting.{heldRoom};
 ghost use mathlib.Core.List.{[]};
-ghost use Rattle.feed.specs.Feed.{Start, TurnStart, goesOn, stillOpen, standing, lineDone, feedTurn, feedOf, lastOf, Stands, Finishes};
+ghost use Rattle.feed.specs.Feed.{Start, TurnStart, goesOn, stillOpen, standing, lineDone, feedTurn, feedOf, lastOf, Stands};
 use lines::Cut;
 use states::Record;
 use states::State;
@@ -141,7 +141,7 @@ pub fn feed(
     run
 }
 
-// The input has ended: a line that is held is the last one. How much of the log is filled comes back.
+// The input has ended: a line that is held is the last one. The run after it comes back.
 pub fn finish(
     run: Run,
     rec: Record,
@@ -151,16 +151,14 @@ pub fn finish(
     array: &mut [u8],
     wear: &mut [u32],
     log: &mut [u8],
-) -> usize
+) -> Run
     requires { ⌜ (length (now held) ≡ heldRoom) × (run .used ≤ heldRoom) × (run .filled + longestRow ≤ length (now log)) ⌝ }
-    ensures { λ r. ⌜ Finishes (lastOf rec strict (standing run (now (held .entry)) (now (page .entry)) (now (array .entry)) (now (wear .entry)) (now (log .entry)))) r (now (page .exit)) (now (array .exit)) (now (wear .exit)) (now (log .exit)) ⌝ }
+    ensures { λ r. ⌜ Stands (lastOf rec strict (standing run (now (held .entry)) (now (page .entry)) (now (array .entry)) (now (wear .entry)) (now (log .entry)))) r (now (held .entry)) (now (page .exit)) (now (array .exit)) (now (wear .exit)) (now (log .exit)) ⌝ }
 {
     let used = run.used;
-    let filled = run.filled;
     if used == 0 {
-        return filled;
+        return run;
     }
     let line = &held[0..used];
-    let done = play_line(run, rec, strict, line, run.at, page, array, wear, log);
-    done.filled
+    play_line(run, rec, strict, line, run.at, page, array, wear, log)
 }

@@ -1,4 +1,4 @@
--- Laws of the array after an erase and after a program, with the sheet's sentences on them. Assumes nothing.
+-- Laws of the array after an erase and after a program, with the sheet's sentences on them.
 use mathlib.Core.Path.{_≡_, refl, sym, ap, _∙_}
 use mathlib.Core.Bool.{Bool, true, false}
 use mathlib.Core.List.{List}

@@ -1,4 +1,4 @@
--- A sector erased, bytes programmed into a page of it, and read back. Assumes nothing.
+-- A sector erased, bytes programmed into a page of it, and read back.
 use mathlib.Core.Path.{_≡_, ap, _∙_}
 use mathlib.Core.List.{List}
 use Prim.Native.Nat.{ℕ, _+_, _≤_, _<_}

@@ -1,4 +1,4 @@
--- The page view: an array of a model's length holds whole pages. Assumes nothing.
+-- The page view: an array of a model's length holds whole pages.
 use mathlib.Core.Path.{_≡_, refl}
 use mathlib.Core.Bool.{Bool, true, false, _&&_, _||_, false≢true}
 use mathlib.Core.List.{List, [], _∷_}

@@ -1,4 +1,4 @@
--- What each operation leaves of the lent array. Assumes nothing.
+-- What each operation leaves of the lent array.
 use mathlib.Core.Bool.{cond}
 use mathlib.Core.List.{List, []}
 use Prim.Native.Nat.{ℕ, _%_}

@@ -1,4 +1,4 @@
--- The sheet's sentences on cells, as statements about the definitions. Each is proved in `proofs/`, under the same name in small letters. Assumes nothing.
+-- The sheet's sentences on cells, as statements about the definitions. Each is proved in `proofs/`, under the same name in small letters.
 use mathlib.Core.Path.{_≡_}
 use mathlib.Core.List.{List}
 use Prim.Native.Nat.{ℕ, _+_, _/_, _≤_, _<_}

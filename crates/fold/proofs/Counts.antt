@@ -1,4 +1,4 @@
--- The byte that counts at an offset, and the sheet's sentences on a cell. Assumes nothing.
+-- The byte that counts at an offset, and the sheet's sentences on a cell.
 use mathlib.Core.Path.{_≡_, refl, sym, ap, _∙_}
 use mathlib.Core.Bool.{Bool, true, false, cond}
 use mathlib.Core.List.{List}

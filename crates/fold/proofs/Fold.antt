@@ -1,4 +1,4 @@
--- Laws of the page after a program. Assumes nothing.
+-- Laws of the page after a program.
 use mathlib.Core.Path.{_≡_, refl, sym, ap, _∙_}
 use mathlib.Core.Bool.{Bool, true, false}
 use mathlib.Core.List.{List}

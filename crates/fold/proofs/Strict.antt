@@ -1,4 +1,4 @@
--- Which programs go over old data: the sentences of `specs/Strict.antt`, and the test in straight runs. Assumes nothing.
+-- Which programs go over old data: the sentences of `specs/Strict.antt`, and the test in straight runs.
 use mathlib.Core.Path.{_≡_, refl, sym, ap, ap₂, _∙_}
 use mathlib.Core.Bool.{Bool, true, false, cond, not, _&&_, _||_, false≢true, and-false, or-true}
 use mathlib.Core.List.{List}

@@ -1,4 +1,4 @@
--- A page program by offset (01, "Commands", 02; 000 L343): byte i of those sent goes to offset (a + i) mod 256 of one page. Assumes nothing.
+-- A page program by offset (01, "Commands", 02; 000 L343): byte i of those sent goes to offset (a + i) mod 256 of one page.
 use mathlib.Core.Bool.{Bool, cond}
 use mathlib.Core.List.{List}
 use Prim.Native.Nat.{ℕ, zero, suc, _+_, _%_}

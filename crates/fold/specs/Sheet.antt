@@ -1,5 +1,4 @@
 -- The sheet's sentences on a page program, as statements about the fold. Each is proved in `proofs/Counts.antt`, under the same name in small letters.
--- Assumes nothing.
 use mathlib.Core.Path.{_≡_}
 use mathlib.Core.Bool.{true, false}
 use mathlib.Core.List.{List}

@@ -1,5 +1,5 @@
 -- The strict setting (02, Req 08): a page program is refused exactly if some addressed cell would not end up holding the byte that counts for it after
--- folding. The test, and what follows from it: each statement is proved in `proofs/Strict.antt`, under the same name in small letters. Assumes nothing.
+-- folding. The test, and what follows from it: each statement is proved in `proofs/Strict.antt`, under the same name in small letters.
 use mathlib.Core.Path.{_≡_}
 use mathlib.Core.Bool.{Bool, true, false, cond, not, _&&_, _||_}
 use mathlib.Core.List.{List}

@@ -17,7 +17,7 @@ use Rattle.lines.proofs.Says.{holds-none}
 use Rattle.log.specs.Row.{longestRow}
 use Rattle.stepper.specs.Rows.{Device}
 use Rattle.feed.specs.declared.Run.{Run}
-use Rattle.feed.specs.Feed.{Stand, standing, lastOf, Stands, Finishes}
+use Rattle.feed.specs.Feed.{Stand, standing, lastOf, Stands}
 use Rattle.feed.specs.Script.{begun, begunRun, wholeBlock, passedBlocks}
 use Rattle.feed.proofs.Turns.{stands}
 use Rattle.feed.proofs.Script.{whole-device}
@@ -55,11 +55,11 @@ block-first rec strict block first {held = held} {page = page} {cells = cells} {
     (passing-none rec strict block (standing (begunRun first) held page cells wear log) h u r)
 
 -- the last line, and its row written
-pub last-played : (rec : Record) (strict : Bool) (run : Run) {written b : Bool} {first : Run} (held₀ page₀ cells₀ wear₀ log₀ : List ℕ) {filled : ℕ} {text page cells wear log : List ℕ} → first ≡ begunRun run
-    → Finishes (lastOf rec strict (standing first held₀ page₀ cells₀ wear₀ log₀)) filled page cells wear log → Flushed text filled written b
+pub last-played : (rec : Record) (strict : Bool) (run : Run) {written b : Bool} {first : Run} (held₀ page₀ cells₀ wear₀ log₀ : List ℕ) {last : Run} {filled : ℕ} {text page cells wear log : List ℕ} → first ≡ begunRun run
+    → Stands (lastOf rec strict (standing first held₀ page₀ cells₀ wear₀ log₀)) last held₀ page cells wear log → Flushed text filled written b
     → LastPlayed (lastOf rec strict (begun (standing run held₀ page₀ cells₀ wear₀ log₀))) written b page cells wear log
-last-played rec strict run held₀ page₀ cells₀ wear₀ log₀ {filled} {page = page} {cells = cells} {wear = wear} {log = log} e d w =
-    let f = subst (λ (z : Run). Finishes (lastOf rec strict (standing z held₀ page₀ cells₀ wear₀ log₀)) filled page cells wear log) e d in
+last-played rec strict run held₀ page₀ cells₀ wear₀ log₀ {last} {page = page} {cells = cells} {wear = wear} {log = log} e d w =
+    let f = subst (λ (z : Run). Stands (lastOf rec strict (standing z held₀ page₀ cells₀ wear₀ log₀)) last held₀ page cells wear log) e d in
     record { kept = record { page′ = f .page′; cells′ = f .cells′; wear′ = f .wear′ }; log′ = f .log′; quiet = w .quiet }
 
 -- ---- what a read answered

@@ -79,8 +79,8 @@ fn finish(
     requires { ⌜ BlockStart run (now held) (now log) ⌝ }
     ensures { λ r. ⌜ LastPlayed (lastOf rec strict (begun (standing run (now (held .entry)) (now (page .entry)) (now (array .entry)) (now (wear .entry)) (now (log .entry))))) written r (now (page .exit)) (now (array .exit)) (now (wear .exit)) (now (log .exit)) ⌝ }
 {
-    let filled = feed::finish(at_block(run), rec, strict, held, page, array, wear, log);
-    flush(log, filled, written)
+    let last = feed::finish(at_block(run), rec, strict, held, page, array, wear, log);
+    flush(log, last.filled, written)
 }
 
 // What a read into the block has answered, -1 or how many bytes: a failed read ends it, no byte is the input's end, and else they are fed.

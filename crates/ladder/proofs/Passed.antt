@@ -1,4 +1,4 @@
--- What a frame that nothing refuses has shown, by name, each row told by its answer: a new row moves only this place. Assumes nothing.
+-- What a frame that nothing refuses has shown, by name, each row told by its answer: a new row moves only this place.
 use mathlib.Core.Path.{_≡_, refl, ap, _∙_}
 use mathlib.Core.Bool.{Bool, true, false, not, _&&_, cond, false≢true}
 use Prim.Native.Nat.{_≤_, _<_}

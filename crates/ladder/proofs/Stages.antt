@@ -1,4 +1,4 @@
--- The stages, one after the other, are the one table. Assumes nothing.
+-- The stages, one after the other, are the one table.
 use mathlib.Core.Path.{_≡_, refl, sym, ap, _∙_}
 use mathlib.Core.Bool.{Bool, true, false, cond, true≢false}
 use mathlib.Core.List.{_++_}

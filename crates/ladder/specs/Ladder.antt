@@ -1,4 +1,4 @@
--- The refusals as one ordered table, in named groups: 01, "Numbers returned, in order of checking". Assumes nothing.
+-- The refusals as one ordered table, in named groups: 01, "Numbers returned, in order of checking".
 use mathlib.Core.Bool.{Bool, false, not, _&&_, _||_}
 use mathlib.Core.List.{List, [], _∷_, _++_}
 use Prim.Native.Nat.{ℕ}

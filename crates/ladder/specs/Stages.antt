@@ -1,4 +1,4 @@
--- The groups of the table that the code goes through, one stage after the other; proofs/Stages.antt shows that they are the one table. Assumes nothing.
+-- The groups of the table that the code goes through, one stage after the other; proofs/Stages.antt shows that they are the one table.
 use Rattle.states.specs.declared.Record.{Record}
 use Rattle.states.specs.declared.State.{State}
 use Rattle.commands.specs.declared.Traits.{Traits}

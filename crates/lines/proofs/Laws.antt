@@ -1,4 +1,4 @@
--- The laws of a cut: what it says of the lines of the input, whatever line is held and whatever comes after the block. Assumes nothing.
+-- The laws of a cut: what it says of the lines of the input, whatever line is held and whatever comes after the block.
 use mathlib.Core.Path.{_≡_, refl, sym, ap, _∙_}
 use mathlib.Core.Bool.{Bool, true, false, _&&_}
 use mathlib.Core.List.{List, [], _∷_}

@@ -1,4 +1,4 @@
--- What a cut says of the lines of the input, whatever line is held and whatever comes after the block. Assumes nothing.
+-- What a cut says of the lines of the input, whatever line is held and whatever comes after the block.
 use mathlib.Core.Path.{_≡_, refl, sym, ap, _∙_, subst, subst₂}
 use mathlib.Core.Bool.{Bool, true, false, _&&_}
 use mathlib.Core.List.{List, [], _∷_, _++_, append-nil}

@@ -1,4 +1,4 @@
--- One line cut out of a block, with what is held of the line that an earlier block began. Assumes nothing.
+-- One line cut out of a block, with what is held of the line that an earlier block began.
 use mathlib.Core.Path.{_≡_}
 use mathlib.Core.Bool.{cond, _&&_}
 use mathlib.Core.List.{List, [], _∷_}

@@ -1,4 +1,4 @@
--- The lines of a script (01, "Script and log"): they end in a newline, the last may lack it. Assumes nothing.
+-- The lines of a script (01, "Script and log"): they end in a newline, the last may lack it.
 use mathlib.Core.Bool.{cond}
 use mathlib.Core.List.{List, [], _∷_, _++_}
 use Prim.Native.Nat.{ℕ}

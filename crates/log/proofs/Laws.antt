@@ -1,4 +1,4 @@
--- The laws of `specs/Row.antt` that the proofs cite. No contract cites this file. Assumes nothing.
+-- The laws of `specs/Row.antt` that the proofs cite. No contract cites this file.
 use mathlib.Core.Path.{_≡_, refl, sym, _∙_}
 use mathlib.Core.Bool.{Bool, true, false}
 use mathlib.Core.List.{List}

@@ -1,4 +1,4 @@
--- The log of a script (01, "Script and log"). Assumes nothing.
+-- The log of a script (01, "Script and log").
 use mathlib.Core.Path.{_≡_}
 use mathlib.Core.Bool.{Bool, cond}
 use mathlib.Core.List.{List, [], _∷_, _++_}

@@ -1,4 +1,4 @@
--- The statements of `specs/Rules.antt`. The two on the table rest on one computed test each. Assumes nothing.
+-- The statements of `specs/Rules.antt`. The two on the table rest on one computed test each.
 use mathlib.Core.Path.{_≡_, refl, sym, ap, subst, _∙_}
 use mathlib.Core.Bool.{Bool, true, false, not, _&&_, _||_, cond, true≢false, false≢true}
 use mathlib.Core.Logic.{⊎-elim}

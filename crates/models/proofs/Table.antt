@@ -1,4 +1,4 @@
--- A test that antt computes over a whole table, and what it says of each row. Assumes nothing.
+-- A test that antt computes over a whole table, and what it says of each row.
 use mathlib.Core.Path.{_≡_, sym, subst, _∙_}
 use mathlib.Core.Bool.{Bool, true, false, _&&_, cond}
 use mathlib.Core.List.{List, [], _∷_}

@@ -1,4 +1,4 @@
--- The models as rows of one table, and what is read off a row. Assumes nothing.
+-- The models as rows of one table, and what is read off a row.
 use mathlib.Core.Bool.{Bool, true, false, _&&_, _||_, cond}
 use mathlib.Core.List.{List, [], _∷_}
 use Prim.Native.Nat.{ℕ, _+_, _*_, _%_}

@@ -1,4 +1,4 @@
--- What holds of every model's row and of every protected range, said once over the whole table. Assumes nothing.
+-- What holds of every model's row and of every protected range, said once over the whole table.
 use mathlib.Core.Path.{_≡_}
 use mathlib.Core.Bool.{Bool, true, false}
 use Prim.Native.Nat.{ℕ, _+_, _*_, _≤_, _<_}

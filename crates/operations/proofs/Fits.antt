@@ -1,4 +1,4 @@
--- The units of an address of the array lie in it. Assumes nothing.
+-- The units of an address of the array lie in it.
 use mathlib.Core.Path.{_≡_, sym, ap, _∙_}
 use mathlib.Core.Bool.{true}
 use lib.Dec.{ltb}

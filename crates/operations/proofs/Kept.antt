@@ -1,4 +1,4 @@
--- The kept bits after a status write, finished or cut: BP and the register stay in their range, and TB stays set. Assumes nothing.
+-- The kept bits after a status write, finished or cut: BP and the register stay in their range, and TB stays set.
 use mathlib.Core.Path.{_≡_, refl}
 use mathlib.Core.Bool.{Bool, true, false, _&&_, _||_, cond}
 use mathlib.Core.List.{List}

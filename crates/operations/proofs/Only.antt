@@ -1,4 +1,4 @@
--- An operation changes at most its unit, whether it finishes or is cut. Assumes nothing.
+-- An operation changes at most its unit, whether it finishes or is cut.
 use mathlib.Core.Path.{_≡_, refl, sym, ap, _∙_}
 use mathlib.Core.Bool.{true}
 use mathlib.Core.List.{List}

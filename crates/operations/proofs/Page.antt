@@ -1,4 +1,4 @@
--- A page program, from the data bytes that were sent to the cells when its time has run out. Assumes nothing.
+-- A page program, from the data bytes that were sent to the cells when its time has run out.
 use mathlib.Core.Path.{_≡_, sym, ap, _∙_}
 use mathlib.Core.List.{List}
 use Prim.Native.Nat.{ℕ, _+_, _≤_, _<_}

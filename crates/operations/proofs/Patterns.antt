@@ -1,4 +1,4 @@
--- Cut with the pattern of the cells that were there an operation has not happened; with that of the finished one it has finished. Assumes nothing.
+-- Cut with the pattern of the cells that were there an operation has not happened; with that of the finished one it has finished.
 use mathlib.Core.Path.{_≡_, refl, sym, ap, _∙_}
 use mathlib.Core.Bool.{true}
 use mathlib.Core.List.{List, _++_, append-nil}

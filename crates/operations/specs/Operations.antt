@@ -1,4 +1,4 @@
--- What an operation does once its time has run out, and what a cut of the power leaves of it: 01, "Commands", and Req 05. Assumes nothing.
+-- What an operation does once its time has run out, and what a cut of the power leaves of it: 01, "Commands", and Req 05.
 use mathlib.Core.Bool.{Bool, false, _&&_, _||_, cond}
 use mathlib.Core.List.{List}
 use Prim.Native.Nat.{ℕ, _+_, _*_, _/_, _%_}

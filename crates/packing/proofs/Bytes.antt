@@ -1,4 +1,4 @@
--- Laws of bytes: three bytes as an address, lists that are the same, four bytes of a list. Assumes nothing.
+-- Laws of bytes: three bytes as an address, lists that are the same, four bytes of a list.
 use mathlib.Core.Path.{_≡_, refl}
 use mathlib.Core.Bool.{true, false≢true}
 use mathlib.Core.List.{List, [], _∷_}

@@ -1,4 +1,4 @@
--- Laws of the packed state. Assumes nothing.
+-- Laws of the packed state.
 use mathlib.Core.Path.{_≡_, refl, sym, ap, _∙_}
 use mathlib.Core.Bool.{Bool, true, false, not, _&&_, and-true, and-assoc}
 use mathlib.Core.List.{List, [], _∷_, _++_}

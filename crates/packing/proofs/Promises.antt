@@ -1,4 +1,4 @@
--- The promises of specs/Promises.antt. Assumes nothing.
+-- The promises of specs/Promises.antt.
 use Rattle.states.proofs.States.{page-length}
 use Rattle.packing.specs.Promises.{UnpacksPacked, PacksUnpacked}
 use Rattle.packing.proofs.Packing.{page-packed, pack-unpack, unpack-pack}

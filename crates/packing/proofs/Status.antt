@@ -1,4 +1,4 @@
--- Laws of the status byte and the flag: taken apart, put together, tested. Assumes nothing.
+-- Laws of the status byte and the flag: taken apart, put together, tested.
 use mathlib.Core.Path.{_≡_, refl}
 use mathlib.Core.Bool.{Bool, true, false, _&&_}
 use Prim.Native.Nat.{ℕ, zero, suc, _+_, _*_, _/_, _%_, _≤_, _<_}

@@ -1,4 +1,4 @@
--- A valid state is a packing's, and fits sixteen bytes. Assumes nothing.
+-- A valid state is a packing's, and fits sixteen bytes.
 use mathlib.Core.Path.{_≡_, refl, sym, _∙_}
 use mathlib.Core.Bool.{Bool, true, false, _&&_, true≢false}
 use mathlib.Core.List.{List}

@@ -1,4 +1,4 @@
--- The packed state: 01, "Record, state, frame", last paragraph, and Req 04 and 05. Assumes nothing.
+-- The record of ten numbers, and the packed state: 01, "Record, state, frame", last paragraph, and Req 04 and 05.
 use mathlib.Core.Bool.{Bool, true, false, _&&_, cond}
 use mathlib.Core.Path.{_≡_}
 use mathlib.Core.List.{List, [], _∷_, _++_}
@@ -7,7 +7,13 @@ use lib.Dec.{eqb, leb}
 use lib.ListN.{length, getD, take, drop}
 use Rattle.parts.specs.Parts.{bytesOf, spelt}
 use Rattle.states.specs.States.{flag, statusOf, noCommand, noAddress}
+use Rattle.states.specs.declared.Record.{Record}
 use Rattle.states.specs.declared.State.{State}
+
+-- the record of ten numbers
+abbrev pub recordOf : ℕ → ℕ → ℕ → ℕ → ℕ → ℕ → ℕ → ℕ → ℕ → ℕ → Record
+recordOf model status page sector block chip half sleep wake sign =
+    record { model = model; «status_write» = status; page = page; sector = sector; block = block; chip = chip; half = half; sleep = sleep; wake = wake; sign = sign }
 
 -- the number in the four bytes from place k on
 abbrev pub timeAt : ℕ → List ℕ → ℕ

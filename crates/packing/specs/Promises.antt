@@ -1,4 +1,4 @@
--- What is shown of the packing; proofs/Promises.antt proves each under its name in small letters. Assumes nothing.
+-- What is shown of the packing; proofs/Promises.antt proves each under its name in small letters.
 use mathlib.Core.Bool.{true}
 use mathlib.Core.List.{List}
 use mathlib.Core.Path.{_≡_}

@@ -1,12 +1,42 @@
-// The packed state: 16 bytes, with the page data 272. The page data are neither read nor written here.
+// What C hands over: the record as ten numbers, and the state packed in 16 bytes, with the page data 272. The page data are neither read nor written here.
 ghost use mathlib.Core.Path.{_≡_};
 ghost use mathlib.Core.List.{_∷_, []};
 ghost use Prim.Native.Nat.{_≤_};
 ghost use lib.ListN.{length};
 ghost use Rattle.parts.specs.Parts.{spelt};
-ghost use Rattle.packing.specs.Packing.{placeSpelt, packed, pageIn, readOf, isPacking, busyIn};
+ghost use Rattle.packing.specs.Packing.{recordOf, placeSpelt, packed, pageIn, readOf, isPacking, busyIn};
 use parts::wide;
+use states::Record;
 use states::State;
+
+// The record of ten numbers.
+pub fn record_of(
+    model: u32,
+    status_us: u32,
+    page_us: u32,
+    sector_us: u32,
+    block_us: u32,
+    chip_us: u32,
+    half_us: u32,
+    sleep_us: u32,
+    wake_us: u32,
+    sign_us: u32,
+) -> Record
+    ensures { λ r. ⌜ r ≡ recordOf model «status_us» «page_us» «sector_us» «block_us» «chip_us» «half_us» «sleep_us» «wake_us» «sign_us» ⌝ }
+{
+    Record {
+        model,
+        status_write: status_us,
+        page: page_us,
+        sector: sector_us,
+        block: block_us,
+        chip: chip_us,
+        half: half_us,
+        sleep: sleep_us,
+        wake: wake_us,
+        sign: sign_us,
+    }
+}
 
 // The number of four bytes, the low byte first.
 fn time_of(a: u8, b: u8, c: u8, d: u8) -> u32

@@ -1,4 +1,4 @@
--- Lists of bytes: what is made of bytes is bytes, and numbers in bytes. Assumes nothing.
+-- Lists of bytes: what is made of bytes is bytes, and numbers in bytes.
 use mathlib.Core.Path.{_≡_, refl}
 use mathlib.Core.Bool.{Bool, true, false}
 use mathlib.Core.List.{List, [], _∷_, _++_}

@@ -1,4 +1,4 @@
--- Laws of a part of a list and of a list with one part replaced. Assumes nothing.
+-- Laws of a part of a list and of a list with one part replaced.
 use mathlib.Core.Path.{_≡_, refl, sym, ap, _∙_}
 use mathlib.Core.List.{List, [], _∷_, _++_, append-assoc}
 use Prim.Native.Nat.{ℕ, zero, suc, _+_, _-_, _≤_, _<_}

@@ -1,4 +1,4 @@
--- A loop that stores, at its turn i, f i x in the place of the element x at i. Assumes nothing.
+-- A loop that stores, at its turn i, f i x in the place of the element x at i.
 use mathlib.Core.Path.{_≡_, refl, sym, ap, _∙_}
 use mathlib.Core.Bool.{Bool, true, false}
 use mathlib.Core.List.{List, [], _∷_, _++_, append-nil}

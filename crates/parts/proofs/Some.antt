@@ -1,4 +1,4 @@
--- Whether some element of a list passes a test that knows its index. Assumes nothing.
+-- Whether some element of a list passes a test that knows its index.
 use mathlib.Core.Path.{_≡_, refl, sym, ap, _∙_}
 use mathlib.Core.Bool.{Bool, true, false, _||_, true≢false, false≢true, or-true, or-false, or-assoc}
 use mathlib.Core.List.{List, [], _∷_}

@@ -1,4 +1,4 @@
--- A part of a list, a list with one part replaced, and numbers in bytes. Every change of a lent slice is said by `lay`. Assumes nothing.
+-- A part of a list, a list with one part replaced, and numbers in bytes. Every change of a lent slice is said by `lay`.
 use mathlib.Core.Bool.{Bool, true, false, _&&_, _||_}
 use mathlib.Core.List.{List, [], _∷_, _++_}
 use Prim.Native.Nat.{ℕ, zero, suc, _+_, _*_, _/_, _%_, _<_}

@@ -1,4 +1,4 @@
--- Laws of played lines. Assumes nothing.
+-- Laws of played lines.
 use mathlib.Core.Path.{_≡_, refl, sym, ap, subst, _∙_}
 use mathlib.Core.Bool.{Bool}
 use mathlib.Core.List.{List, [], _∷_, _++_}

@@ -1,4 +1,4 @@
--- What a script line does to the chip: 01, "Script and log". Assumes nothing.
+-- What a script line does to the chip: 01, "Script and log".
 use mathlib.Core.Path.{_≡_}
 use mathlib.Core.Bool.{Bool, false}
 use mathlib.Core.List.{List}

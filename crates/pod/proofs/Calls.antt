@@ -1,13 +1,11 @@
--- The effects of the calls, from what the chip and the packing give. Assumes nothing.
+-- The effects of the calls, from what the chip and the packing give.
 use mathlib.Core.Path.{_≡_, refl, sym, ap, _∙_}
 use mathlib.Core.Bool.{Bool, true, false, not, _&&_, cond}
-use mathlib.Core.List.{List, [], _++_, append-nil}
+use mathlib.Core.List.{List, [], _++_}
 use Prim.Native.Nat.{ℕ}
-use native.Mathlib.Omega.{arith}
 use borrow.Author.Tests.{not-true}
 use Rattle.time.proofs.Time.{no-chip}
-use lib.ListN.{length, take, drop, length-append, length-drop, take-append-drop, drop-of-length-le}
-use lib.Seq.{length-take-le, take-all, drop-at}
+use lib.ListN.{length, take, take-append-drop}
 use mir.Val.{boolByte}
 use borrow.Rule.Slice.PartMut.{midOf, putMid}
 use Rattle.answers.specs.Answers.{numberOf, isDone, saysProtected}
@@ -26,29 +24,17 @@ use Rattle.time.specs.declared.After.{After}
 use Rattle.time.specs.Time.{waited, cutOff, chipRefusal, powerRefusal, cutRefusal, Aftermath, unless, waitOf, powerOf, powerCutOf}
 use Rattle.time.specs.Contracts.{Ends}
 use Rattle.packing.specs.Packing.{packed, pageIn, isPacking, unpackOf}
-use Rattle.pod.specs.Calls.{chipIn, bytesRefusal, lentRefusal, mayMove, keptOf, called, calledFrame, altered, alteredOf, calledWait, calledCut, answered, calledCycle, Leaves, Alters, Answers, Packs}
+use Rattle.pod.specs.Calls.{chipIn, bytesRefusal, lentRefusal, keptOf, called, calledFrame, altered, alteredOf, calledWait, calledCut, answered, calledCycle, Leaves, Alters, Answers, Packs}
 use Rattle.packing.proofs.Status.{flag-byte}
 use Rattle.packing.proofs.Valid.{invalid}
-use Rattle.pod.proofs.Valid.{Keeps, frame-keeps, chip-spared, power-spared, wait-keeps, cut-keeps, cycle-keeps}
+use Rattle.fits.specs.Fits.{mayMove}
+use Rattle.fits.proofs.Lent.{page-long, page-lent, page-back, back-page, back-length}
+use Rattle.fits.proofs.Fits.{Keeps, frame-keeps, chip-spared, power-spared, wait-keeps, cut-keeps, cycle-keeps}
 
 -- ---- the page data are lent, and what comes back stands in their place
 module _ (xs : List ℕ) (n : length xs ≡ 272) where
-  pub page-lent : midOf 16 256 xs ≡ pageIn xs
-  page-lent = take-all 256 (pageIn xs) (rw (length-drop 16 xs) (omega arith))
-
   lent : (cells : List ℕ) {s : State} → s ≡ unpackOf xs → chipOf s (midOf 16 256 xs) cells ≡ chipIn xs cells
-  lent cells e = rw (e, page-lent)
-
-  page-back : (page : List ℕ) → putMid 16 256 xs page ≡ take 16 xs ++ page
-  page-back page =
-      let e : drop 256 (pageIn xs) ≡ [] = drop-of-length-le (pageIn xs) {i = 256} (rw (length-drop 16 xs) (omega arith)) in
-      rw e (ap (λ (ys : List ℕ). take 16 xs ++ ys) (append-nil page))
-
-  head-length : length (take 16 xs) ≡ 16
-  head-length = length-take-le 16 xs (omega arith)
-
-  back-page : (page : List ℕ) → pageIn (putMid 16 256 xs page) ≡ page
-  back-page page = ap pageIn (page-back page) ∙ drop-at (take 16 xs) page 16 head-length
+  lent cells e = rw (e, page-lent xs n)
 
   -- where a call keeps to its bytes
   module _ (rec : Record) (cells : List ℕ) (a : Answer) (next : State) (page : List ℕ) (k : Keeps rec (chipIn xs cells) a next page) where
@@ -57,22 +43,18 @@ module _ (xs : List ℕ) (n : length xs ≡ 272) where
       where
         go : (b : Bool) → mayMove a ≡ b → length page ≡ 256
         go true d = k .long d
-        go false d = ap length (k .same-page d) ∙ length-drop 16 xs ∙ omega arith
+        go false d = ap length (k .same-page d) ∙ page-long xs n
 
     packs : Packs a next (putMid 16 256 xs page)
-    packs =
-        record {
-          room = ap length (page-back page) ∙ length-append (take 16 xs) page ∙ omega (arith, head-length, page-size);
-          level = λ d. k .small d .level;
-        }
+    packs = record { room = back-length xs n page page-size; level = λ d. k .small d .level }
 
     kept-back : keptOf a next (pageIn (putMid 16 256 xs page)) (putMid 16 256 xs page) ≡ keptOf a next page xs
     unfolding keptOf
     kept-back = go (mayMove a) refl
       where
         go : (b : Bool) → mayMove a ≡ b → cond b (packed next (pageIn (putMid 16 256 xs page))) (putMid 16 256 xs page) ≡ cond b (packed next page) xs
-        go true d = ap (packed next) (back-page page)
-        go false d = page-back page ∙ ap (λ (ys : List ℕ). take 16 xs ++ ys) (k .same-page d) ∙ take-append-drop 16 xs
+        go true d = ap (packed next) (back-page xs n page)
+        go false d = page-back xs n page ∙ ap (λ (ys : List ℕ). take 16 xs ++ ys) (k .same-page d) ∙ take-append-drop 16 xs
 
 -- ---- frames
 module _ (rec : Record) (xs cells : List ℕ) (f : Sent) (n : length xs ≡ 272) {r : Record} {s : State} {reply : Reply} {page wear′ out′ : List ℕ} (re : r ≡ rec) (se : s ≡ unpackOf xs) (g : Gives (frameOf r (chipOf s (midOf 16 256 xs) cells) f) reply page wear′ out′) where

@@ -1,4 +1,4 @@
--- The promises of specs/Promises.antt. Assumes nothing.
+-- The promises of specs/Promises.antt.
 use mathlib.Core.Path.{_≡_, refl, sym, ap, _∙_}
 use mathlib.Core.Bool.{Bool, true, false, _&&_, cond, true≢false}
 use mathlib.Core.Logic.{_⊎_, inl, inr}
@@ -18,11 +18,12 @@ use Rattle.effects.proofs.Replies.{leaves-latch, clears-latch}
 use Rattle.chip.specs.Frames.{Sent, frameOf}
 use Rattle.time.specs.Time.{waited, cutOff, chipRefusal, powerRefusal, cutRefusal, waitOf, powerOf, powerCutOf}
 use Rattle.packing.specs.Packing.{packed, pageIn, unpackOf}
-use Rattle.pod.specs.Calls.{chipIn, mayMove, keptOf, called, calledOf, calledFrame, calledWait, calledCut, calledCycle, calledReport, reported}
+use Rattle.pod.specs.Calls.{chipIn, keptOf, called, calledOf, calledFrame, calledWait, calledCut, calledCycle, calledReport, reported}
 use Rattle.pod.specs.Promises.{NoPacking, FrameRefusesBytes, WaitRefusesBytes, CutRefusesBytes, CycleRefusesBytes, RefusedFrameStays, RefusedFrameClears, RefusedWaitStays, RefusedCutStays, RefusedCycleStays, FrameCarries, WaitCarries, CutCarries, CycleCarries, OneCalled, OneAltered, OneAnswered, OneReported, RefusedReportStays}
 use Rattle.packing.proofs.Packing.{page-packed, pack-unpack, unpack-pack}
 use Rattle.packing.proofs.Valid.{valid-packing}
-use Rattle.pod.proofs.Valid.{Keeps, frame-keeps, refused, wait-keeps, cut-keeps, cycle-keeps, chip-spared, cut-spared}
+use Rattle.fits.specs.Fits.{mayMove}
+use Rattle.fits.proofs.Fits.{Keeps, frame-keeps, refused, wait-keeps, cut-keeps, cycle-keeps, chip-spared, cut-spared}
 use Rattle.pod.proofs.Calls.{Unfit, unfit-frame, unfit-wait, unfit-cut, unfit-cycle, refused-altered, refused-answered}
 use Rattle.counts.specs.Counts.{reportOf}
 use lib.ListN.{length}

@@ -1,4 +1,4 @@
--- What C is given of the SFDP table, and that there is no second answer. Assumes nothing.
+-- What C is given of the SFDP table, and that there is no second answer.
 use mathlib.Core.Path.{_≡_, sym, ap, _∙_}
 use mathlib.Core.List.{List}
 use Prim.Native.Nat.{ℕ}

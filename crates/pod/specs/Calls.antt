@@ -1,11 +1,11 @@
--- What C calls, one effect a call: the number returned and what each lent place holds after. Assumes nothing.
-use mathlib.Core.Bool.{Bool, true, false, not, _||_, cond}
+-- What C calls, one effect a call: the number returned and what each lent place holds after.
+use mathlib.Core.Bool.{Bool, true, false, not, cond}
 use mathlib.Core.List.{List}
 use mathlib.Core.Path.{_≡_}
 use Prim.Native.Nat.{ℕ, _≤_}
 use lib.Dec.{eqb}
 use lib.ListN.{length}
-use Rattle.answers.specs.Answers.{numberOf, isDone, saysProtected}
+use Rattle.answers.specs.Answers.{numberOf, isDone}
 use Rattle.answers.specs.Tables.{firstOf}
 use Rattle.ladder.specs.Ladder.{Loan, lentRows, callRows}
 use Rattle.states.specs.States.{flag, Chip, chipOf}
@@ -19,11 +19,7 @@ use Rattle.effects.specs.Effects.{Effect}
 use Rattle.chip.specs.Frames.{Sent, sentOf, frameOf}
 use Rattle.time.specs.Time.{Aftermath, waitOf, powerOf, powerCutOf}
 use Rattle.packing.specs.Packing.{packed, pageIn, unpackOf}
-
--- the record of ten numbers
-abbrev pub recordOf : ℕ → ℕ → ℕ → ℕ → ℕ → ℕ → ℕ → ℕ → ℕ → ℕ → Record
-recordOf model status page sector block chip half sleep wake sign =
-    record { model = model; «status_write» = status; page = page; sector = sector; block = block; chip = chip; half = half; sleep = sleep; wake = wake; sign = sign }
+use Rattle.fits.specs.Fits.{mayMove}
 
 -- the chip that state bytes and array make
 abbrev pub chipIn : List ℕ → List ℕ → Chip
@@ -35,10 +31,6 @@ bytesRefusal rec array table = numberOf (firstOf (callRows rec array table false
 
 abbrev pub lentRefusal : ℕ → Loan → Loan → ℕ
 lentRefusal model array table = numberOf (firstOf (lentRows model array table false))
-
--- the answers after which the state may differ: 0, and 17 where it clears WEL
-abbrev pub mayMove : Answer → Bool
-mayMove a = isDone a || saysProtected a
 
 -- the state bytes after: those of the state and the page data after; where these cannot differ those given
 unfoldable pub keptOf : Answer → State → List ℕ → List ℕ → List ℕ

@@ -1,4 +1,4 @@
--- What is shown of the calls; proofs/Promises.antt proves each under its name in small letters. Assumes nothing.
+-- What is shown of the calls; proofs/Promises.antt proves each under its name in small letters.
 use mathlib.Core.Bool.{true, false}
 use mathlib.Core.List.{List}
 use mathlib.Core.Logic.{_⊎_}

@@ -1,4 +1,4 @@
--- What C is given of the SFDP table: the number returned and what each lent place holds after; every place is written, 0 on a refusal. Assumes nothing.
+-- What C is given of the SFDP table: the number returned and what each lent place holds after; every place is written, 0 on a refusal.
 use mathlib.Core.List.{List}
 use mathlib.Core.Path.{_≡_}
 use Prim.Native.Nat.{ℕ}

@@ -5,10 +5,10 @@ mod discovery;
 ghost use mathlib.Core.Path.{_≡_};
 ghost use Rattle.answers.specs.Answers.{numberOf};
 ghost use Rattle.ladder.specs.Ladder.{absent, sized};
-ghost use Rattle.packing.specs.Packing.{pageIn};
-ghost use Rattle.pod.specs.Calls.{recordOf, lentRefusal, calledReport, Reports, keptOf, Packs, sentBy, Leaves, Alters, Answers, calledFrame, calledWait, calledCut, calledCycle};
+ghost use Rattle.packing.specs.Packing.{recordOf, pageIn};
+ghost use Rattle.pod.specs.Calls.{lentRefusal, calledReport, Reports, keptOf, Packs, sentBy, Leaves, Alters, Answers, calledFrame, calledWait, calledCut, calledCycle};
 use answers::Answer;
-use states::Record;
+use packing::record_of;
 use states::State;
 
 // The answer's number. The state after is packed where it may differ: where nothing was refused, and at 17; otherwise the lent bytes stay.
@@ -46,34 +46,6 @@ fn frame_refusal(model: u32, cells: usize, sectors: usize) -> u32
 }
 
 // ---- what C calls
-
-fn record_of(
-    model: u32,
-    status_us: u32,
-    page_us: u32,
-    sector_us: u32,
-    block_us: u32,
-    chip_us: u32,
-    half_us: u32,
-    sleep_us: u32,
-    wake_us: u32,
-    sign_us: u32,
-) -> Record
-    ensures { λ r. ⌜ r ≡ recordOf model «status_us» «page_us» «sector_us» «block_us» «chip_us» «half_us» «sleep_us» «wake_us» «sign_us» ⌝ }
-{
-    Record {
-        model,
-        status_write: status_us,
-        page: page_us,
-        sector: sector_us,
-        block: block_us,
-        chip: chip_us,
-        half: half_us,
-        sleep: sleep_us,
-        wake: wake_us,
-        sign: sign_us,
-    }
-}
 
 // Any frame: its answer's number. WP# is low where wp is 0, and the setting strict where strict is not. from and count get the first driven position and how many, both 0 when none;
 // fold gets 1 where a program went past its page's end, else 0.

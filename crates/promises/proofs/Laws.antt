@@ -1,4 +1,4 @@
--- The statements of `specs/Laws.antt`. Assumes nothing.
+-- The statements of `specs/Laws.antt`.
 use mathlib.Core.Path.{_≡_, refl, sym, ap, ap₂, subst, _∙_}
 use mathlib.Core.Bool.{Bool, true, false, not, _&&_, _||_, cond, or-true, true≢false, false≢true}
 use mathlib.Core.List.{List}

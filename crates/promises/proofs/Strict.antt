@@ -1,4 +1,4 @@
--- The statements of `specs/Strict.antt`. Assumes nothing.
+-- The statements of `specs/Strict.antt`.
 use mathlib.Core.Path.{_≡_, refl, sym, ap, subst, _∙_}
 use mathlib.Core.Bool.{Bool, true, false, not, _&&_, cond, true≢false, false≢true}
 use mathlib.Core.List.{List}

@@ -1,4 +1,4 @@
--- The statements of `specs/Unlocked.antt`: the calls are computed. Assumes nothing.
+-- The statements of `specs/Unlocked.antt`: the calls are computed.
 use mathlib.Core.Path.{_≡_, refl}
 use mathlib.Core.Bool.{true, false}
 use mathlib.Core.List.{[], _∷_}

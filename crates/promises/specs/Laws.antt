@@ -1,4 +1,4 @@
--- Laws of the model that are worth having in their own right. Assumes nothing.
+-- Laws of the model that are worth having in their own right.
 use mathlib.Core.Path.{_≡_}
 use mathlib.Core.Bool.{Bool, false, true, _&&_, _||_, cond}
 use mathlib.Core.List.{List, [], _∷_}

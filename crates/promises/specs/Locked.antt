@@ -1,4 +1,4 @@
--- The locked area, said outright: Req 13. Assumes nothing.
+-- The locked area, said outright: Req 13.
 use mathlib.Core.Path.{_≡_}
 use mathlib.Core.Bool.{true, false}
 use mathlib.Core.List.{List, [], _∷_}

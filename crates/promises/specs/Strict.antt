@@ -1,4 +1,4 @@
--- The strict setting, over whole frames (02, Req 08). Each statement is proved in `proofs/Strict.antt`, under the same name in small letters. Assumes nothing.
+-- The strict setting, over whole frames (02, Req 08). Each statement is proved in `proofs/Strict.antt`, under the same name in small letters.
 use mathlib.Core.Path.{_≡_}
 use mathlib.Core.Bool.{Bool, true, false, cond}
 use mathlib.Core.List.{List}

@@ -1,4 +1,4 @@
--- How a chip of model 1 is locked, and why the locked area needs each of its conditions (Req 13): without one of them BP becomes another. Assumes nothing.
+-- How a chip of model 1 is locked, and why the locked area needs each of its conditions (Req 13): without one of them BP becomes another.
 use mathlib.Core.Path.{_≡_}
 use mathlib.Core.Bool.{Bool, true, false}
 use mathlib.Core.List.{List, [], _∷_, _++_}

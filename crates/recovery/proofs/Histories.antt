@@ -1,4 +1,4 @@
--- Every history leaves a valid state, so the listed calls win back every chip. Assumes nothing.
+-- Every history leaves a valid state, so the listed calls win back every chip.
 use mathlib.Core.Path.{_≡_, refl, ap, _∙_}
 use mathlib.Core.Bool.{true}
 use mathlib.Core.List.{List, [], _∷_}

@@ -1,4 +1,4 @@
--- The worthless pods fall, each to one set-up of the listed calls. Assumes nothing.
+-- The worthless pods fall, each to one set-up of the listed calls.
 use mathlib.Core.Path.{_≡_, refl, sym, ap, _∙_}
 use mathlib.Core.Bool.{Bool, true, false, cond}
 use mathlib.Core.List.{List, [], _∷_}

@@ -1,4 +1,4 @@
--- The first wait cannot be shorter: calls from power-on lead to a chip that is then still busy or settling. Assumes nothing.
+-- The first wait cannot be shorter: calls from power-on lead to a chip that is then still busy or settling.
 use mathlib.Core.Path.{_≡_, refl, sym, ap, subst, _∙_}
 use mathlib.Core.Bool.{true, false}
 use mathlib.Core.List.{List, [], _∷_}

@@ -1,4 +1,4 @@
--- The listed calls win the chip back. Assumes nothing.
+-- The listed calls win the chip back.
 use mathlib.Core.Path.{_≡_, refl, sym, ap, subst, _∙_}
 use mathlib.Core.Bool.{Bool, true, false, _&&_, _||_, and-false, cond}
 use mathlib.Core.List.{List, [], _∷_}

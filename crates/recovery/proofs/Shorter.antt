@@ -1,4 +1,4 @@
--- No wait of the list can be a microsecond shorter. Assumes nothing.
+-- No wait of the list can be a microsecond shorter.
 use mathlib.Core.Path.{_≡_, refl, sym, _∙_}
 use mathlib.Core.Bool.{Bool, true, false, cond, false≢true}
 use mathlib.Core.List.{List, [], _∷_}

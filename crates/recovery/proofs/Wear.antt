@@ -1,4 +1,4 @@
--- The wear sheet adds up. Assumes nothing.
+-- The wear sheet adds up.
 use mathlib.Core.Path.{_≡_}
 use mathlib.Core.List.{List, [], _∷_}
 use Prim.Native.Nat.{ℕ, _+_}

@@ -1,4 +1,4 @@
--- Every history from power-on leaves a valid state: 01, "The twelve calls", last sentence; there are thirteen by now. Assumes nothing.
+-- Every history from power-on leaves a valid state: 01, "The twelve calls", last sentence; there are thirteen by now.
 use mathlib.Core.Path.{_≡_}
 use mathlib.Core.Bool.{true}
 use mathlib.Core.List.{List, [], _∷_}

@@ -1,4 +1,4 @@
--- Worthless pods: 01, "How tight a promise is". Each is a kind of pod, and no pod of that kind wins chips back. Assumes nothing.
+-- Worthless pods: 01, "How tight a promise is". Each is a kind of pod, and no pod of that kind wins chips back.
 use mathlib.Core.Path.{_≡_}
 use mathlib.Core.Bool.{Bool, true, false}
 use mathlib.Core.List.{List, [], _∷_}

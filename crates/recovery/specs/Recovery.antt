@@ -1,5 +1,5 @@
 -- The calls that win a chip back, whatever firmware did to it: 01, "The twelve calls", and the wait after AB, which makes them thirteen. The first wait may
--- end an operation that runs, so the array is compared with what that wait left (Req 05). Assumes nothing.
+-- end an operation that runs, so the array is compared with what that wait left (Req 05).
 use mathlib.Core.Path.{_≡_}
 use mathlib.Core.Bool.{Bool}
 use mathlib.Core.List.{List, [], _∷_, _++_}

@@ -1,4 +1,4 @@
--- No wait of the list can be a microsecond shorter: 01, "The twelve calls", which are thirteen with the wait after AB. Assumes nothing.
+-- No wait of the list can be a microsecond shorter: 01, "The twelve calls", which are thirteen with the wait after AB.
 use mathlib.Core.Path.{_≡_}
 use mathlib.Core.Bool.{true}
 use mathlib.Core.List.{List, [], _∷_, _++_}

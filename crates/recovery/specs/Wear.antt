@@ -1,4 +1,4 @@
--- The wear sheet adds up: over every history the sum of the table rises by the sectors that its accepted erases covered (Req 06). Assumes nothing.
+-- The wear sheet adds up: over every history the sum of the table rises by the sectors that its accepted erases covered (Req 06).
 use mathlib.Core.Path.{_≡_}
 use mathlib.Core.Bool.{cond}
 use mathlib.Core.List.{List, [], _∷_}

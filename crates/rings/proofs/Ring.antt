@@ -1,4 +1,4 @@
--- Laws of reads that roll over from the last address to 0. Assumes nothing.
+-- Laws of reads that roll over from the last address to 0.
 use mathlib.Core.Path.{_≡_, refl, sym, ap, _∙_}
 use mathlib.Core.List.{List, [], _∷_, _++_}
 use Prim.Native.Nat.{ℕ, zero, suc, _+_, _-_, _%_, _≤_, _<_}

@@ -1,4 +1,4 @@
--- What the loops that read and repeat keep: straight runs of a ring, one after the other. Assumes nothing.
+-- What the loops that read and repeat keep: straight runs of a ring, one after the other.
 use mathlib.Core.Path.{_≡_, refl, sym, ap, _∙_}
 use mathlib.Core.List.{List, _++_}
 use Prim.Native.Nat.{ℕ, zero, suc, _+_, _-_, _%_, _≤_, _<_}

@@ -1,4 +1,4 @@
--- A read that goes on at address 0 after the last one (01, "Commands", 03; 000 L301). Assumes nothing.
+-- A read that goes on at address 0 after the last one (01, "Commands", 03; 000 L301).
 use mathlib.Core.Path.{_≡_}
 use mathlib.Core.List.{List, [], _∷_}
 use Prim.Native.Nat.{ℕ, zero, suc, _-_, _%_, _<_}

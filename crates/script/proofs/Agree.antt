@@ -1,4 +1,4 @@
--- The reader accepts the lines of the grammar with what they say, and no others. Assumes nothing.
+-- The reader accepts the lines of the grammar with what they say, and no others.
 use mathlib.Core.Path.{_≡_, refl, sym, ap, _∙_, subst, subst₂}
 use mathlib.Core.Bool.{Bool, true, false, _&&_, _||_}
 use mathlib.Core.List.{List, [], _∷_}

@@ -1,5 +1,5 @@
 -- Numbers in decimal, there and back: the digits of a number spell it, and digits without a leading zero are those of the number that
--- they spell. Assumes nothing.
+-- they spell.
 use mathlib.Core.Path.{_≡_, refl, sym, ap, _∙_}
 use mathlib.Core.Bool.{Bool, true, false, not, _&&_, _||_}
 use mathlib.Core.List.{List, [], _∷_, _++_}

@@ -1,4 +1,4 @@
--- The laws of `specs/Reading.antt` that the proofs cite. No contract cites this file. Assumes nothing.
+-- The laws of `specs/Reading.antt` that the proofs cite. No contract cites this file.
 use mathlib.Core.Path.{_≡_, refl, sym, ap, _∙_}
 use mathlib.Core.Bool.{Bool, true, false, not, _&&_, _||_}
 use mathlib.Core.List.{List, [], _∷_}

@@ -1,4 +1,4 @@
--- The well-formed lines of a script (01, "Script and log"). Assumes nothing.
+-- The well-formed lines of a script (01, "Script and log").
 use mathlib.Core.Bool.{Bool, true, false}
 use mathlib.Core.List.{List, [], _∷_}
 use Prim.Native.Nat.{ℕ, _+_, _≤_}

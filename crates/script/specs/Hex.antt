@@ -1,4 +1,4 @@
--- Digits, and the bytes of hex digits. Assumes nothing.
+-- Digits, and the bytes of hex digits.
 use mathlib.Core.Path.{_≡_}
 use mathlib.Core.Bool.{Bool, _&&_, _||_, cond}
 use mathlib.Core.List.{List, [], _∷_, _++_}

@@ -1,4 +1,4 @@
--- How a line is told: the grammar as a test of its bytes. `byteAt s i` is byte i of the line, 0 past its end. Assumes nothing.
+-- How a line is told: the grammar as a test of its bytes. `byteAt s i` is byte i of the line, 0 past its end.
 use mathlib.Core.Path.{_≡_}
 use mathlib.Core.Bool.{Bool, true, not, _&&_, _||_, cond}
 use mathlib.Core.List.{List, [], _∷_}

@@ -1,4 +1,4 @@
--- What the writer lays is read back. Assumes nothing.
+-- What the writer lays is read back.
 use mathlib.Core.Path.{_≡_, refl, ap, _∙_}
 use mathlib.Core.Bool.{true, _&&_, false≢true}
 use mathlib.Core.List.{List, [], _∷_, _++_}

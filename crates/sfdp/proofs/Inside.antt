@@ -1,4 +1,4 @@
--- Bytes that are taken hold every header and every table. Assumes nothing.
+-- Bytes that are taken hold every header and every table.
 use mathlib.Core.Path.{_≡_, refl, sym, ap, _∙_}
 use mathlib.Core.Bool.{Bool, true, false, not, _||_}
 use mathlib.Core.List.{List}

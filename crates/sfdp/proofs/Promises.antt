@@ -1,4 +1,4 @@
--- What specs/Promises.antt states. Assumes nothing.
+-- What specs/Promises.antt states.
 use mathlib.Core.Path.{_≡_, refl, sym, ap, _∙_}
 use mathlib.Core.Bool.{Bool, true, false, _&&_, false≢true}
 use mathlib.Core.List.{List, [], _∷_, _++_}

@@ -1,4 +1,4 @@
--- What the reader's calls give, refused and not. Assumes nothing.
+-- What the reader's calls give, refused and not.
 use mathlib.Core.Path.{_≡_, sym, ap, _∙_}
 use mathlib.Core.Bool.{Bool, true, false, not, _&&_}
 use mathlib.Core.List.{List}

@@ -1,4 +1,4 @@
--- The erase types that exist, counted. Assumes nothing.
+-- The erase types that exist, counted.
 use mathlib.Core.Path.{_≡_}
 use mathlib.Core.Bool.{Bool, true, false, cond}
 use mathlib.Core.List.{List, [], _∷_}

@@ -1,4 +1,4 @@
--- Which lists the writer takes, and the page that it lays. Assumes nothing.
+-- Which lists the writer takes, and the page that it lays.
 use mathlib.Core.Path.{_≡_, refl, sym, ap, _∙_}
 use mathlib.Core.Bool.{Bool, true, false, _&&_, and-true, false≢true, true≢false}
 use mathlib.Core.List.{List, [], _∷_, _++_, append-nil}

@@ -1,4 +1,4 @@
--- What is shown of reader and writer; proofs/Promises.antt proves each under its name in small letters. Assumes nothing.
+-- What is shown of reader and writer; proofs/Promises.antt proves each under its name in small letters.
 use mathlib.Core.List.{List, [], _∷_}
 use mathlib.Core.Bool.{true}
 use mathlib.Core.Path.{_≡_}

@@ -1,5 +1,4 @@
 -- The table that a host reads by 5A: 002, "Read SFDP Mode" (L530-656), and Req 12. Its layout for any record, a host's reader over any bytes, and the writer.
--- Assumes nothing.
 use mathlib.Core.Bool.{Bool, true, false, not, _&&_, _||_, cond}
 use mathlib.Core.List.{List, [], _∷_, _++_}
 use mathlib.Core.Path.{_≡_}

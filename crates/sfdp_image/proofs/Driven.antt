@@ -1,4 +1,4 @@
--- What 5A drives, in two runs: what is left of the image, and FF; from the start on, the image itself. Assumes nothing.
+-- What 5A drives, in two runs: what is left of the image, and FF; from the start on, the image itself.
 use mathlib.Core.Path.{_≡_, refl, sym, ap, _∙_}
 use mathlib.Core.Bool.{Bool, true, false}
 use mathlib.Core.List.{List, _++_}

@@ -1,4 +1,4 @@
--- The bytes of the image out of eight at a time: one computed test. Assumes nothing.
+-- The bytes of the image out of eight at a time: one computed test.
 use mathlib.Core.Path.{_≡_, refl, sym, ap, _∙_}
 use mathlib.Core.Bool.{Bool, true, false, _&&_}
 use mathlib.Core.List.{List}

@@ -1,4 +1,4 @@
--- What specs/Promises.antt states; the sheet's fields are one computed test. Assumes nothing.
+-- What specs/Promises.antt states; the sheet's fields are one computed test.
 use mathlib.Core.Path.{_≡_, refl, ap, _∙_}
 use Prim.Native.Nat.{ℕ, _-_}
 use native.Mathlib.Omega.{arith}

@@ -1,4 +1,4 @@
--- The SFDP table of model 2 and what 5A drives of it: 002, "Read SFDP Mode" (L530-656), and Req 12. Assumes nothing.
+-- The SFDP table of model 2 and what 5A drives of it: 002, "Read SFDP Mode" (L530-656), and Req 12.
 use mathlib.Core.List.{List, [], _∷_}
 use Prim.Native.Nat.{ℕ, zero, suc}
 use lib.ListN.{getD}

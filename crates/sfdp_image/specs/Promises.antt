@@ -1,4 +1,4 @@
--- What is shown of the table's bytes; proofs/Promises.antt proves each under its name in small letters. Assumes nothing.
+-- What is shown of the table's bytes; proofs/Promises.antt proves each under its name in small letters.
 use mathlib.Core.Bool.{true}
 use mathlib.Core.Path.{_≡_}
 use Prim.Native.Nat.{ℕ, _+_, _≤_, _<_}

@@ -1,4 +1,4 @@
--- The fields of the table as the sheet lists them: 002, Tables a to c (L546-656, L665). Assumes nothing.
+-- The fields of the table as the sheet lists them: 002, Tables a to c (L546-656, L665).
 use mathlib.Core.Bool.{Bool, _&&_}
 use mathlib.Core.List.{List, [], _∷_, _++_}
 use Prim.Native.Nat.{ℕ, _+_, _*_, _-_, _/_, _%_, _^_}

@@ -1,4 +1,4 @@
--- Laws of records and states that the layers above cite. Assumes nothing.
+-- Laws of records and states that the layers above cite.
 use mathlib.Core.Path.{_≡_, refl, _∙_}
 use mathlib.Core.Bool.{Bool, true, false, not, _&&_, _||_, cond, or-true}
 use mathlib.Core.Logic.{_⊎_, inl, inr, ⊎-elim}

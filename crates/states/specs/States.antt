@@ -1,4 +1,4 @@
--- Records, states, page data and the status byte: 01, "Record, state, frame". Assumes nothing.
+-- Records, states, page data and the status byte: 01, "Record, state, frame".
 use mathlib.Core.Bool.{Bool, true, false, not, _&&_, _||_, cond}
 use mathlib.Core.List.{List, [], _∷_, _++_}
 use Prim.Native.Nat.{ℕ, _+_, _*_, _/_, _%_, max}

@@ -1,4 +1,4 @@
--- The row of a line that was played. Assumes nothing.
+-- The row of a line that was played.
 use mathlib.Core.Path.{_≡_, refl, sym, ap, subst, _∙_}
 use mathlib.Core.Bool.{Bool, true}
 use mathlib.Core.List.{List}

@@ -1,4 +1,4 @@
--- A line's row of the log, and the log of a script: 01, "Script and log". Assumes nothing.
+-- A line's row of the log, and the log of a script: 01, "Script and log".
 use mathlib.Core.Path.{_≡_}
 use mathlib.Core.Bool.{Bool}
 use mathlib.Core.List.{List, [], _∷_, _++_}

@@ -1,4 +1,4 @@
--- What a line's step on a lent state has to be. Assumes nothing.
+-- What a line's step on a lent state has to be.
 use mathlib.Core.Path.{_≡_}
 use mathlib.Core.List.{List}
 use Prim.Native.Nat.{ℕ}

@@ -1,4 +1,4 @@
--- The laws of `Put`: texts that are put one after the other. No contract cites this file. Assumes nothing.
+-- The laws of `Put`: texts that are put one after the other. No contract cites this file.
 use mathlib.Core.Path.{_≡_, refl, sym, ap, _∙_, subst}
 use mathlib.Core.List.{List, [], _∷_, _++_}
 use Prim.Native.Nat.{ℕ, _+_, _-_, _≤_, _<_}

@@ -1,4 +1,4 @@
--- Text that is put into a lent buffer. Assumes nothing.
+-- Text that is put into a lent buffer.
 use mathlib.Core.Path.{_≡_}
 use mathlib.Core.List.{List}
 use Prim.Native.Nat.{ℕ, _+_, _≤_}

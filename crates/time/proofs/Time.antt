@@ -1,4 +1,4 @@
--- What a wait or a cut that is not refused has shown of the chip, and what comes of each. Assumes nothing.
+-- What a wait or a cut that is not refused has shown of the chip, and what comes of each.
 use mathlib.Core.Path.{_≡_, refl, sym, ap, _∙_}
 use mathlib.Core.Bool.{Bool, true, false, not, _&&_, _||_, cond, or-true, false≢true}
 use mathlib.Core.List.{List}

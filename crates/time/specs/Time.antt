@@ -1,4 +1,4 @@
--- Waiting, power cycles and cuts of the power: 01, "Commands", last paragraphs, and Req 05. Assumes nothing.
+-- Waiting, power cycles and cuts of the power: 01, "Commands", last paragraphs, and Req 05.
 use mathlib.Core.Bool.{Bool, false, not, _&&_, _||_, cond}
 use mathlib.Core.List.{List, [], _∷_, _++_}
 use Prim.Native.Nat.{ℕ, _-_, _*_, _/_, _%_}

@@ -1,4 +1,4 @@
--- Bools taken apart. Assumes nothing.
+-- Bools taken apart.
 use mathlib.Core.Path.{_≡_, refl}
 use mathlib.Core.Bool.{Bool, true, false, not, _&&_, _||_, true≢false, false≢true}
 use mathlib.Core.Logic.{_⊎_, inl, inr}

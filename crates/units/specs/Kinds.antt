@@ -1,4 +1,4 @@
--- Addresses, sectors, half blocks, blocks and pages: 01, "Units" (000 L173-179, 002 L208-223, 003 L346-394); addresses of the SFDP table: Req 12 (002 L534). Assumes nothing.
+-- Addresses, sectors, half blocks, blocks and pages: 01, "Units" (000 L173-179, 002 L208-223, 003 L346-394); addresses of the SFDP table: Req 12 (002 L534).
 use Prim.Native.Nat.{ℕ, _+_, _*_, _/_, _%_}
 use Rattle.units.specs.declared.Address.{Address}
 use Rattle.units.specs.declared.Sector.{Sector}

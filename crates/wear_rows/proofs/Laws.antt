@@ -1,4 +1,4 @@
--- Bars, and the parts of the sheet's lines. Assumes nothing.
+-- Bars, and the parts of the sheet's lines.
 use mathlib.Core.Path.{_≡_, refl, sym, ap, subst, _∙_}
 use mathlib.Core.Bool.{Bool, true, false}
 use mathlib.Core.List.{List, [], _++_, append-assoc}

@@ -1,4 +1,4 @@
--- The wear sheet of a table: a heading, a line a sector, and the figures of the report (Req 06). Assumes nothing.
+-- The wear sheet of a table: a heading, a line a sector, and the figures of the report (Req 06).
 use mathlib.Core.Path.{_≡_}
 use mathlib.Core.Bool.{cond}
 use mathlib.Core.List.{List, [], _∷_, _++_}

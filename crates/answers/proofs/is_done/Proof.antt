@@ -1,4 +1,4 @@
--- `answers::is_done` meets its contract. Assumes nothing.
+-- `answers::is_done` meets its contract.
 use borrow.Author.Needs.{needs}
 use Rattle.answers.proofs.is_done.Statement.{statement}
 use Rattle.answers.proofs.is_done.Tie as tie

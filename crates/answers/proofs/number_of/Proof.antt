@@ -1,4 +1,4 @@
--- `answers::number_of` meets its contract. Assumes nothing.
+-- `answers::number_of` meets its contract.
 use mathlib.Core.Path.{sym, ap}
 use Rattle.answers.specs.Answers.{numberOf}
 use borrow.Author.Needs.{needs}

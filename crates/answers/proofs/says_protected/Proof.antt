@@ -1,4 +1,4 @@
--- `answers::says_protected` meets its contract. Assumes nothing.
+-- `answers::says_protected` meets its contract.
 use borrow.Author.Needs.{needs}
 use Rattle.answers.proofs.says_protected.Statement.{statement}
 use Rattle.answers.proofs.says_protected.Tie as tie

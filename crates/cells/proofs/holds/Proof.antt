@@ -1,4 +1,4 @@
--- `cells::holds` meets its contract. The invariant: whether a bit was missing, and what the cells still to come say. Assumes nothing.
+-- `cells::holds` meets its contract. The invariant: whether a bit was missing, and what the cells still to come say.
 use mathlib.Core.Path.{_≡_, refl, sym, ap, _∙_}
 use mathlib.Core.Bool.{Bool, not, _||_, Bool·not-not}
 use mathlib.Core.List.{List}

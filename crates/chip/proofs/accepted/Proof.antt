@@ -1,4 +1,4 @@
--- `chip::accepted` meets its contract. Assumes nothing.
+-- `chip::accepted` meets its contract.
 use mathlib.Core.Path.{refl}
 use native.Mathlib.Omega.{arith}
 use lib.ListN.{length}

@@ -1,4 +1,4 @@
--- `chip::frame` meets its contract. Assumes nothing.
+-- `chip::frame` meets its contract.
 use mathlib.Core.Path.{_≡_, sym, ap, _∙_}
 use mathlib.Core.Bool.{Bool}
 use denote.Ref.{now}

@@ -1,4 +1,4 @@
--- `chip::head` meets its contract. Assumes nothing.
+-- `chip::head` meets its contract.
 use Rattle.chip.specs.Frames.{headFor}
 use borrow.Author.Needs.{needs}
 use Rattle.chip.proofs.head.Statement.{statement}

@@ -1,4 +1,4 @@
--- `chip::spoken` meets its contract. Assumes nothing.
+-- `chip::spoken` meets its contract.
 use mathlib.Core.Path.{sym, _∙_}
 use denote.Ref.{now}
 use borrow.Author.Needs.{needs}

@@ -1,4 +1,4 @@
--- `commands::decode` meets its contract. Assumes nothing.
+-- `commands::decode` meets its contract.
 use mathlib.Core.Path.{_∙_}
 use borrow.Author.Tests.{ne-eqb}
 use borrow.Author.Needs.{needs}

@@ -1,4 +1,4 @@
--- `commands::length_ok` meets its contract. Assumes nothing.
+-- `commands::length_ok` meets its contract.
 use mathlib.Core.Path.{refl}
 use Rattle.commands.specs.Commands.{lengthOk}
 use Rattle.commands.proofs.length_ok.Statement.{statement}

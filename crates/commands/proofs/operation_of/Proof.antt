@@ -1,4 +1,4 @@
--- `commands::operation_of` meets its contract. Assumes nothing.
+-- `commands::operation_of` meets its contract.
 use mathlib.Core.Path.{sym, ap}
 use Rattle.commands.specs.Commands.{operationOf}
 use borrow.Author.Needs.{needs}

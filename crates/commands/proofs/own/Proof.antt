@@ -1,4 +1,4 @@
--- `commands::own` meets its contract. Assumes nothing.
+-- `commands::own` meets its contract.
 use borrow.Author.Tests.{ne-eqb}
 use Rattle.commands.proofs.own.Statement.{statement}
 use Rattle.commands.proofs.own.Tie as tie

@@ -1,4 +1,4 @@
--- `commands::sfdp_read` meets its contract. Assumes nothing.
+-- `commands::sfdp_read` meets its contract.
 use borrow.Author.Tests.{ne-eqb}
 use Rattle.commands.proofs.sfdp_read.Statement.{statement}
 use Rattle.commands.proofs.sfdp_read.Tie as tie

@@ -1,4 +1,4 @@
--- `commands::started_by` meets its contract. Assumes nothing.
+-- `commands::started_by` meets its contract.
 use mathlib.Core.Path.{ap, _∙_}
 use Rattle.commands.specs.Commands.{operationOf}
 use borrow.Author.Needs.{needs}

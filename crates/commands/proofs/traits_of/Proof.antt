@@ -1,4 +1,4 @@
--- `commands::traits_of` meets its contract. Assumes nothing.
+-- `commands::traits_of` meets its contract.
 use mathlib.Core.Path.{sym, ap, _∙_}
 use Rattle.commands.specs.Commands.{row, ■, □, never, traitsOf}
 use Prim.Native.Nat.{ℕ}

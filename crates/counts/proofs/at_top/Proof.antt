@@ -1,4 +1,4 @@
--- `counts::at_top` meets its contract. The invariant: what was found, and what the counts still to come say. Assumes nothing.
+-- `counts::at_top` meets its contract. The invariant: what was found, and what the counts still to come say.
 use mathlib.Core.Path.{_≡_, refl, sym, ap, _∙_}
 use mathlib.Core.Bool.{Bool, _||_, or-false, or-assoc}
 use mathlib.Core.List.{List}

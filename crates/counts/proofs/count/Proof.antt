@@ -1,4 +1,4 @@
--- `counts::count` meets its contract: only the covered counts are lent on. Assumes nothing.
+-- `counts::count` meets its contract: only the covered counts are lent on.
 use mathlib.Core.Path.{_≡_, refl, sym, ap, subst, _∙_}
 use mathlib.Core.Bool.{false, not}
 use mathlib.Core.List.{List}

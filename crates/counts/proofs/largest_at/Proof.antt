@@ -1,4 +1,4 @@
--- `counts::largest_at` meets its contract. Assumes nothing.
+-- `counts::largest_at` meets its contract.
 use borrow.Author.Tests.{lt-ltb, le-ltb}
 use borrow.Author.Needs.{needs}
 use Rattle.counts.proofs.largest_at.Statement.{statement}

@@ -1,4 +1,4 @@
--- `counts::raise` meets its contract: the counts below i are raised. Assumes nothing.
+-- `counts::raise` meets its contract: the counts below i are raised.
 use mathlib.Core.Path.{_≡_, refl}
 use mathlib.Core.Bool.{false}
 use Prim.Native.Nat.{ℕ, _+_, _-_, _≤_, _<_}

@@ -1,4 +1,4 @@
--- `counts::report` meets its contract. Assumes nothing.
+-- `counts::report` meets its contract.
 use mathlib.Core.Path.{_≡_, refl, sym, ap, _∙_}
 use mathlib.Core.Bool.{true, false, not}
 use Prim.Native.Nat.{ℕ, _≤_, _<_}

@@ -1,4 +1,4 @@
--- `counts::sectors_of` meets its contract. Assumes nothing.
+-- `counts::sectors_of` meets its contract.
 use mathlib.Core.Path.{_≡_, sym, ap, _∙_}
 use Prim.Native.Nat.{ℕ}
 use Rattle.units.specs.declared.Address.{Address}

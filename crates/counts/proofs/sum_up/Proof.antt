@@ -1,4 +1,4 @@
--- `counts::sum_up` meets its contract. The invariant: what is known of the counts looked at so far. Assumes nothing.
+-- `counts::sum_up` meets its contract. The invariant: what is known of the counts looked at so far.
 use mathlib.Core.Path.{_≡_, refl}
 use Prim.Native.Nat.{_-_, _*_, _≤_, _<_}
 use native.Mathlib.Omega.{arith}

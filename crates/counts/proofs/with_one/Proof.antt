@@ -1,4 +1,4 @@
--- `counts::with_one` meets its contract. Assumes nothing.
+-- `counts::with_one` meets its contract.
 use borrow.Author.Needs.{needs}
 use Rattle.counts.proofs.with_one.Statement.{statement}
 use Rattle.counts.proofs.with_one.Tie as tie

@@ -1,4 +1,4 @@
--- `effects::doze` meets its contract. Assumes nothing.
+-- `effects::doze` meets its contract.
 use mathlib.Core.Path.{refl}
 use Rattle.effects.specs.Effects.{dozing}
 use Rattle.effects.proofs.doze.Statement.{statement}

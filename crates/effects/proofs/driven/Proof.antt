@@ -1,4 +1,4 @@
--- `effects::driven` meets its contract. Assumes nothing.
+-- `effects::driven` meets its contract.
 use mathlib.Core.Path.{sym, _∙_}
 use borrow.Author.Tests.{lt-ltb}
 use Rattle.effects.specs.Effects.{drives}

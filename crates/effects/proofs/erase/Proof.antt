@@ -1,4 +1,4 @@
--- `effects::erase` meets its contract. Assumes nothing.
+-- `effects::erase` meets its contract.
 use mathlib.Core.Path.{ap, _∙_}
 use Prim.Native.Nat.{ℕ}
 use lib.ListN.{getD}

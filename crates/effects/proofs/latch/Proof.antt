@@ -1,4 +1,4 @@
--- `effects::latch` meets its contract. Assumes nothing.
+-- `effects::latch` meets its contract.
 use mathlib.Core.Path.{refl}
 use Rattle.effects.specs.Effects.{latched}
 use Rattle.effects.proofs.latch.Statement.{statement}

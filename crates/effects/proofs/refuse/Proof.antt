@@ -1,4 +1,4 @@
--- `effects::refuse` meets its contract. Assumes nothing.
+-- `effects::refuse` meets its contract.
 use mathlib.Core.Path.{_≡_, ap, _∙_}
 use mathlib.Core.Bool.{Bool, true, false, not, _&&_, cond, and-false, and-true}
 use borrow.Author.Needs.{needs}

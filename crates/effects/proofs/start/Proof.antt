@@ -1,4 +1,4 @@
--- `effects::start` meets its contract. Assumes nothing.
+-- `effects::start` meets its contract.
 use mathlib.Core.Path.{refl}
 use Rattle.effects.specs.Effects.{starting}
 use Rattle.effects.proofs.start.Statement.{statement}

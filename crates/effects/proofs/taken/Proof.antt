@@ -1,4 +1,4 @@
--- `effects::taken` meets its contract. Assumes nothing.
+-- `effects::taken` meets its contract.
 use mathlib.Core.Path.{ap}
 use borrow.Author.Needs.{needs}
 use Rattle.effects.specs.declared.Reply.{Reply}

@@ -1,4 +1,4 @@
--- `effects::write_disable` meets its contract. Assumes nothing.
+-- `effects::write_disable` meets its contract.
 use mathlib.Core.Path.{ap, _∙_}
 use borrow.Author.Needs.{needs}
 use Rattle.answers.specs.declared.Answer.the-variants.{Done}

@@ -1,4 +1,4 @@
--- `feed::feed` meets its contract. Assumes nothing.
+-- `feed::feed` meets its contract.
 use mathlib.Core.Path.{_≡_, refl, _∙_}
 use mathlib.Core.Logic.{inl, inr}
 use Prim.Native.Nat.{_-_, _<_}

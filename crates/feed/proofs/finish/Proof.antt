@@ -1,4 +1,4 @@
--- `feed::finish` meets its contract. Assumes nothing.
+-- `feed::finish` meets its contract.
 use Rattle.feed.specs.Feed.{standing}
 use Rattle.feed.proofs.Turns.{front}
 use Rattle.feed.proofs.Feeds.{finishes-none, finishes-line}

@@ -1,4 +1,4 @@
--- `feed::line_done` meets its contract. Assumes nothing.
+-- `feed::line_done` meets its contract.
 use borrow.Author.Needs.{needs}
 use Rattle.feed.proofs.line_done.Statement.{statement}
 use Rattle.feed.proofs.line_done.Tie as tie

@@ -1,4 +1,4 @@
--- `feed::play_line` meets its contract. Assumes nothing.
+-- `feed::play_line` meets its contract.
 use mathlib.Core.Path.{refl}
 use mathlib.Core.List.{[]}
 use Rattle.feed.specs.Feed.{standing}

@@ -1,4 +1,4 @@
--- `feed::turn` meets its contract. Assumes nothing.
+-- `feed::turn` meets its contract.
 use mathlib.Core.Path.{_≡_, refl, sym, ap, _∙_}
 use native.Mathlib.Omega.{arith}
 use lib.ListN.{length, take}

@@ -1,4 +1,4 @@
--- `flash::erase_all` meets its contract: the fill's, said by the definition's name. Assumes nothing.
+-- `flash::erase_all` meets its contract: the fill's, said by the definition's name.
 use borrow.Author.Needs.{needs}
 use Rattle.flash.specs.Arrays.{allErased}
 use Rattle.flash.proofs.erase_all.Statement.{statement}

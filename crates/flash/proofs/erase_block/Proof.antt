@@ -1,4 +1,4 @@
--- `flash::erase_block` meets its contract: what was lent to the fill is the block. Assumes nothing.
+-- `flash::erase_block` meets its contract: what was lent to the fill is the block.
 use Prim.Native.Nat.{_+_}
 use native.Mathlib.Omega.{arith}
 use denote.Ref.{now}

@@ -1,4 +1,4 @@
--- `flash::erase_half_block` meets its contract: what was lent to the fill is the half block. Assumes nothing.
+-- `flash::erase_half_block` meets its contract: what was lent to the fill is the half block.
 use Prim.Native.Nat.{_+_}
 use native.Mathlib.Omega.{arith}
 use denote.Ref.{now}

@@ -1,4 +1,4 @@
--- `flash::erase_sector` meets its contract: what was lent to the fill is the sector. Assumes nothing.
+-- `flash::erase_sector` meets its contract: what was lent to the fill is the sector.
 use Prim.Native.Nat.{_+_}
 use native.Mathlib.Omega.{arith}
 use denote.Ref.{now}

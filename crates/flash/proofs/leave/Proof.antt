@@ -1,4 +1,4 @@
--- `flash::leave` meets its contract: what was lent to the copy are the cells from the address on. Assumes nothing.
+-- `flash::leave` meets its contract: what was lent to the copy are the cells from the address on.
 use mathlib.Core.Path.{refl}
 use native.Mathlib.Omega.{arith}
 use Prim.Native.Nat.{_+_}

@@ -1,4 +1,4 @@
--- `flash::page_view` meets its contract: an array of a model's length is whole pages. Assumes nothing.
+-- `flash::page_view` meets its contract: an array of a model's length is whole pages.
 use mathlib.Core.Path.{_≡_, sym, _∙_}
 use mathlib.Core.Bool.{true}
 use native.Mathlib.Nat.{mod-lt}

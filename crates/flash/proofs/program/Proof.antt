@@ -1,4 +1,4 @@
--- `flash::program` meets its contract: what was lent to `program_page` is the page. Assumes nothing.
+-- `flash::program` meets its contract: what was lent to `program_page` is the page.
 use mathlib.Core.Path.{ap, _∙_}
 use Prim.Native.Nat.{ℕ}
 use lib.ListN.{length}

@@ -1,4 +1,4 @@
--- `flash::tear_page` meets its contract: what was lent to `tear_into` is the page. Assumes nothing.
+-- `flash::tear_page` meets its contract: what was lent to `tear_into` is the page.
 use native.Mathlib.Omega.{arith}
 use denote.Ref.{now}
 use borrow.Author.Needs.{needs}

@@ -1,4 +1,4 @@
--- `fold::fold_in` meets its contract: one straight run, or two. Assumes nothing.
+-- `fold::fold_in` meets its contract: one straight run, or two.
 use mathlib.Core.Path.{sym}
 use Prim.Native.Nat.{_-_, _+_}
 use native.Mathlib.Omega.{arith}

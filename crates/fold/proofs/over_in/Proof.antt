@@ -1,4 +1,4 @@
--- `fold::over_in` meets its contract: one straight run, or two. Assumes nothing.
+-- `fold::over_in` meets its contract: one straight run, or two.
 use Prim.Native.Nat.{_-_}
 use native.Mathlib.Omega.{arith}
 use lib.ListN.{length}

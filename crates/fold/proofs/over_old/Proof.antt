@@ -1,4 +1,4 @@
--- `fold::over_old` meets its contract: of more than 256 bytes the last 256 are refused where all are. Assumes nothing.
+-- `fold::over_old` meets its contract: of more than 256 bytes the last 256 are refused where all are.
 use mathlib.Core.Path.{ap, _∙_}
 use Prim.Native.Nat.{ℕ, _+_, _-_, _%_}
 use native.Mathlib.Omega.{arith}

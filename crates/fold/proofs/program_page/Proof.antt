@@ -1,4 +1,4 @@
--- `fold::program_page` meets its contract: of more than 256 bytes the last 256 do what all do. Assumes nothing.
+-- `fold::program_page` meets its contract: of more than 256 bytes the last 256 do what all do.
 use mathlib.Core.Path.{sym, ap, _∙_}
 use Prim.Native.Nat.{ℕ, _+_, _-_, _%_}
 use native.Mathlib.Omega.{arith}

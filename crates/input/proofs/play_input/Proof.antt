@@ -1,4 +1,4 @@
--- `input::play_input` meets its contract. Assumes nothing.
+-- `input::play_input` meets its contract.
 use mathlib.Core.Bool.{false≢true}
 use borrow.Author.Needs.{needs}
 use Rattle.input.proofs.play_input.Statement.{statement}

@@ -1,4 +1,4 @@
--- `ladder::allowed` meets its contract. Assumes nothing.
+-- `ladder::allowed` meets its contract.
 use borrow.Author.Needs.{needs}
 use Rattle.ladder.specs.Stages.{allowedOf}
 use Rattle.ladder.proofs.allowed.Statement.{statement}

@@ -1,4 +1,4 @@
--- `ladder::given` meets its contract: a fact a row passed, and a line a row that refuses. Assumes nothing.
+-- `ladder::given` meets its contract: a fact a row passed, and a line a row that refuses.
 use mathlib.Core.Path.{_≡_, sym, ap, _∙_}
 use mathlib.Core.Bool.{true, false, _&&_}
 use lib.Dec.{eqb}

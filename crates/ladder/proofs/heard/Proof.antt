@@ -1,4 +1,4 @@
--- `ladder::heard` meets its contract. Assumes nothing.
+-- `ladder::heard` meets its contract.
 use mathlib.Core.Path.{_≡_, sym, _∙_}
 use mathlib.Core.Bool.{true, false}
 use borrow.Author.Needs.{needs}

@@ -1,4 +1,4 @@
--- `ladder::said` meets its contract. Assumes nothing.
+-- `ladder::said` meets its contract.
 use mathlib.Core.Path.{_≡_, sym, ap, _∙_}
 use mathlib.Core.Bool.{true, false}
 use borrow.Author.Needs.{needs}

@@ -1,4 +1,4 @@
--- `lines::cut_line` meets its contract. Assumes nothing.
+-- `lines::cut_line` meets its contract.
 use native.Mathlib.Omega.{arith}
 use denote.Ref.{now}
 use borrow.Author.Needs.{needs}

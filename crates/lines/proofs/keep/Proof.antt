@@ -1,4 +1,4 @@
--- `lines::keep` meets its contract. Assumes nothing.
+-- `lines::keep` meets its contract.
 use native.Mathlib.Nat.{sub-zero}
 use denote.Ref.{now}
 use borrow.Author.Needs.{needs}

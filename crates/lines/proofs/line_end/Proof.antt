@@ -1,4 +1,4 @@
--- `lines::line_end` meets its contract: the line from `at` on ends where the one from i on does. Assumes nothing.
+-- `lines::line_end` meets its contract: the line from `at` on ends where the one from i on does.
 use mathlib.Core.Path.{_≡_, refl, sym, _∙_}
 use Prim.Native.Nat.{_-_}
 use native.Mathlib.Omega.{arith}

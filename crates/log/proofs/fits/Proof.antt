@@ -1,4 +1,4 @@
--- `log::fits` meets its contract. Assumes nothing.
+-- `log::fits` meets its contract.
 use native.Mathlib.Omega.{arith}
 use Rattle.log.proofs.Laws.{fits-in, fits-not}
 use Rattle.log.proofs.fits.Statement.{statement}

@@ -1,4 +1,4 @@
--- `log::put_driven` meets its contract. Assumes nothing.
+-- `log::put_driven` meets its contract.
 use native.Mathlib.Omega.{arith}
 use denote.Ref.{now}
 use borrow.Author.Needs.{needs}

@@ -1,4 +1,4 @@
--- `log::put_fields` meets its contract: each field is put where the last one ended. Assumes nothing.
+-- `log::put_fields` meets its contract: each field is put where the last one ended.
 use mathlib.Core.List.{append-assoc}
 use borrow.Author.Needs.{needs}
 use Rattle.text.proofs.PutLaws.{put-as, put-then}

@@ -1,4 +1,4 @@
--- `log::put_from` meets its contract. Assumes nothing.
+-- `log::put_from` meets its contract.
 use native.Mathlib.Omega.{arith}
 use borrow.Author.Needs.{needs}
 use borrow.Author.Tests.{ne-eqb}

@@ -1,4 +1,4 @@
--- `log::put_note` meets its contract. Assumes nothing.
+-- `log::put_note` meets its contract.
 use borrow.Author.Needs.{needs}
 use Rattle.text.proofs.PutLaws.{put-as}
 use Rattle.log.proofs.put_note.Statement.{statement}

@@ -1,4 +1,4 @@
--- `models::address_of` meets its contract. Assumes nothing.
+-- `models::address_of` meets its contract.
 use native.Mathlib.Omega.{arith}
 use borrow.Author.Needs.{needs}
 use Rattle.models.specs.Models.{addressOf}

@@ -1,4 +1,4 @@
--- `models::is_length` meets its contract. Assumes nothing.
+-- `models::is_length` meets its contract.
 use mathlib.Core.Bool.{or-false}
 use Rattle.models.specs.Models.{isLength}
 use Rattle.models.proofs.is_length.Statement.{statement}

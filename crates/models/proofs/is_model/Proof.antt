@@ -1,4 +1,4 @@
--- `models::is_model` meets its contract. Assumes nothing.
+-- `models::is_model` meets its contract.
 use mathlib.Core.Bool.{or-false}
 use Rattle.models.specs.Models.{isModel}
 use Rattle.models.proofs.is_model.Statement.{statement}

@@ -1,4 +1,4 @@
--- `models::is_protected` meets its contract. Assumes nothing.
+-- `models::is_protected` meets its contract.
 use native.Mathlib.Omega.{arith}
 use borrow.Author.Needs.{needs}
 use Rattle.models.specs.Models.{isProtected}

@@ -1,4 +1,4 @@
--- `models::is_sectors` meets its contract. Assumes nothing.
+-- `models::is_sectors` meets its contract.
 use mathlib.Core.Bool.{or-false}
 use Rattle.models.specs.Models.{isSectors}
 use Rattle.models.proofs.is_sectors.Statement.{statement}

@@ -1,4 +1,4 @@
--- `models::model_of` meets its contract. Assumes nothing.
+-- `models::model_of` meets its contract.
 use mathlib.Core.Path.{sym, ap}
 use Rattle.models.specs.Models.{Part}
 use Rattle.models.proofs.Rules.{first-part, second-part, third-part}

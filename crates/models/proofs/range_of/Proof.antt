@@ -1,4 +1,4 @@
--- `models::range_of` meets its contract. Assumes nothing.
+-- `models::range_of` meets its contract.
 use mathlib.Core.Path.{_≡_, ap, subst}
 use mathlib.Core.Bool.{Bool, true, false, not, _&&_, _||_}
 use Prim.Native.Nat.{ℕ, _≤_}

@@ -1,4 +1,4 @@
--- `operations::config_after` meets its contract. Assumes nothing.
+-- `operations::config_after` meets its contract.
 use mathlib.Core.Path.{_≡_, ap, _∙_}
 use mathlib.Core.Bool.{true, false, _&&_}
 use lib.Dec.{eqb}

@@ -1,4 +1,4 @@
--- `operations::config_written` meets its contract. Assumes nothing.
+-- `operations::config_written` meets its contract.
 use borrow.Author.Needs.{needs}
 use Rattle.operations.specs.Operations.{configWritten}
 use Rattle.operations.proofs.config_written.Statement.{statement}

@@ -1,4 +1,4 @@
--- `operations::cut_bits` meets its contract. Assumes nothing.
+-- `operations::cut_bits` meets its contract.
 use mathlib.Core.Path.{_≡_, sym, ap, _∙_}
 use denote.Ref.{now}
 use Rattle.commands.specs.declared.Operation.{Operation}

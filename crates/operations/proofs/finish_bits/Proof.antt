@@ -1,4 +1,4 @@
--- `operations::finish_bits` meets its contract. Assumes nothing.
+-- `operations::finish_bits` meets its contract.
 use mathlib.Core.Path.{_≡_, sym, ap, _∙_}
 use denote.Ref.{now}
 use Rattle.commands.specs.declared.Operation.{Operation}

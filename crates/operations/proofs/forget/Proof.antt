@@ -1,4 +1,4 @@
--- `operations::forget` meets its contract. Assumes nothing.
+-- `operations::forget` meets its contract.
 use mathlib.Core.Path.{refl}
 use Rattle.operations.specs.Operations.{forgotten}
 use borrow.Author.Needs.{needs}

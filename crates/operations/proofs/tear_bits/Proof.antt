@@ -1,4 +1,4 @@
--- `operations::tear_bits` meets its contract. Assumes nothing.
+-- `operations::tear_bits` meets its contract.
 use mathlib.Core.Path.{_≡_}
 use native.Mathlib.Omega.{arith}
 use denote.Ref.{now}

@@ -1,4 +1,4 @@
--- `operations::write` meets its contract. Assumes nothing.
+-- `operations::write` meets its contract.
 use native.Mathlib.Omega.{arith}
 use Rattle.models.proofs.Rules.{highest-bp}
 use Rattle.operations.specs.Operations.{written}

@@ -1,4 +1,4 @@
--- `packing::busy_in` meets its contract. Assumes nothing.
+-- `packing::busy_in` meets its contract.
 use borrow.Author.Needs.{needs}
 use Rattle.packing.proofs.Packing.{busy-spelt, busy-none}
 use Rattle.packing.proofs.busy_in.Statement.{statement}

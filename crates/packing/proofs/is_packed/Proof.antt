@@ -1,4 +1,4 @@
--- `packing::is_packed` meets its contract: the tests are right for every run of bytes. Assumes nothing.
+-- `packing::is_packed` meets its contract: the tests are right for every run of bytes.
 use mathlib.Core.Path.{sym}
 use Rattle.packing.proofs.Packing.{wrong-length, tested}
 use borrow.Author.Needs.{needs}

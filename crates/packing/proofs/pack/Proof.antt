@@ -1,4 +1,4 @@
--- `packing::pack` meets its contract. Assumes nothing.
+-- `packing::pack` meets its contract.
 use mathlib.Core.Path.{refl}
 use native.Mathlib.Omega.{arith}
 use lib.ListN.{length-set}

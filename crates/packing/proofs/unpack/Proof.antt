@@ -1,4 +1,4 @@
--- `packing::unpack` meets its contract. Assumes nothing.
+-- `packing::unpack` meets its contract.
 use borrow.Author.Needs.{needs}
 use Rattle.packing.proofs.Packing.{spells}
 use Rattle.packing.proofs.unpack.Statement.{statement}

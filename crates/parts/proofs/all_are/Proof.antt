@@ -1,4 +1,4 @@
--- `parts::all_are` meets its contract. The invariant: what was found, and what the bytes still to come say. Assumes nothing.
+-- `parts::all_are` meets its contract. The invariant: what was found, and what the bytes still to come say.
 use mathlib.Core.Path.{_≡_, refl, sym, ap, _∙_}
 use mathlib.Core.Bool.{Bool, _&&_, and-true, and-assoc}
 use mathlib.Core.List.{List}

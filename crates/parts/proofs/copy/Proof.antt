@@ -1,4 +1,4 @@
--- `parts::copy` meets its contract: the bytes below i are copied. Assumes nothing.
+-- `parts::copy` meets its contract: the bytes below i are copied.
 use mathlib.Core.Path.{_≡_, refl}
 use Prim.Native.Nat.{ℕ, _-_, _≤_, _<_}
 use native.Mathlib.Omega.{arith}

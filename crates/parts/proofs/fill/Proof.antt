@@ -1,4 +1,4 @@
--- `parts::fill` meets its contract. The invariant: the first i bytes are done, the rest is as it was. Assumes nothing.
+-- `parts::fill` meets its contract. The invariant: the first i bytes are done, the rest is as it was.
 use mathlib.Core.Path.{_≡_, refl}
 use mathlib.Core.List.{_++_}
 use Prim.Native.Nat.{_≤_, _-_}

@@ -1,4 +1,4 @@
--- `parts::fill_part` meets its contract. Assumes nothing.
+-- `parts::fill_part` meets its contract.
 use mathlib.Core.Path.{refl}
 use Prim.Native.Nat.{_-_}
 use native.Mathlib.Omega.{arith}

@@ -1,4 +1,4 @@
--- `play::passed` meets its contract. Assumes nothing.
+-- `play::passed` meets its contract.
 use borrow.Author.Needs.{needs}
 use Rattle.play.proofs.passed.Statement.{statement}
 use Rattle.play.proofs.passed.Tie as tie

@@ -1,4 +1,4 @@
--- `play::play` meets its contract. Assumes nothing.
+-- `play::play` meets its contract.
 use mathlib.Core.Path.{refl, ap, _∙_}
 use Rattle.play.specs.Play.{passedOf, turnOf}
 use Rattle.play.proofs.Laws.{at-line, wait-plays}

@@ -1,4 +1,4 @@
--- `play::play_frame` meets its contract. Assumes nothing.
+-- `play::play_frame` meets its contract.
 use mathlib.Core.Path.{refl}
 use Rattle.play.proofs.Laws.{unhexed-front, frame-plays}
 use borrow.Author.Needs.{needs}

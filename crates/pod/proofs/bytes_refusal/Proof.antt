@@ -1,4 +1,4 @@
--- `pod::bytes_refusal` meets its contract. Assumes nothing.
+-- `pod::bytes_refusal` meets its contract.
 use mathlib.Core.Path.{_≡_, sym, ap, _∙_}
 use mathlib.Core.Bool.{true, false}
 use borrow.Author.Needs.{needs}

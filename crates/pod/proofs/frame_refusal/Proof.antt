@@ -1,4 +1,4 @@
--- `pod::frame_refusal` meets its contract. Assumes nothing.
+-- `pod::frame_refusal` meets its contract.
 use mathlib.Core.Path.{_≡_, sym, ap, _∙_}
 use mathlib.Core.Bool.{true, false}
 use borrow.Author.Needs.{needs}

@@ -1,4 +1,4 @@
--- `pod::gwo_wear_report` meets its contract. Assumes nothing.
+-- `pod::gwo_wear_report` meets its contract.
 use mathlib.Core.Path.{_≡_, refl, sym, ap, _∙_}
 use mathlib.Core.Bool.{true, false}
 use mathlib.Core.List.{List}

@@ -1,11 +1,12 @@
--- `pod::keep` meets its contract. Assumes nothing.
+-- `pod::keep` meets its contract.
 use mathlib.Core.Path.{_≡_, sym, ap, _∙_}
 use mathlib.Core.Bool.{Bool, true, false, _||_}
 use Prim.Native.Nat.{ℕ}
 use lib.Dec.{eqb}
 use Rattle.answers.specs.Answers.{numberOf}
 use Rattle.answers.specs.declared.Answer.{Answer}
-use Rattle.pod.specs.Calls.{mayMove, keptOf}
+use Rattle.fits.specs.Fits.{mayMove}
+use Rattle.pod.specs.Calls.{keptOf}
 use borrow.Author.Needs.{needs}
 use Rattle.pod.proofs.keep.Statement.{statement}
 use Rattle.pod.proofs.keep.Tie as tie

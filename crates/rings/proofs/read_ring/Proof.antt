@@ -1,4 +1,4 @@
--- `rings::read_ring` meets its contract. The invariant: out has the ring up to i, and at is its next place. Assumes nothing.
+-- `rings::read_ring` meets its contract. The invariant: out has the ring up to i, and at is its next place.
 use mathlib.Core.Path.{_≡_, refl, sym, ap, _∙_}
 use Prim.Native.Nat.{ℕ, _+_, _-_, _%_, _≤_, _<_}
 use native.Mathlib.Nat.{mod-eq-of-lt}

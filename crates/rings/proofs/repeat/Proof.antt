@@ -1,4 +1,4 @@
--- `rings::repeat` meets its contract. The invariant: the bytes below i are done, and k is the next place in the pattern. Assumes nothing.
+-- `rings::repeat` meets its contract. The invariant: the bytes below i are done, and k is the next place in the pattern.
 use mathlib.Core.Path.{_≡_, refl, sym, ap}
 use Prim.Native.Nat.{ℕ, _-_, _%_, _≤_, _<_}
 use native.Mathlib.Nat.{mod-lt, zero-mod}

@@ -1,4 +1,4 @@
--- `rings::repeat_part` meets its contract: a short part takes the pattern itself, a long one reads it out of the block. Assumes nothing.
+-- `rings::repeat_part` meets its contract: a short part takes the pattern itself, a long one reads it out of the block.
 use Prim.Native.Nat.{_-_}
 use native.Mathlib.Omega.{arith}
 use denote.Ref.{now}

@@ -1,4 +1,4 @@
--- `rings::wrap` meets its contract. Assumes nothing.
+-- `rings::wrap` meets its contract.
 use mathlib.Core.Path.{_≡_, sym}
 use native.Mathlib.Nat.{mod-eq-of-lt, mod-self}
 use native.Mathlib.Omega.{arith}

@@ -1,4 +1,4 @@
--- `script::all_hex` meets its contract: what is asked of the bytes from `from` on is what is asked of those from i on. Assumes nothing.
+-- `script::all_hex` meets its contract: what is asked of the bytes from `from` on is what is asked of those from i on.
 use mathlib.Core.Path.{_≡_, refl, sym, _∙_}
 use Prim.Native.Nat.{_-_}
 use native.Mathlib.Omega.{arith}

@@ -1,4 +1,4 @@
--- `script::frame_bytes` meets its contract. Assumes nothing.
+-- `script::frame_bytes` meets its contract.
 use native.Mathlib.Omega.{arith}
 use denote.Ref.{now}
 use borrow.Author.Needs.{needs}

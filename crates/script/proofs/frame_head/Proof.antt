@@ -1,4 +1,4 @@
--- `script::frame_head` meets its contract. Assumes nothing.
+-- `script::frame_head` meets its contract.
 use borrow.Author.Needs.{needs}
 use Rattle.script.specs.Reading.{frameHead}
 use Rattle.script.proofs.frame_head.Statement.{statement}

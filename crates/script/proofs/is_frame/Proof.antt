@@ -1,4 +1,4 @@
--- `script::is_frame` meets its contract. Assumes nothing.
+-- `script::is_frame` meets its contract.
 use mathlib.Core.Path.{sym, _∙_}
 use borrow.Author.Needs.{needs}
 use Rattle.script.specs.Reading.{isFrame}

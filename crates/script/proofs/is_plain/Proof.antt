@@ -1,4 +1,4 @@
--- `script::is_plain` meets its contract. Assumes nothing.
+-- `script::is_plain` meets its contract.
 use denote.Ref.{now}
 use borrow.Author.Needs.{needs}
 use Rattle.script.proofs.ReadLaws.{plain-is}

@@ -1,4 +1,4 @@
--- `script::is_power` meets its contract. Assumes nothing.
+-- `script::is_power` meets its contract.
 use borrow.Author.Needs.{needs}
 use Rattle.script.specs.Reading.{isPower}
 use Rattle.script.proofs.is_power.Statement.{statement}

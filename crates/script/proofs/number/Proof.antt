@@ -1,4 +1,4 @@
--- `script::number` meets its contract: the number from `from` on is that from i on, after sum. Assumes nothing.
+-- `script::number` meets its contract: the number from `from` on is that from i on, after sum.
 use mathlib.Core.Path.{_≡_, refl, sym, _∙_}
 use mathlib.Core.Bool.{true}
 use Prim.Native.Nat.{_-_, _+_, _*_, _≤_}

@@ -1,4 +1,4 @@
--- `script::read_wait` meets its contract. Assumes nothing.
+-- `script::read_wait` meets its contract.
 use mathlib.Core.Path.{sym, _∙_}
 use borrow.Author.Needs.{needs}
 use Rattle.script.proofs.ReadLaws.{wait-in, wait-out, power-in, power-out}

@@ -1,4 +1,4 @@
--- `script::wait_head` meets its contract. Assumes nothing.
+-- `script::wait_head` meets its contract.
 use borrow.Author.Needs.{needs}
 use Rattle.script.specs.Reading.{waitHead}
 use Rattle.script.proofs.wait_head.Statement.{statement}

@@ -1,4 +1,4 @@
--- `sfdp::erase` meets its contract. Assumes nothing.
+-- `sfdp::erase` meets its contract.
 use Prim.Native.Nat.{_+_, _≤_}
 use native.Mathlib.Omega.{arith}
 use lib.Dec.{leb}

@@ -1,4 +1,4 @@
--- `sfdp::header` meets its contract. Assumes nothing.
+-- `sfdp::header` meets its contract.
 use Prim.Native.Nat.{_+_, _*_, _≤_}
 use native.Mathlib.Omega.{arith}
 use lib.ListN.{length}

@@ -1,4 +1,4 @@
--- `sfdp::lay_page` meets its contract. Assumes nothing.
+-- `sfdp::lay_page` meets its contract.
 use mathlib.Core.Path.{_∙_}
 use native.Mathlib.Omega.{arith}
 use lib.ListN.{length-set}

@@ -1,4 +1,4 @@
--- `sfdp::number_at` meets its contract. Assumes nothing.
+-- `sfdp::number_at` meets its contract.
 use mathlib.Core.Path.{sym}
 use lib.ListN.{List·getD-eq-default}
 use denote.Ref.{now}

@@ -1,4 +1,4 @@
--- `sfdp::refusal` meets its contract: a fact a rung passed, and a line a rung that refuses. Assumes nothing.
+-- `sfdp::refusal` meets its contract: a fact a rung passed, and a line a rung that refuses.
 use mathlib.Core.Path.{_≡_, sym, _∙_}
 use mathlib.Core.Bool.{true, false, not, _||_}
 use native.Mathlib.Omega.{arith}

@@ -1,4 +1,4 @@
--- `sfdp::revision` meets its contract. Assumes nothing.
+-- `sfdp::revision` meets its contract.
 use native.Mathlib.Omega.{arith}
 use denote.Ref.{now}
 use borrow.Author.Needs.{needs}

@@ -1,4 +1,4 @@
--- `sfdp_image::drive` meets its contract. Assumes nothing.
+-- `sfdp_image::drive` meets its contract.
 use mathlib.Core.Path.{refl, _∙_}
 use Prim.Native.Nat.{_-_}
 use native.Mathlib.Omega.{arith}

@@ -1,4 +1,4 @@
--- `sfdp_image::lay_own` meets its contract: the bytes below i are laid. Assumes nothing.
+-- `sfdp_image::lay_own` meets its contract: the bytes below i are laid.
 use mathlib.Core.Path.{_≡_, refl}
 use Prim.Native.Nat.{ℕ, _+_, _-_, _≤_, _<_}
 use native.Mathlib.Omega.{arith}

@@ -1,4 +1,4 @@
--- `sfdp_image::own_byte` meets its contract. Assumes nothing.
+-- `sfdp_image::own_byte` meets its contract.
 use native.Mathlib.Omega.{arith}
 use borrow.Author.Needs.{needs}
 use Rattle.sfdp_image.proofs.Eights.{of-eight}

@@ -1,4 +1,4 @@
--- `shows::maker_bytes` meets its contract. Assumes nothing.
+-- `shows::maker_bytes` meets its contract.
 use borrow.Author.Tests.{ne-eqb}
 use Rattle.effects.specs.Effects.{makerBytes}
 use Rattle.shows.proofs.maker_bytes.Statement.{statement}

@@ -1,4 +1,4 @@
--- `shows::read_config` meets its contract. Assumes nothing.
+-- `shows::read_config` meets its contract.
 use Rattle.effects.specs.Effects.{readConfig}
 use borrow.Author.Needs.{needs}
 use Rattle.shows.proofs.read_config.Statement.{statement}

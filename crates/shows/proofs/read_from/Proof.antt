@@ -1,4 +1,4 @@
--- `shows::read_from` meets its contract. Assumes nothing.
+-- `shows::read_from` meets its contract.
 use Rattle.effects.specs.Effects.{readFrom}
 use borrow.Author.Needs.{needs}
 use Rattle.shows.proofs.read_from.Statement.{statement}

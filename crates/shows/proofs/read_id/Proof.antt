@@ -1,4 +1,4 @@
--- `shows::read_id` meets its contract. Assumes nothing.
+-- `shows::read_id` meets its contract.
 use mathlib.Core.Path.{_∙_}
 use Rattle.effects.specs.Effects.{readId}
 use borrow.Author.Needs.{needs}

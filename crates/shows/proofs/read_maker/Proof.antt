@@ -1,4 +1,4 @@
--- `shows::read_maker` meets its contract. Assumes nothing.
+-- `shows::read_maker` meets its contract.
 use mathlib.Core.Path.{_∙_}
 use Rattle.effects.specs.Effects.{readMaker}
 use borrow.Author.Needs.{needs}

@@ -1,4 +1,4 @@
--- `shows::read_sfdp` meets its contract. Assumes nothing.
+-- `shows::read_sfdp` meets its contract.
 use mathlib.Core.Path.{_∙_}
 use Rattle.effects.specs.Effects.{readSfdp}
 use borrow.Author.Needs.{needs}

@@ -1,4 +1,4 @@
--- `shows::read_status` meets its contract. Assumes nothing.
+-- `shows::read_status` meets its contract.
 use mathlib.Core.Path.{_∙_}
 use Rattle.effects.specs.Effects.{readStatus}
 use borrow.Author.Needs.{needs}

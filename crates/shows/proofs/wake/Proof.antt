@@ -1,4 +1,4 @@
--- `shows::wake` meets its contract. Assumes nothing.
+-- `shows::wake` meets its contract.
 use mathlib.Core.Path.{sym, ap, _∙_}
 use Rattle.answers.specs.declared.Answer.the-variants.{Done}
 use Rattle.effects.specs.Effects.{quiet, wake}

@@ -1,4 +1,4 @@
--- `shows::waking_time` meets its contract. Assumes nothing.
+-- `shows::waking_time` meets its contract.
 use mathlib.Core.Path.{_≡_}
 use mathlib.Core.Bool.{false, true}
 use borrow.Author.Tests.{not-true, not-false, lt-ltb, le-ltb}

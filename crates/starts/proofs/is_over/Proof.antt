@@ -1,4 +1,4 @@
--- `starts::is_over` meets its contract: off, it looks at nothing. Assumes nothing.
+-- `starts::is_over` meets its contract: off, it looks at nothing.
 use mathlib.Core.Path.{sym, ap, _∙_}
 use mathlib.Core.Bool.{Bool}
 use denote.Ref.{now}

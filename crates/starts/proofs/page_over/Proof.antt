@@ -1,4 +1,4 @@
--- `starts::page_over` meets its contract: what was lent to `over_old` is the addressed page, and the bytes from position 4. Assumes nothing.
+-- `starts::page_over` meets its contract: what was lent to `over_old` is the addressed page, and the bytes from position 4.
 use mathlib.Core.Path.{_≡_, ap, _∙_}
 use mathlib.Core.List.{List}
 use Prim.Native.Nat.{ℕ, _+_, _-_}

@@ -1,4 +1,4 @@
--- `starts::program_page` meets its contract. Assumes nothing.
+-- `starts::program_page` meets its contract.
 use mathlib.Core.Path.{_≡_, ap, _∙_}
 use mathlib.Core.List.{List}
 use Prim.Native.Nat.{ℕ}

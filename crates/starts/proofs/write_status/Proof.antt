@@ -1,4 +1,4 @@
--- `starts::write_status` meets its contract: what was lent to the copy are the first bytes of the page data. Assumes nothing.
+-- `starts::write_status` meets its contract: what was lent to the copy are the first bytes of the page data.
 use mathlib.Core.Path.{_≡_, refl, ap, _∙_}
 use Prim.Native.Nat.{ℕ, _-_}
 use native.Mathlib.Omega.{arith}

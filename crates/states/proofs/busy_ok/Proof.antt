@@ -1,4 +1,4 @@
--- `states::busy_ok` meets its contract. Assumes nothing.
+-- `states::busy_ok` meets its contract.
 use borrow.Author.Needs.{needs}
 use Rattle.states.proofs.busy_ok.Statement.{statement}
 use Rattle.states.proofs.busy_ok.Tie as tie

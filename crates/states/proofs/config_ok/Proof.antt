@@ -1,4 +1,4 @@
--- `states::config_ok` meets its contract. Assumes nothing.
+-- `states::config_ok` meets its contract.
 use mathlib.Core.Path.{_≡_, refl, sym, ap, _∙_}
 use mathlib.Core.Bool.{Bool, true, false, _&&_}
 use Prim.Native.Nat.{ℕ, _/_, _%_}

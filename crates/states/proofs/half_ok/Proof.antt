@@ -1,4 +1,4 @@
--- `states::half_ok` meets its contract. Assumes nothing.
+-- `states::half_ok` meets its contract.
 use mathlib.Core.Path.{_≡_, ap, sym, _∙_}
 use mathlib.Core.Bool.{true, false}
 use Rattle.models.specs.declared.Model.{Model}

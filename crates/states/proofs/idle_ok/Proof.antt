@@ -1,4 +1,4 @@
--- `states::idle_ok` meets its contract. Assumes nothing.
+-- `states::idle_ok` meets its contract.
 use Rattle.states.specs.States.{idleOk}
 use borrow.Author.Needs.{needs}
 use Rattle.states.proofs.idle_ok.Statement.{statement}

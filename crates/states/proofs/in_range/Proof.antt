@@ -1,4 +1,4 @@
--- `states::in_range` meets its contract. Assumes nothing.
+-- `states::in_range` meets its contract.
 use mathlib.Core.Path.{refl}
 use Rattle.states.specs.States.{inRange}
 use Rattle.states.proofs.in_range.Statement.{statement}

@@ -1,4 +1,4 @@
--- `states::level_ok` meets its contract. Assumes nothing.
+-- `states::level_ok` meets its contract.
 use borrow.Author.Needs.{needs}
 use Rattle.states.proofs.level_ok.Statement.{statement}
 use Rattle.states.proofs.level_ok.Tie as tie

@@ -1,4 +1,4 @@
--- `states::longest_settle` meets its contract. Assumes nothing.
+-- `states::longest_settle` meets its contract.
 use native.Mathlib.Nat.{max-zero}
 use borrow.Author.Needs.{needs}
 use Rattle.states.specs.States.{longestSettle}

@@ -1,4 +1,4 @@
--- `states::page_fits` meets its contract. Assumes nothing.
+-- `states::page_fits` meets its contract.
 use mathlib.Core.Path.{_≡_, ap, _∙_}
 use mathlib.Core.Bool.{true}
 use mathlib.Core.List.{List}

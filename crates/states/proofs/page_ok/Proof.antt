@@ -1,4 +1,4 @@
--- `states::page_ok` meets its contract. Assumes nothing.
+-- `states::page_ok` meets its contract.
 use mathlib.Core.Path.{sym, _∙_}
 use denote.Ref.{now}
 use Rattle.states.proofs.States.{idle-page, busy-page}

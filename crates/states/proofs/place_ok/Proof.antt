@@ -1,4 +1,4 @@
--- `states::place_ok` meets its contract. Assumes nothing.
+-- `states::place_ok` meets its contract.
 use mathlib.Core.Path.{sym, ap}
 use Rattle.states.specs.States.{placeOk}
 use Rattle.commands.specs.declared.Operation.{Operation}

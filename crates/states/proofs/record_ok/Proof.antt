@@ -1,4 +1,4 @@
--- `states::record_ok` meets its contract. Assumes nothing.
+-- `states::record_ok` meets its contract.
 use mathlib.Core.Bool.{and-true}
 use Rattle.states.specs.States.{inRange, recordOk}
 use borrow.Author.Needs.{needs}

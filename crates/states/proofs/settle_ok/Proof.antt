@@ -1,4 +1,4 @@
--- `states::settle_ok` meets its contract. Assumes nothing.
+-- `states::settle_ok` meets its contract.
 use mathlib.Core.Path.{sym, ap}
 use lib.Dec.{leb}
 use Prim.Native.Nat.{ℕ}

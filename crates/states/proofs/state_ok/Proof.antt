@@ -1,4 +1,4 @@
--- `states::state_ok` meets its contract. Assumes nothing.
+-- `states::state_ok` meets its contract.
 use Rattle.states.proofs.States.{idle-state, busy-state}
 use mathlib.Core.Path.{sym, _∙_}
 use borrow.Author.Needs.{needs}

@@ -1,4 +1,4 @@
--- `states::status` meets its contract. Assumes nothing.
+-- `states::status` meets its contract.
 use Rattle.states.specs.States.{statusOf}
 use borrow.Author.Needs.{needs}
 use Rattle.states.proofs.status.Statement.{statement}

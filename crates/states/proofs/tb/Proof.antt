@@ -1,4 +1,4 @@
--- `states::tb` meets its contract. Assumes nothing.
+-- `states::tb` meets its contract.
 use mathlib.Core.Path.{refl}
 use Rattle.states.specs.States.{tbOf}
 use Rattle.states.proofs.tb.Statement.{statement}

@@ -1,4 +1,4 @@
--- `stepper::log_line` meets its contract. Assumes nothing.
+-- `stepper::log_line` meets its contract.
 use mathlib.Core.Path.{_≡_}
 use native.Mathlib.Omega.{arith}
 use lib.ListN.{length, replicate}

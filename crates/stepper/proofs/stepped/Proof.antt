@@ -1,5 +1,5 @@
 -- `stepper::stepped` meets its contract: a walk of its MIR. All that it knows of `stepper::step` is that it meets its contract.
--- Written by `python3 tools/walks/line.py`; change the generator, not this file. Assumes nothing.
+-- Written by `python3 tools/walks/line.py`; change the generator, not this file.
 use mathlib.Core.Path.{_≡_, refl, sym, ap, subst, _∙_}
 use mathlib.Core.Bool.{Bool}
 use Prim.Native.Nat.{ℕ}

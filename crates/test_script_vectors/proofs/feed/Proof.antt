@@ -1,4 +1,4 @@
--- `test_script_vectors::feed` is safe and ends: each cut ends past where it began. Assumes nothing.
+-- `test_script_vectors::feed` is safe and ends: each cut ends past where it began.
 use mathlib.Core.Path.{_≡_, sym, _∙_}
 use Prim.Native.Nat.{_-_, _≤_, _<_}
 use native.Mathlib.Omega.{arith}

@@ -1,4 +1,4 @@
--- `test_script_vectors::run_all` is safe and ends: the turns that are left get fewer. Assumes nothing.
+-- `test_script_vectors::run_all` is safe and ends: the turns that are left get fewer.
 use mathlib.Core.Path.{_≡_, refl}
 use lib.ListN.{length}
 use borrow.Author.Needs.{needs}

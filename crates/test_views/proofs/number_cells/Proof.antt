@@ -1,4 +1,4 @@
--- `test_views::number_cells` ends: the cells that are left get fewer. Assumes nothing.
+-- `test_views::number_cells` ends: the cells that are left get fewer.
 use mathlib.Core.Path.{_≡_, refl}
 use Prim.Native.Nat.{_-_}
 use lib.ListN.{length}

@@ -1,4 +1,4 @@
--- `text::digit` meets its contract. Assumes nothing.
+-- `text::digit` meets its contract.
 use borrow.Author.Needs.{needs}
 use borrow.Author.Tests.{lt-ltb, le-ltb}
 use Rattle.text.proofs.digit.Statement.{statement}

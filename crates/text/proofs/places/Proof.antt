@@ -1,4 +1,4 @@
--- `text::places` meets its contract: the digits counted and those of the rest are one more than all. Assumes nothing.
+-- `text::places` meets its contract: the digits counted and those of the rest are one more than all.
 use mathlib.Core.Path.{_≡_}
 use Prim.Native.Nat.{_+_, _/_, _^_, _≤_, _<_}
 use native.Mathlib.Omega.{arith}

@@ -1,4 +1,4 @@
--- `text::put_all` meets its contract: the part from `at` on came back as the text. Assumes nothing.
+-- `text::put_all` meets its contract: the part from `at` on came back as the text.
 use denote.Ref.{now}
 use borrow.Author.Needs.{needs}
 use Rattle.text.proofs.PutLaws.{put-part}

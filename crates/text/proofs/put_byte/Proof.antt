@@ -1,4 +1,4 @@
--- `text::put_byte` meets its contract. Assumes nothing.
+-- `text::put_byte` meets its contract.
 use borrow.Author.Needs.{needs}
 use Rattle.text.proofs.PutLaws.{put-one}
 use Rattle.text.proofs.put_byte.Statement.{statement}

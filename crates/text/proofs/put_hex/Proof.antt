@@ -1,4 +1,4 @@
--- `text::put_hex` meets its contract: the first i bytes are put. Assumes nothing.
+-- `text::put_hex` meets its contract: the first i bytes are put.
 use mathlib.Core.Path.{_≡_, refl}
 use Prim.Native.Nat.{_+_, _-_, _*_, _≤_}
 use native.Mathlib.Omega.{arith}

@@ -1,4 +1,4 @@
--- `text::put_number` meets its contract: the digits from `to` on stand, and the others are the last of rest. Assumes nothing.
+-- `text::put_number` meets its contract: the digits from `to` on stand, and the others are the last of rest.
 use mathlib.Core.Path.{_≡_, refl, sym}
 use Prim.Native.Nat.{_+_, _-_, _≤_}
 use native.Mathlib.Omega.{arith}

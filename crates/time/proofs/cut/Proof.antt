@@ -1,4 +1,4 @@
--- `time::cut` meets its contract. Assumes nothing.
+-- `time::cut` meets its contract.
 use mathlib.Core.Path.{_≡_, refl, sym, ap, _∙_}
 use mathlib.Core.Bool.{true, false}
 use lib.Dec.{eqb}

@@ -1,4 +1,4 @@
--- `time::cycle` meets its contract. Assumes nothing.
+-- `time::cycle` meets its contract.
 use mathlib.Core.Path.{refl}
 use borrow.Author.Needs.{needs}
 use Rattle.time.specs.Time.{cycled}

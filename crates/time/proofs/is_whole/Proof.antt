@@ -1,4 +1,4 @@
--- `time::is_whole` meets its contract. Assumes nothing.
+-- `time::is_whole` meets its contract.
 use borrow.Author.Needs.{needs}
 use Rattle.time.proofs.is_whole.Statement.{statement}
 use Rattle.time.proofs.is_whole.Tie as tie

@@ -1,4 +1,4 @@
--- `time::power_cycle` meets its contract. Assumes nothing.
+-- `time::power_cycle` meets its contract.
 use mathlib.Core.Path.{_≡_, refl, sym, _∙_}
 use mathlib.Core.Bool.{true, false}
 use denote.Ref.{now}

@@ -1,4 +1,4 @@
--- `time::rested` meets its contract. Assumes nothing.
+-- `time::rested` meets its contract.
 use Rattle.time.specs.Time.{later}
 use borrow.Author.Needs.{needs}
 use Rattle.time.proofs.rested.Statement.{statement}

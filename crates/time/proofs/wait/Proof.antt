@@ -1,4 +1,4 @@
--- `time::wait` meets its contract. Assumes nothing.
+-- `time::wait` meets its contract.
 use mathlib.Core.Path.{_≡_, refl, sym, _∙_}
 use mathlib.Core.Bool.{true, false}
 use lib.Dec.{eqb}

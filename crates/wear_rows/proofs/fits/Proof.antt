@@ -1,4 +1,4 @@
--- `wear_rows::fits` meets its contract. Assumes nothing.
+-- `wear_rows::fits` meets its contract.
 use native.Mathlib.Omega.{arith}
 use Rattle.wear_rows.proofs.Laws.{fits-no, fits-if}
 use borrow.Author.Needs.{needs}

@@ -1,4 +1,4 @@
--- `wear_rows::marks_of` meets its contract. Assumes nothing.
+-- `wear_rows::marks_of` meets its contract.
 use mathlib.Core.Path.{_≡_, sym, _∙_}
 use native.Mathlib.Omega.{arith}
 use Prim.Native.Nat.{_*_, _/_, max}

@@ -1,4 +1,4 @@
--- `wear_rows::put_bar` meets its contract. Assumes nothing.
+-- `wear_rows::put_bar` meets its contract.
 use Prim.Native.Nat.{ℕ}
 use native.Mathlib.Omega.{arith}
 use borrow.Author.Tests.{eq-eqb, ne-eqb}

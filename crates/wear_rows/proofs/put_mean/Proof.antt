@@ -1,4 +1,4 @@
--- `wear_rows::put_mean` meets its contract. Assumes nothing.
+-- `wear_rows::put_mean` meets its contract.
 use Rattle.text.specs.Text.{ascii, decimalText}
 use Rattle.wear_rows.specs.WearSheet.{meanText}
 use Rattle.wear_rows.proofs.Laws.{said-next}

@@ -1,4 +1,4 @@
--- `wear_rows::put_right` meets its contract. Assumes nothing.
+-- `wear_rows::put_right` meets its contract.
 use Rattle.wear_rows.proofs.Laws.{right-room, right-put}
 use borrow.Author.Needs.{needs}
 use Rattle.wear_rows.proofs.put_right.Statement.{statement}

@@ -1,4 +1,4 @@
--- `wear_rows::put_run` meets its contract. Assumes nothing.
+-- `wear_rows::put_run` meets its contract.
 use Rattle.wear_rows.proofs.Laws.{run-put}
 use borrow.Author.Needs.{needs}
 use Rattle.wear_rows.proofs.put_run.Statement.{statement}

@@ -1,4 +1,4 @@
--- `wear_rows::put_said` meets its contract. Assumes nothing.
+-- `wear_rows::put_said` meets its contract.
 use native.Mathlib.Omega.{arith}
 use Rattle.text.proofs.PutLaws.{put-then}
 use borrow.Author.Needs.{needs}

@@ -1,4 +1,4 @@
--- `wear_rows::put_sector` meets its contract. Assumes nothing.
+-- `wear_rows::put_sector` meets its contract.
 use mathlib.Core.Path.{_≡_}
 use mathlib.Core.List.{append-assoc}
 use Prim.Native.Nat.{_≤_}

@@ -1,4 +1,4 @@
--- `wear_rows::put_sectors` meets its contract. Assumes nothing.
+-- `wear_rows::put_sectors` meets its contract.
 use mathlib.Core.Path.{_≡_, ap, _∙_}
 use Prim.Native.Nat.{_-_, _≤_, _+_, _*_}
 use native.Mathlib.Omega.{arith}

@@ -1,4 +1,4 @@
--- `wear_rows::put_sheet` meets its contract. Assumes nothing.
+-- `wear_rows::put_sheet` meets its contract.
 use mathlib.Core.Path.{_≡_, sym, ap, _∙_}
 use Prim.Native.Nat.{_+_, _≤_}
 use native.Mathlib.Omega.{arith}

@@ -1,4 +1,4 @@
--- `wear_rows::put_sums` meets its contract. Assumes nothing.
+-- `wear_rows::put_sums` meets its contract.
 use native.Mathlib.Omega.{arith}
 use Rattle.text.specs.Text.{ascii, decimalText}
 use Rattle.wear_rows.specs.WearSheet.{sumsText}

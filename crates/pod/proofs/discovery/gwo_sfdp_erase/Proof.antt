@@ -1,4 +1,4 @@
--- `pod::gwo_sfdp_erase` meets its contract. Assumes nothing.
+-- `pod::gwo_sfdp_erase` meets its contract.
 use borrow.Author.Needs.{needs}
 use Rattle.pod.proofs.Sfdp.{reads-erase}
 use Rattle.pod.proofs.discovery.gwo_sfdp_erase.Statement.{statement}

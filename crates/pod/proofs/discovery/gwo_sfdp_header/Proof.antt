@@ -1,4 +1,4 @@
--- `pod::gwo_sfdp_header` meets its contract. Assumes nothing.
+-- `pod::gwo_sfdp_header` meets its contract.
 use borrow.Author.Needs.{needs}
 use Rattle.pod.proofs.Sfdp.{reads-header}
 use Rattle.pod.proofs.discovery.gwo_sfdp_header.Statement.{statement}

@@ -1,4 +1,4 @@
--- `pod::gwo_sfdp_revision` meets its contract. Assumes nothing.
+-- `pod::gwo_sfdp_revision` meets its contract.
 use borrow.Author.Needs.{needs}
 use Rattle.pod.proofs.Sfdp.{reads-revision}
 use Rattle.pod.proofs.discovery.gwo_sfdp_revision.Statement.{statement}

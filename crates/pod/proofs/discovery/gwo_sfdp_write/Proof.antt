@@ -1,4 +1,4 @@
--- `pod::gwo_sfdp_write` meets its contract. Assumes nothing.
+-- `pod::gwo_sfdp_write` meets its contract.
 use borrow.Author.Needs.{needs}
 use Rattle.pod.proofs.Sfdp.{writes-table}
 use Rattle.pod.proofs.discovery.gwo_sfdp_write.Statement.{statement}

@@ -1,4 +1,4 @@
--- `script::hex::is_capital` meets its contract. Assumes nothing.
+-- `script::hex::is_capital` meets its contract.
 use mathlib.Core.Path.{refl}
 use Rattle.script.specs.Hex.{isCapital}
 use Rattle.script.proofs.hex.is_capital.Statement.{statement}

@@ -1,4 +1,4 @@
--- `script::hex::is_digit` meets its contract. Assumes nothing.
+-- `script::hex::is_digit` meets its contract.
 use mathlib.Core.Path.{refl}
 use Rattle.script.specs.Hex.{isDigit}
 use Rattle.script.proofs.hex.is_digit.Statement.{statement}

@@ -1,4 +1,4 @@
--- `script::hex::is_hex` meets its contract. Assumes nothing.
+-- `script::hex::is_hex` meets its contract.
 use borrow.Author.Needs.{needs}
 use Rattle.script.specs.Hex.{isHex}
 use Rattle.script.proofs.hex.is_hex.Statement.{statement}

@@ -1,4 +1,4 @@
--- `script::hex::unhex` meets its contract: the first k bytes stand. Assumes nothing.
+-- `script::hex::unhex` meets its contract: the first k bytes stand.
 use mathlib.Core.Path.{_≡_, refl, ap, _∙_}
 use mathlib.Core.List.{_++_}
 use Prim.Native.Nat.{ℕ, _+_, _-_, _*_, _/_, _≤_, _<_}
