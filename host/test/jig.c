@@ -3,8 +3,6 @@
 #include "jig_cells.h"
 #include "jig_wear.h"
 
-#include <stdarg.h>
-#include <stdio.h>
 #include <string.h>
 
 enum { MARGIN = 64, MARK = 0x5C, UNSET = 0x5A5A5A5A };
@@ -23,17 +21,6 @@ static struct guard over_pattern;
 
 /* What every output position holds before a call. */
 static uint8_t rest[OUT_ROOM];
-
-const char *named(const char *form, ...)
-{
-    static char text[160];
-    va_list rest_of_them;
-
-    va_start(rest_of_them, form);
-    vsnprintf(text, sizeof text, form, rest_of_them);
-    va_end(rest_of_them);
-    return text;
-}
 
 const struct part *part_of(uint32_t model)
 {

@@ -9,12 +9,6 @@
 #include "gwo.h"
 #include "rig.h"
 
-/* A label in printf's form, good until the next one. */
-#if defined(__GNUC__)
-__attribute__((format(printf, 1, 2)))
-#endif
-const char *named(const char *form, ...);
-
 enum { PAGE = 256, SECTOR = 4096, HALF_BLOCK = 32768, BLOCK = 65536, LONGEST_FRAME = 65541 };
 enum { FRAME_ROOM = 65600, OUT_ROOM = 65664, STATE_ROOM = 280, PATTERN_ROOM = 16777216 + BLOCK, WEAR_ROOM = 4160 };
 

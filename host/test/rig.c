@@ -268,6 +268,50 @@ int rig_end(void)
     return failed == 0 ? 0 : 1;
 }
 
+const char *named(const char *form, ...)
+{
+    static char text[160];
+    va_list rest;
+
+    va_start(rest, form);
+    vsnprintf(text, sizeof text, form, rest);
+    va_end(rest);
+    return text;
+}
+
+static void run_group(const struct group *g, void (*after)(const char *))
+{
+    unsigned long calls = rig_calls, before = failures();
+
+    g->run();
+    if (after != NULL)
+        after(g->name);
+    printf("  %-28s %7lu calls, %lu failures\n", g->name, rig_calls - calls, failures() - before);
+}
+
+int rig_groups(const char *name, const struct group *groups, size_t count, void (*after)(const char *), int argc,
+               char **argv)
+{
+    const char *only = argc > 2 ? argv[2] : NULL;
+    size_t i;
+    int found = 0;
+
+    rig_begin(name);
+    if (argc > 1 && strcmp(argv[1], "first") == 0)
+        rig_stop_at_first();
+    for (i = 0; i < count; i++) {
+        if (only != NULL && strcmp(groups[i].name, only) != 0)
+            continue;
+        run_group(&groups[i], after);
+        found = 1;
+    }
+    if (!found) {
+        printf("%s: there is no group of this name: %s\n", name, only);
+        return 2;
+    }
+    return rig_end();
+}
+
 uint64_t roll(struct dice *d)
 {
     uint64_t z = d->at += UINT64_C(0x9E3779B97F4A7C15);

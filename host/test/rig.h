@@ -98,8 +98,27 @@ void fail(const char *form, ...);
 
 unsigned long failures(void);
 
+/* A label in printf's form, good until the next one. */
+#if defined(__GNUC__)
+__attribute__((format(printf, 1, 2)))
+#endif
+const char *named(const char *form, ...);
+
 /* Prints how it went; the exit status: 0 exactly when nothing failed. */
 int rig_end(void);
+
+/* A program of named groups of checks. */
+struct group {
+    const char *name;
+    void (*run)(void);
+};
+
+/*
+ * All of them, or the one that is named: PROGRAM [first [GROUP]]; with `first` it stops at a failure. After each group
+ * its name goes to after, unless that is null. The exit status: rig_end's, or 2 where there is no group of the name.
+ */
+int rig_groups(const char *name, const struct group *groups, size_t count, void (*after)(const char *), int argc,
+               char **argv);
 
 /* Random numbers (splitmix64), the same for the same seed on every machine. */
 struct dice {

@@ -7,13 +7,7 @@
  */
 #include "rules.h"
 
-#include <stdio.h>
-#include <string.h>
-
-static const struct {
-    const char *name;
-    void (*run)(void);
-} groups[] = {
+static const struct group groups[] = {
     {"refused before the command", refused_before_the_command},
     {"packed states", packed_states},
     {"refused by command", refused_by_command},
@@ -36,34 +30,8 @@ static const struct {
     {"wear reports", wear_reports},
     {"bench sheet", bench_sheet},
 };
-enum { GROUPS = sizeof groups / sizeof groups[0] };
-
-static void run_group(int i)
-{
-    unsigned long calls = rig_calls, failed = failures();
-
-    groups[i].run();
-    jig_whole(groups[i].name);
-    printf("  %-28s %7lu calls, %lu failures\n", groups[i].name, rig_calls - calls, failures() - failed);
-}
 
 int main(int argc, char **argv)
 {
-    const char *only = argc > 2 ? argv[2] : NULL;
-    int i, found = 0;
-
-    rig_begin("rules");
-    if (argc > 1 && strcmp(argv[1], "first") == 0)
-        rig_stop_at_first();
-    for (i = 0; i < GROUPS; i++) {
-        if (only != NULL && strcmp(groups[i].name, only) != 0)
-            continue;
-        run_group(i);
-        found = 1;
-    }
-    if (!found) {
-        printf("rules: there is no group of this name: %s\n", only);
-        return 2;
-    }
-    return rig_end();
+    return rig_groups("rules", groups, sizeof groups / sizeof groups[0], jig_whole, argc, argv);
 }

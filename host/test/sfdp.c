@@ -6,13 +6,7 @@
  */
 #include "sfdp.h"
 
-#include <stdio.h>
-#include <string.h>
-
-static const struct {
-    const char *name;
-    void (*run)(void);
-} groups[] = {
+static const struct group groups[] = {
     {"signatures", signatures},
     {"header counts", header_counts},
     {"table lengths", table_lengths},
@@ -25,33 +19,8 @@ static const struct {
     {"round trips", round_trips},
     {"the chip's table", chip_tables},
 };
-enum { GROUPS = sizeof groups / sizeof groups[0] };
-
-static void run_group(int i)
-{
-    unsigned long calls = rig_calls, failed = failures();
-
-    groups[i].run();
-    printf("  %-28s %7lu calls, %lu failures\n", groups[i].name, rig_calls - calls, failures() - failed);
-}
 
 int main(int argc, char **argv)
 {
-    const char *only = argc > 2 ? argv[2] : NULL;
-    int i, found = 0;
-
-    rig_begin("sfdp");
-    if (argc > 1 && strcmp(argv[1], "first") == 0)
-        rig_stop_at_first();
-    for (i = 0; i < GROUPS; i++) {
-        if (only != NULL && strcmp(groups[i].name, only) != 0)
-            continue;
-        run_group(i);
-        found = 1;
-    }
-    if (!found) {
-        printf("sfdp: there is no group of this name: %s\n", only);
-        return 2;
-    }
-    return rig_end();
+    return rig_groups("sfdp", groups, sizeof groups / sizeof groups[0], NULL, argc, argv);
 }

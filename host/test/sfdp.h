@@ -20,12 +20,6 @@ void chip_tables(void);     /* what 5A drives, read and written again */
 /* A pointer has three bytes, and a table up to 255 double words. */
 enum { TABLE_ROOM = 0x1000000 + 4 * 255, OUT_ROOM = 4096, MOST_ERASES = 64, SLOTS = 4 };
 
-/* Like `named` of the rules: a label in printf's form, good until the next one. */
-#if defined(__GNUC__)
-__attribute__((format(printf, 1, 2)))
-#endif
-const char *labelled(const char *form, ...);
-
 /*
  * The next table: n bytes of 5C, which end at unmapped memory, for the caller to fill; then so many headers, 1 to 256, as
  * far as they fit: the first has 9 double words at an address, the others none at 0.

@@ -2,8 +2,6 @@
 
 #include "jig_sfdp.h"
 
-#include <stdarg.h>
-#include <stdio.h>
 #include <string.h>
 
 enum { MARGIN = 64, MARK = 0x5C, RESULTS = 5, UNSET = 0x5A5A5A5A };
@@ -12,17 +10,6 @@ static struct lent lent_table, lent_results, lent_erases, lent_out;
 static struct guard over_table, over_erases;
 static uint8_t *table;
 static size_t table_len;
-
-const char *labelled(const char *form, ...)
-{
-    static char text[160];
-    va_list rest;
-
-    va_start(rest, form);
-    vsnprintf(text, sizeof text, form, rest);
-    va_end(rest);
-    return text;
-}
 
 static void make_buffers(void)
 {

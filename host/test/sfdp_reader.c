@@ -50,7 +50,7 @@ void signatures(void)
 
     for (n = 0; n < 8; n++) {
         memcpy(table_of(n), sheet_table(), n);
-        table_refused(30, labelled("%lu bytes of a good table", (unsigned long)n));
+        table_refused(30, named("%lu bytes of a good table", (unsigned long)n));
     }
     for (i = 0; i < 4; i++)
         for (value = 0; value < 256; value++) {
@@ -58,11 +58,11 @@ void signatures(void)
             if (value == (unsigned char)"SFDP"[i])
                 good_is_read(1, head(1) + FIRST, "the signature as it has to be");
             else
-                table_refused(30, labelled("byte %u of the signature %02X", i, value));
+                table_refused(30, named("byte %u of the signature %02X", i, value));
         }
     for (i = 0; i < sizeof others / sizeof others[0]; i++) {
         memcpy(good_table(1, head(1) + FIRST), others[i], 4);
-        table_refused(30, labelled("another signature, %u", i));
+        table_refused(30, named("another signature, %u", i));
     }
 }
 
@@ -77,17 +77,17 @@ void header_counts(void)
 
         table_of(8);
         table_headers(headers, 0);
-        table_refused(31, labelled("%u headers in 8 bytes", headers));
+        table_refused(31, named("%u headers in 8 bytes", headers));
         table_of(n - 1);
         table_headers(headers, 0);
-        table_refused(31, labelled("%u headers in %lu bytes", headers, (unsigned long)(n - 1)));
+        table_refused(31, named("%u headers in %lu bytes", headers, (unsigned long)(n - 1)));
         if (headers >= 4) {
             t = table_of(n);
             table_headers(headers, (uint32_t)(n - FIRST));
-            laid_over_is_read(t, (uint32_t)(n - FIRST), headers, labelled("%u headers and no byte more", headers));
+            laid_over_is_read(t, (uint32_t)(n - FIRST), headers, named("%u headers and no byte more", headers));
         }
         good_table(headers, n + FIRST);
-        good_is_read(headers, n + FIRST, labelled("%u headers and a table after them", headers));
+        good_is_read(headers, n + FIRST, named("%u headers and a table after them", headers));
     }
 }
 
@@ -104,13 +104,13 @@ static void long_table(unsigned headers, unsigned index, unsigned words)
         table_of(n);
         table_headers(headers, 0);
         table_header(index, words, pointers[i]);
-        table_refused(31, labelled("header %u of %u: %u double words in %lu bytes", index, headers, words,
+        table_refused(31, named("header %u of %u: %u double words in %lu bytes", index, headers, words,
                                    (unsigned long)n));
     }
     t = table_of(n + 1);
     table_headers(headers, 0);
     table_header(index, words, 0);
-    laid_over_is_read(t, 0, headers, labelled("header %u of %u: %u double words in as many bytes", index, headers, words));
+    laid_over_is_read(t, 0, headers, named("header %u of %u: %u double words in as many bytes", index, headers, words));
 }
 
 /* A first table under 36 bytes, whatever the others have; of the others any length will do. */
@@ -126,15 +126,15 @@ static void short_first_tables(void)
             table_header(0, words, (uint32_t)(n - 4 * 255));
             table_first((uint32_t)(n - 4 * 255), 0x89ABCDEF, two_types);
             if (words < 9)
-                table_refused(31, labelled("a first table of %u double words", words));
+                table_refused(31, named("a first table of %u double words", words));
             else
                 table_read((uint32_t)(n - 4 * 255), headers, 0x89ABCDEF, 2,
-                           labelled("a first table of %u double words", words));
+                           named("a first table of %u double words", words));
             if (headers == 1)
                 continue;
             good_table(headers, n);
             table_header(headers - 1, words, (uint32_t)(n - 4 * words));
-            good_is_read(headers, n, labelled("a last table of %u double words", words));
+            good_is_read(headers, n, named("a last table of %u double words", words));
         }
 }
 
@@ -165,12 +165,12 @@ static void pointer_at_the_end(unsigned headers, unsigned index, unsigned words)
     if (index == 0)
         table_first(end, 0x01234567, two_types);
     table_read(index == 0 ? end : (uint32_t)(n - FIRST), headers, 0x01234567, 2,
-               labelled("header %u of %u: %u double words end with the last byte", index, headers, words));
+               named("header %u of %u: %u double words end with the last byte", index, headers, words));
     for (k = 0; k < 4; k++) {
         further = k == 0 ? end + 1 : k == 1 ? end + 4 : k == 2 ? 0xFFFFFF : end + 65536;
         good_table(headers, n);
         table_header(index, words, further);
-        table_refused(32, labelled("header %u of %u: %u double words at %06lX of %lu bytes", index, headers, words,
+        table_refused(32, named("header %u of %u: %u double words at %06lX of %lu bytes", index, headers, words,
                                    (unsigned long)further, (unsigned long)n));
     }
 }
@@ -190,10 +190,10 @@ static void far_tables(void)
         table_first(pointers[i], 0xFEDCBA98, two_types);
         if (n < 0xFFFFFF)
             table_header(1, 0, (uint32_t)n);
-        table_read(pointers[i], 2, 0xFEDCBA98, 2, labelled("a first table at %06lX", (unsigned long)pointers[i]));
+        table_read(pointers[i], 2, 0xFEDCBA98, 2, named("a first table at %06lX", (unsigned long)pointers[i]));
         table_of(n - 1);
         table_headers(2, pointers[i]);
-        table_refused(32, labelled("a first table at %06lX and a byte too few", (unsigned long)pointers[i]));
+        table_refused(32, named("a first table at %06lX and a byte too few", (unsigned long)pointers[i]));
     }
 }
 
@@ -240,7 +240,7 @@ static void wrong(unsigned faults, unsigned bad_pointer, unsigned bad_length)
         good_is_read(4, n, "nothing wrong");
     else
         table_refused(faults & SIGNATURE ? 30 : faults & (COUNT | LENGTH | FIRST_SHORT) ? 31 : 32,
-                      labelled("faults %02X, the pointer in header %u, the length in header %u", faults, bad_pointer,
+                      named("faults %02X, the pointer in header %u, the length in header %u", faults, bad_pointer,
                                bad_length));
 }
 
@@ -250,17 +250,17 @@ static void far_apart(unsigned other)
     good_table(256, head(256) + FIRST);
     table_header(0, 9, 0xFFFFFF);
     table_header(other, 255, 0);
-    table_refused(32, labelled("a bad first pointer, and header %u as long as may be", other));
+    table_refused(32, named("a bad first pointer, and header %u as long as may be", other));
     table_of(600);
     table_headers(64, 0);
     table_header(0, 9, 0xFFFFFF);
     table_header(1 + other % 63, 151, 0);
-    table_refused(31, labelled("a bad first pointer, and header %u too long", 1 + other % 63));
+    table_refused(31, named("a bad first pointer, and header %u too long", 1 + other % 63));
     table_of(600);
     table_headers(64, 0);
     table_header(0, 151, 0);
     table_header(1 + other % 63, 4, 0xFFFFFF);
-    table_refused(31, labelled("a first table too long, and a bad pointer in header %u", 1 + other % 63));
+    table_refused(31, named("a first table too long, and a bad pointer in header %u", 1 + other % 63));
 }
 
 /* Every set of faults, in every pair of headers. */
@@ -294,7 +294,7 @@ static void erase_types(void)
             table_of(head(2) + FIRST);
             table_headers(2, (uint32_t)head(2));
             table_first((uint32_t)head(2), set * 0x10101u, pairs);
-            table_read((uint32_t)head(2), 2, set * 0x10101u, types, labelled("erase types, set %X", set));
+            table_read((uint32_t)head(2), 2, set * 0x10101u, types, named("erase types, set %X", set));
         }
 }
 
@@ -309,7 +309,7 @@ static void densities(void)
         table_of(head(1) + FIRST);
         table_headers(1, (uint32_t)head(1));
         table_first((uint32_t)head(1), one, two_types);
-        table_read((uint32_t)head(1), 1, one, 2, labelled("bit %u of the density", bit));
+        table_read((uint32_t)head(1), 1, one, 2, named("bit %u of the density", bit));
     }
 }
 
@@ -330,7 +330,7 @@ static void not_judged(void)
         t[8] = t[17] = (uint8_t)value;
         t[9] = t[18] = (uint8_t)(value ^ 0x55);
         t[10] = t[16] = (uint8_t)~value;
-        table_read((uint32_t)head(3) + 20, 3, 0xA5C3F00F, 2, labelled("all other bytes %02X", value));
+        table_read((uint32_t)head(3) + 20, 3, 0xA5C3F00F, 2, named("all other bytes %02X", value));
     }
 }
 
@@ -351,8 +351,8 @@ void sheet_tables(void)
 
         memcpy(t, sheet_table(), n < SHEET_TABLE ? n : SHEET_TABLE);
         if (n < SHEET_TABLE)
-            table_refused(n < 8 ? 30 : n < 36 ? 31 : 32, labelled("%lu bytes of the sheet's table", (unsigned long)n));
+            table_refused(n < 8 ? 30 : n < 36 ? 31 : 32, named("%lu bytes of the sheet's table", (unsigned long)n));
         else
-            table_read(0x30, 2, 0x1FFFFF, 2, labelled("the sheet's table in %lu bytes", (unsigned long)n));
+            table_read(0x30, 2, 0x1FFFFF, 2, named("the sheet's table in %lu bytes", (unsigned long)n));
     }
 }

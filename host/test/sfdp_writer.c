@@ -39,7 +39,7 @@ static void small_erases(void)
                     erases[2 * i] = set >> i & 1 ? 0x0C : others[(k + i) % (sizeof others / sizeof others[0])];
                     erases[2 * i + 1] = (0x21 + 0x36 * i + k) & 0xFF;
                 }
-                taken(set * 0x01020304u + k, erases, 2 * n, labelled("%u types, of 4 KiB those of %X", n, set));
+                taken(set * 0x01020304u + k, erases, 2 * n, named("%u types, of 4 KiB those of %X", n, set));
             }
 }
 
@@ -56,7 +56,7 @@ static void every_pair(void)
             erases[2 * slot] = exponent;
             erases[2 * slot + 1] = opcode;
             taken(exponent * 0x1000193u + opcode, erases, 2 * SLOTS,
-                  labelled("exponent %02lX and opcode %02lX", (unsigned long)exponent, (unsigned long)opcode));
+                  named("exponent %02lX and opcode %02lX", (unsigned long)exponent, (unsigned long)opcode));
             erases[2 * slot] = kept[0];
             erases[2 * slot + 1] = kept[1];
         }
@@ -70,8 +70,8 @@ void written_tables(void)
     small_erases();
     every_pair();
     for (bit = 0; bit < 32; bit++) {
-        taken((uint32_t)1 << bit, own, 4, labelled("bit %u of the density", bit));
-        taken(~((uint32_t)1 << bit), own, 2, labelled("all but bit %u of the density", bit));
+        taken((uint32_t)1 << bit, own, 4, named("bit %u of the density", bit));
+        taken(~((uint32_t)1 << bit), own, 2, named("all but bit %u of the density", bit));
     }
     taken(0, NULL, 0, "an empty record");
     taken(0xFFFFFFFF, NULL, 0, "the highest density");
@@ -96,12 +96,12 @@ static void wrong_numbers(unsigned n, size_t out_len)
                 continue;
             erases[at] = k < TOO_LARGE ? too_large[k] : 0;
             not_written(OWN_DENSITY, erases, 2 * n, out_len,
-                        labelled("%u types, number %u is %lu", n, at, (unsigned long)erases[at]));
+                        named("%u types, number %u is %lu", n, at, (unsigned long)erases[at]));
         }
         erases[at] = 255;
-        taken(OWN_DENSITY, erases, 2 * n, labelled("%u types, number %u is 255", n, at));
+        taken(OWN_DENSITY, erases, 2 * n, named("%u types, number %u is 255", n, at));
         erases[at] = at % 2 == 0 ? 1 : 0;
-        taken(OWN_DENSITY, erases, 2 * n, labelled("%u types, number %u is the lowest", n, at));
+        taken(OWN_DENSITY, erases, 2 * n, named("%u types, number %u is the lowest", n, at));
     }
 }
 
@@ -115,9 +115,9 @@ static void wrong_counts(void)
         erases[n] = n % 2 == 0 ? 0x0C + (uint32_t)n : 0x20 + (uint32_t)n;
     for (n = 0; n <= MOST_ERASES; n++) {
         if (n % 2 == 1 || n > 2 * SLOTS)
-            not_written(OWN_DENSITY, erases, n, SHEET_TABLE, labelled("%lu numbers", (unsigned long)n));
+            not_written(OWN_DENSITY, erases, n, SHEET_TABLE, named("%lu numbers", (unsigned long)n));
         else
-            taken(OWN_DENSITY, erases, n, labelled("%lu numbers", (unsigned long)n));
+            taken(OWN_DENSITY, erases, n, named("%lu numbers", (unsigned long)n));
     }
 }
 
@@ -132,14 +132,14 @@ void refused_records(void)
     }
     wrong_counts();
     for (bit = 32; bit < 64; bit++) {
-        not_written((uint64_t)1 << bit, own, 4, SHEET_TABLE, labelled("bit %u of the density", bit));
-        not_written((uint64_t)1 << bit | OWN_DENSITY, own, 4, SHEET_TABLE, labelled("bit %u and the chip's own", bit));
+        not_written((uint64_t)1 << bit, own, 4, SHEET_TABLE, named("bit %u of the density", bit));
+        not_written((uint64_t)1 << bit | OWN_DENSITY, own, 4, SHEET_TABLE, named("bit %u and the chip's own", bit));
     }
     not_written(UINT64_MAX, NULL, 0, SHEET_TABLE, "the highest number");
     not_written(UINT64_C(4294967296), NULL, 0, SHEET_TABLE, "one more than fits");
     for (out_len = 0; out_len < SHEET_TABLE; out_len++) {
-        not_written(OWN_DENSITY, own, 4, out_len, labelled("a buffer of %lu bytes", (unsigned long)out_len));
-        not_written(OWN_DENSITY, NULL, 0, out_len, labelled("a buffer of %lu bytes, no types", (unsigned long)out_len));
+        not_written(OWN_DENSITY, own, 4, out_len, named("a buffer of %lu bytes", (unsigned long)out_len));
+        not_written(OWN_DENSITY, NULL, 0, out_len, named("a buffer of %lu bytes, no types", (unsigned long)out_len));
     }
 }
 
@@ -176,7 +176,7 @@ void round_trips(void)
             erases[2 * i] = chance(&dice, 30) ? 0x0C : 1 + below(&dice, 255);
             erases[2 * i + 1] = below(&dice, 256);
         }
-        round_trip((uint32_t)roll(&dice), erases, n, labelled("record %u", k));
+        round_trip((uint32_t)roll(&dice), erases, n, named("record %u", k));
     }
 }
 
@@ -219,7 +219,7 @@ void chip_tables(void)
 
             read_chip(t, lengths[k], pieces[i]);
             same_bytes(t, sheet_table(), 0, SHEET_TABLE, "chip's table", "read by 5A");
-            table_read(0x30, 2, OWN_DENSITY, 2, labelled("read by 5A, %lu bytes at a time", (unsigned long)pieces[i]));
+            table_read(0x30, 2, OWN_DENSITY, 2, named("read by 5A, %lu bytes at a time", (unsigned long)pieces[i]));
             written(OWN_DENSITY, own, 4, SHEET_TABLE, t, "the bytes that were read, written");
         }
         read_chip(table_of(84), 84, pieces[i]);
