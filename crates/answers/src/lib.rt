@@ -1,4 +1,6 @@
 // What a call is answered, and the numbers of the answers.
+#![tactic(auto)]
+
 ghost use Rattle.std.specs.Prelude.{◌≡◌};
 ghost use Rattle.answers.specs.Answers.{number_of, is_done, says_protected};
 

@@ -1,4 +1,6 @@
 // The cells of a flash array, whatever chip they are in: a program can only clear bits.
+#![tactic(auto)]
+
 ghost use Rattle.std.specs.Prelude.{◌≡◌, length};
 ghost use Rattle.cells.specs.Cell.{all_hold, anded, torn as Cell·torn, torn_cells};
 

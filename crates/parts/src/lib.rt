@@ -1,4 +1,6 @@
 // Runs of bytes in lent slices: filled, copied, looked at. Nothing here knows a chip or a script.
+#![tactic(auto)]
+
 ghost use Rattle.std.specs.Prelude.{◌≡◌, ◌-◌, ◌≤◌, min, length, get_or, replicate};
 ghost use Rattle.parts.specs.Parts.{all_are, lay};
 

@@ -1,4 +1,6 @@
 // Bytes read round and round: reads that go on at the first address after the last, and patterns over and over.
+#![tactic(auto)]
+
 ghost use Rattle.std.specs.Prelude.{◌≡◌, ◌-◌, ◌%◌, ◌≤◌, ◌<◌, length};
 ghost use Rattle.parts.specs.Parts.{lay};
 ghost use Rattle.rings.specs.Ring.{ring};

@@ -1,4 +1,6 @@
 // The SFDP table of model 2, and what 5A drives of it.
+#![tactic(auto)]
+
 ghost use Rattle.std.specs.Prelude.{◌≡◌, ◌+◌, ◌*◌, ◌-◌, ◌≤◌, ◌<◌, length, get_or};
 ghost use Rattle.parts.specs.Parts.{part, lay, spelt};
 ghost use Rattle.sfdp_image.specs.Image.{image, sfdp_from};

@@ -1,4 +1,6 @@
 // The numbers of the sheets as kinds of their own: addresses, sectors, half blocks and blocks, and addresses of the SFDP table.
+#![tactic(auto)]
+
 ghost use Rattle.std.specs.Prelude.{◌≡◌, ◌<◌};
 ghost use Rattle.units.specs.Kinds.{sector_of, half_block_of, block_of, page_start, page_offset, block_of_sector, block_of_half, first_of_half, first_of_block, sector_start, half_block_start, block_start, sfdp_address};
 

@@ -1,0 +1,16 @@
+-- `text::put_hex` meets its contract: the first i bytes are put.
+use mathlib.Core.Path.{◌≡◌, refl}
+use Prim.Native.Nat.{◌+◌, ◌-◌, ◌*◌, ◌≤◌}
+use native.Mathlib.Omega.{arith}
+use lib.ListN.{length, take, length-set}
+use Rattle.text.specs.Text.{hex_text}
+use Rattle.text.specs.Put.{Put}
+use Rattle.text.proofs.PutLaws.{put-none}
+use Rattle.text.proofs.TextLaws.{hex-more, hex-done}
+use Rattle.text.proofs.put_hex.Given as goal
+
+abbrev pub invariant-loop-i : goal.invariant-loop-i
+invariant-loop-i l = (l.i ≤ length l.bytes) × (length l.out ≡ length l.initial.out) × (l.to ≡ l.at + 2 * l.i) × Put (hex_text (take l.i l.bytes)) l.initial.out l.at l.out l.to
+
+abbrev pub decreases-loop-i : goal.decreases-loop-i
+decreases-loop-i l = length l.bytes - l.i
