@@ -1,4 +1,6 @@
 // The commands: what a byte means, and what the refusals ask of each command.
+#![tactic(auto)]
+
 ghost use Rattle.std.specs.Prelude.{◌≡◌};
 ghost use Rattle.commands.specs.Commands.{look_up, sfdp_read, own as Commands·own, decode_of, row as Commands·row, unknown as Commands·unknown, withdrawn as Commands·withdrawn, most_written, traits_of, length_ok, operation_of, started_by};
 
@@ -224,6 +226,7 @@ fn most_written(register: bool) -> usize
 }
 
 // The command's row of the table. A model with the configuration register takes one data byte more in a status write.
+#[tactic(auto, unfolding(crate::specs::Commands::traits_of))]
 pub fn traits_of(register: bool, c: Command) -> Traits
     ensures { result ≡ traits_of register c }
 {

@@ -1,4 +1,6 @@
 // The models as rows, what is read off a row, and the protected ranges.
+#![tactic(auto)]
+
 ghost use Rattle.std.specs.Prelude.{◌≡◌};
 ghost use Rattle.models.specs.Models.{is_model, is_length, is_sectors, model_of, address_of, range_of, is_protected};
 
