@@ -6,7 +6,7 @@ use commands::Operation;
 
 // The model's number, and its times in microseconds: busy after each operation (that of a half block's erase is 0 on a model that has none), and
 // settling after B9, the short AB and the long AB.
-#[derive(Drop)]
+#[derive(Clone, Copy)]
 pub struct Record {
     pub model: u32,
     pub status_write: u32,
@@ -23,7 +23,7 @@ pub struct Record {
 // SRWD, BP, the write enable latch, the deep power-down flag, the microseconds still busy, the configuration register, the
 // microseconds still to settle; and of the operation that runs its command byte and its address, or how many data bytes a status write has. An idle chip has
 // FF and FFFFFF there.
-#[derive(Drop)]
+#[derive(Clone, Copy)]
 pub struct State {
     pub srwd: bool,
     pub bp: u8,
