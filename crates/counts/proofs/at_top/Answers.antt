@@ -9,14 +9,7 @@ use lib.ListN.{length, get_or, drop, drop_of_length-le}
 use lib.Seq.{drop-cons}
 use borrow.Author.Rules.{rules}
 use Rattle.counts.specs.Counts.{top_count, at_top}
-use Rattle.counts.proofs.at_top.Statement.{statement}
-use Rattle.counts.proofs.at_top.Tie as tie
-
-abbrev invariant-loop : tie.invariant-loop
-invariant-loop counts top₀ i₀ i-end top i = (i ≤ length counts) × (i-end ≡ length counts) × ((top || at_top (drop i counts)) ≡ at_top counts)
-
-abbrev decreases-loop : tie.decreases-loop
-decreases-loop counts top₀ i₀ i-end top i = i-end - i
+use Rattle.counts.proofs.at_top.Goals as goal
 
 -- one count more
 more : (counts : List ℕ) (i : ℕ) (top : Bool) {whole : Bool} → i < length counts → (top || at_top (drop i counts)) ≡ whole
@@ -25,19 +18,14 @@ more counts i top l e =
     let next : i + 1 ≡ suc i = omega arith in
     rw next (or_assoc top (leb top_count (get_or counts i 0)) (at_top (drop (suc i) counts)) ∙ sym (ap (λ d. top || at_top d) (drop-cons counts i 0 l)) ∙ e)
 
-loop-again : tie.Need-loop-preserved invariant-loop decreases-loop
-loop-again c =
-    let h = c.before.before.loop in
-    let s = c.before.before.before.args in
+pub loop-i-preserved : goal.loop-i-preserved
+loop-i-preserved c =
+    let h = c.loop-i in
+    let s = c.args in
     (omega arith, search rules, more s.counts.now h.i h.top (omega arith) h.invariant.2)
 
-returns : tie.Need-returns invariant-loop decreases-loop
+pub returns : goal.returns
 returns c =
-    let h = c.before.loop in
-    let s = c.before.before.args in
+    let h = c.loop-i in
+    let s = c.args in
     sym (or-false h.top) ∙ sym (ap (λ d. h.top || at_top d) (drop_of_length-le s.counts.now {i = h.i} (omega arith))) ∙ h.invariant.2
-
-pub at-top-spec : {M : Type 1} → statement M
-at-top-spec =
-    tie.close
-    (tie.spec invariant-loop decreases-loop (λ c. (omega arith, refl, refl)) (λ c. omega arith) (λ c. omega arith) (λ c. omega arith) (λ c. omega arith) loop-again returns)
