@@ -10,7 +10,7 @@ pub loop-i-init : goal.loop-i-init
 loop-i-init c = (omega arith, refl, omega arith, put-none _ _ (omega arith))
 
 pub digit-requires : goal.digit-requires
-digit-requires c = omega (arith, c.shared_slice_known-in-loop-i-1.given c.loop-i.i)
+digit-requires c = omega (arith, c.type_inv.bytes c.loop-i.i)
 
 pub bounds-out-to-in-loop-i : goal.bounds-out-to-in-loop-i
 bounds-out-to-in-loop-i c = simp length-set (omega arith)
