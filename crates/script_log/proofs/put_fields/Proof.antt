@@ -1,10 +1,10 @@
--- `log::put_fields` meets its contract: each field is put where the last one ended.
+-- `script_log::put_fields` meets its contract: each field is put where the last one ended.
 use mathlib.Core.List.{append_assoc}
 use borrow.Author.Rules.{rules}
 use Rattle.text.proofs.PutLaws.{put_as, put_then}
-use Rattle.log.specs.Row.{log_text}
-use Rattle.log.proofs.put_fields.Statement.{statement}
-use Rattle.log.proofs.put_fields.Tie as tie
+use Rattle.script_log.specs.Row.{log_text}
+use Rattle.script_log.proofs.put_fields.Statement.{statement}
+use Rattle.script_log.proofs.put_fields.Tie as tie
 
 returns : tie.Need-returns
 unfolding log_text

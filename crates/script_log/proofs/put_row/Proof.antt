@@ -1,10 +1,10 @@
--- `log::put_row` meets its contract.
+-- `script_log::put_row` meets its contract.
 use mathlib.Core.Path.{sym, ◌∙◌}
 use borrow.Author.Rules.{rules}
 use borrow.Author.Tests.{leb-true, not-true, not-false}
-use Rattle.log.proofs.Laws.{rowed-no, rowed-yes}
-use Rattle.log.proofs.put_row.Statement.{statement}
-use Rattle.log.proofs.put_row.Tie as tie
+use Rattle.script_log.proofs.Laws.{rowed-no, rowed-yes}
+use Rattle.script_log.proofs.put_row.Statement.{statement}
+use Rattle.script_log.proofs.put_row.Tie as tie
 
 returns : tie.Need-returns
 returns c = rowed-no _ _ _ _ (sym c.before.fits2.ensures ∙ not-true _ c.if1.true)

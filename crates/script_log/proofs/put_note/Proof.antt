@@ -1,8 +1,8 @@
--- `log::put_note` meets its contract.
+-- `script_log::put_note` meets its contract.
 use borrow.Author.Rules.{rules}
 use Rattle.text.proofs.PutLaws.{put_as}
-use Rattle.log.proofs.put_note.Statement.{statement}
-use Rattle.log.proofs.put_note.Tie as tie
+use Rattle.script_log.proofs.put_note.Statement.{statement}
+use Rattle.script_log.proofs.put_note.Tie as tie
 
 returns : tie.Need-returns
 returns c = put_as c.before.before.put_all.ensures (rw c.before.before.before.before.before.if1.true)

@@ -10,7 +10,7 @@ use borrow.Author.Tests.{le-leb, lt-leb, leb-true, leb-false}
 use Rattle.text.specs.Put.{Put}
 use Rattle.text.specs.Text.{hex_text, decimal_text}
 use Rattle.text.proofs.TextLaws.{length-hex_text, decimal-few}
-use Rattle.log.specs.Row.{from_text, bytes_text, log_text, room_of, Rowed, OneRowed, note_text}
+use Rattle.script_log.specs.Row.{from_text, bytes_text, log_text, room_of, Rowed, OneRowed, note_text}
 
 pub fits_in : (at fixed n len : ℕ) → at ≤ len → fixed ≤ len - at → leb n ((len - at - fixed) / 2) ≡ leb (at + (2 * n + fixed)) len
 fits_in at fixed n len l m = go (leb (at + (2 * n + fixed)) len) refl

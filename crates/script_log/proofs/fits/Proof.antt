@@ -1,8 +1,8 @@
--- `log::fits` meets its contract.
+-- `script_log::fits` meets its contract.
 use native.Mathlib.Omega.{arith}
-use Rattle.log.proofs.Laws.{fits_in, fits_not}
-use Rattle.log.proofs.fits.Statement.{statement}
-use Rattle.log.proofs.fits.Tie as tie
+use Rattle.script_log.proofs.Laws.{fits_in, fits_not}
+use Rattle.script_log.proofs.fits.Statement.{statement}
+use Rattle.script_log.proofs.fits.Tie as tie
 
 returns : tie.Need-returns
 returns c = let a = c.before.args in fits_not a.at a.fixed a.n a.len (omega arith)

@@ -1,10 +1,10 @@
--- `log::put_from` meets its contract.
+-- `script_log::put_from` meets its contract.
 use native.Mathlib.Omega.{arith}
 use borrow.Author.Rules.{rules}
 use borrow.Author.Tests.{ne_eqb}
 use Rattle.text.proofs.PutLaws.{put_as}
-use Rattle.log.proofs.put_from.Statement.{statement}
-use Rattle.log.proofs.put_from.Tie as tie
+use Rattle.script_log.proofs.put_from.Statement.{statement}
+use Rattle.script_log.proofs.put_from.Tie as tie
 
 returns : tie.Need-returns
 returns c =

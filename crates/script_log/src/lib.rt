@@ -1,7 +1,7 @@
 // The log of a script: a header, and a row for each line. A row that would not fit is not begun.
 ghost use Rattle.std.specs.Prelude.{◌+◌, ◌*◌, ◌≤◌, ◌≡◌, length, leb};
 ghost use Rattle.text.specs.Put.{Put};
-ghost use Rattle.log.specs.Row.{header_text, from_text, bytes_text, last_text, log_text, room_of, Rowed};
+ghost use Rattle.script_log.specs.Row.{header_text, from_text, bytes_text, last_text, log_text, room_of, Rowed};
 
 // The longest row of a script, `longest_row`: a log with less room left is written out first.
 pub const LONGEST_ROW: usize = 670;

@@ -1,11 +1,11 @@
--- `log::put_driven` meets its contract.
+-- `script_log::put_driven` meets its contract.
 use native.Mathlib.Omega.{arith}
 use borrow.Author.Rules.{rules}
 use borrow.Author.Tests.{ne_eqb}
 use Rattle.text.proofs.PutLaws.{put_as}
 use Rattle.text.proofs.TextLaws.{length-hex_text}
-use Rattle.log.proofs.put_driven.Statement.{statement}
-use Rattle.log.proofs.put_driven.Tie as tie
+use Rattle.script_log.proofs.put_driven.Statement.{statement}
+use Rattle.script_log.proofs.put_driven.Tie as tie
 
 returns : tie.Need-returns
 returns c =
