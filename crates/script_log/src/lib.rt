@@ -1,4 +1,6 @@
 // The log of a script: a header, and a row for each line. A row that would not fit is not begun.
+#![tactic(auto)]
+
 ghost use Rattle.std.specs.Prelude.{◌+◌, ◌*◌, ◌≤◌, ◌≡◌, length, leb};
 ghost use Rattle.text.specs.Put.{Put};
 ghost use Rattle.script_log.specs.Row.{header_text, from_text, bytes_text, last_text, log_text, room_of, Rowed};
