@@ -1,4 +1,6 @@
 // The SFDP table: a host's reader over any bytes, and the writer. Nothing here knows a chip.
+#![tactic(auto)]
+
 ghost use Rattle.std.specs.Prelude.{cond, ◌≡◌, ◌∷◌, [], ◌+◌, ◌*◌, ◌≤◌, ◌<◌, ◌^◌, eqb, length, get_or};
 ghost use Rattle.parts.specs.Parts.{spelt};
 ghost use Rattle.sfdp.specs.Sfdp.{is_signed, headers_of, words_of, pointer_of, is_long, is_out, some_below, table_refusal, density_at, erases_at, contents_of, revision_of, header_of, erase_of, erase_type, entry, pairs, small_bits, small_opcode, image_of, fits_slot, is_list, table_for, Writes, TakenList};
@@ -8,7 +10,7 @@ use parts::wide;
 use units::SfdpAddress;
 
 // What a host reads of the whole: how many parameter headers, the density field, how many erase types.
-#[derive(Drop)]
+#[derive(Clone, Copy)]
 pub struct Contents {
     pub answer: Answer,
     pub headers: u32,
@@ -17,7 +19,7 @@ pub struct Contents {
 }
 
 // The table's revision.
-#[derive(Drop)]
+#[derive(Clone, Copy)]
 pub struct Version {
     pub answer: Answer,
     pub minor: u32,
@@ -25,7 +27,7 @@ pub struct Version {
 }
 
 // One parameter header: its table's owner, revision, length in double words and start.
-#[derive(Drop)]
+#[derive(Clone, Copy)]
 pub struct Parameter {
     pub answer: Answer,
     pub id: u32,
@@ -36,7 +38,7 @@ pub struct Parameter {
 }
 
 // One slot for an erase type.
-#[derive(Drop)]
+#[derive(Clone, Copy)]
 pub struct Slot {
     pub answer: Answer,
     pub exponent: u32,
@@ -86,7 +88,7 @@ fn pointer(bytes: &[u8], i: usize) -> u32
 }
 
 // What the tables of the headers show: whether some is longer than the bytes, and whether some leaves them.
-#[derive(Drop)]
+#[derive(Clone, Copy)]
 struct Seen {
     long: bool,
     leaves: bool,
