@@ -1,5 +1,7 @@
 // Levels of CS#, SCLK, SI, WP# and HOLD#, sample by sample (Req 07): bits on rising clocks, bytes in a lent buffer, a frame when CS# rises. Nothing here knows a
 // chip.
+#![tactic(auto)]
+
 ghost use Rattle.std.specs.Prelude.{◌≡◌};
 ghost use Rattle.pins.specs.Pins.{is_held, front_ok, Sound, silent, refused, idle, in_frame, risen_of, clocked_of, step_of, stepped_of, Senses, Clocks};
 
@@ -8,7 +10,7 @@ use parts::wide;
 
 // What is remembered: CS# and SCLK of the last sample and whether it was held; within a frame WP# at the fall, whether it has outgrown, the bits of the byte
 // begun with their value, and the whole bytes so far.
-#[derive(Drop)]
+#[derive(Clone, Copy)]
 pub struct Front {
     pub select: bool,
     pub clock: bool,
@@ -21,7 +23,7 @@ pub struct Front {
 }
 
 // What is told of a sample: an answer, and of a frame that is handed over its whole bytes, its tail bits and WP#.
-#[derive(Drop)]
+#[derive(Clone, Copy)]
 pub struct Told {
     pub answer: Answer,
     pub ready: bool,
