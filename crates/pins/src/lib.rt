@@ -32,7 +32,7 @@ pub struct Told {
     pub wp: bool,
 }
 
-#[derive(Drop)]
+#[derive(Clone, Copy)]
 pub struct Stepped {
     pub front: Front,
     pub told: Told,

@@ -1,4 +1,6 @@
 // The lines of a script: what a line says, and the bytes of a frame's line.
+#![tactic(auto)]
+
 mod hex;
 
 ghost use Rattle.std.specs.Prelude.{◌≡◌, drop};
@@ -10,7 +12,7 @@ use hex::{is_digit, is_hex};
 use parts::byte_at;
 
 // What a line says. A bad line is answered 20.
-#[derive(Drop)]
+#[derive(Clone, Copy)]
 pub enum Line {
     // WP# high or low, the tail bits, and how many bytes stand in hex from byte 6 of the line on
     Frame { wp: bool, tail: u8, count: usize },

@@ -92,7 +92,7 @@ fn driven(line: Line, text: &[u8], bytes: &mut [u8]) -> usize {
 // The row of a line that drives the first n of bytes.
 fn put(number: u64, line: Line, bytes: &[u8], n: usize, out: &mut [u8]) -> usize {
     if n <= bytes.len() {
-        log::put_row(
+        script_log::put_row(
             number,
             answer(line),
             position(line),
@@ -125,7 +125,7 @@ fn held_done(number: u64, held: &[u8], n: usize) {
 }
 
 // What goes on from block to block: the number of the next line, and how many bytes of it are held.
-#[derive(Drop)]
+#[derive(Clone, Copy)]
 struct Run {
     number: u64,
     used: usize,
@@ -159,7 +159,7 @@ fn feed(run: Run, block: &[u8], held: &mut [u8]) -> Run {
     Run { number, used }
 }
 
-#[derive(Drop)]
+#[derive(Clone, Copy)]
 struct Turn {
     run: Run,
     on: bool,
@@ -207,7 +207,7 @@ fn run_all(block: &mut [u8], held: &mut [u8]) {
 
 fn main() {
     let mut top = [0u8; 64];
-    let end = log::put_header(&mut top, 0);
+    let end = script_log::put_header(&mut top, 0);
     flush(&top, end);
     let mut block = [0u8; 97];
     let mut held = [0u8; 641];
