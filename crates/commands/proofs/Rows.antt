@@ -11,7 +11,7 @@ use Rattle.commands.specs.declared.Operation.TheVariants.{Idle, WritesStatus, Pr
 use Rattle.commands.specs.declared.Traits.{Traits}
 use Rattle.commands.specs.declared.Command.{Command}
 use Rattle.commands.specs.declared.Command.TheVariants.{WriteEnable, WriteDisable, ReadStatus, ReadConfig, WriteStatus, Read, FastRead, EraseSector, EraseHalf, EraseBlock, EraseChip, Program, ReadId, Wake, ReadMaker, Sleep, Unknown, Withdrawn, ReadSfdp}
-use Rattle.commands.specs.Commands.{Byte, ◌is◌, common, own, look_up, traits_of, length_ok, fewest, operation_of, decode_of, started_by, most_written}
+use Rattle.commands.specs.Commands.{Byte, ◌is◌, common, look_up, traits_of, length_ok, fewest, operation_of, decode_of, started_by, most_written}
 
 -- ---- which lengths are allowed
 module _ (k : Traits) (n : ℕ) where

@@ -1,8 +1,10 @@
 // The commands: what a byte means, and what the refusals ask of each command.
+#![tactic(auto)]
+
 ghost use Rattle.std.specs.Prelude.{◌≡◌};
 ghost use Rattle.commands.specs.Commands.{look_up, sfdp_read, own as Commands·own, decode_of, row as Commands·row, unknown as Commands·unknown, withdrawn as Commands·withdrawn, most_written, traits_of, length_ok, operation_of, started_by};
 
-#[derive(Drop)]
+#[derive(Clone, Copy)]
 pub enum Command {
     WriteEnable,
     WriteDisable,
@@ -79,7 +81,7 @@ pub fn decode(model: u32, byte: u8) -> Command
 }
 
 // What keeps a chip busy; Idle where nothing does.
-#[derive(Drop)]
+#[derive(Clone, Copy)]
 pub enum Operation {
     Idle,
     WritesStatus,
@@ -127,7 +129,7 @@ pub fn started_by(model: u32, byte: u8) -> Operation
 // What the refusals ask of a command: whether it is one, and whether it is withdrawn; whether it is taken while busy and while
 // asleep; whether it needs WEL, heeds SRWD, and changes one unit or the whole chip; its frame: low to high bytes without tail, or
 // least bytes and more with any tail.
-#[derive(Drop)]
+#[derive(Clone, Copy)]
 pub struct Traits {
     pub known: bool,
     pub withdrawn: bool,
@@ -224,6 +226,7 @@ fn most_written(register: bool) -> usize
 }
 
 // The command's row of the table. A model with the configuration register takes one data byte more in a status write.
+#[tactic(auto, unfolding(crate::specs::Commands::traits_of))]
 pub fn traits_of(register: bool, c: Command) -> Traits
     ensures { result ≡ traits_of register c }
 {

@@ -8,7 +8,7 @@ use commands::Operation;
 use units::{Address, Sector};
 
 // A run of sectors: the first, and how many.
-#[derive(Drop)]
+#[derive(Clone, Copy)]
 pub struct Sectors {
     pub first: Sector,
     pub count: usize,
@@ -82,7 +82,7 @@ pub fn count(wear: &mut [u32], op: Operation, at: Address) -> bool
 // ---- the report
 
 // What is known of a table: the sum of its counts, the smallest, and the largest with the first sector that has it.
-#[derive(Drop)]
+#[derive(Clone, Copy)]
 pub struct Sums {
     pub total: u64,
     pub smallest: u32,
@@ -142,7 +142,7 @@ fn sum_up(wear: &[u32]) -> Sums
 }
 
 // What the wear sheet says of a table: total, smallest, largest with its first sector, and the mean as a quotient and a remainder.
-#[derive(Drop)]
+#[derive(Clone, Copy)]
 pub struct Figures {
     pub answer: Answer,
     pub total: u64,

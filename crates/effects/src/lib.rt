@@ -8,7 +8,7 @@ use states::{Record, State};
 use units::Address;
 
 // What a frame is answered: the answer, the first driven position and how many bytes are driven, the state after, and whether a program folded.
-#[derive(Drop)]
+#[derive(Clone, Copy)]
 pub struct Reply {
     pub answer: Answer,
     pub from: u32,

@@ -10,7 +10,7 @@ use stepper::Logged;
 
 // What goes on from line to line: the chip's state, the number of the next line, how many bytes of it are held from the blocks before,
 // the place in the block, and how much of the log is filled.
-#[derive(Drop)]
+#[derive(Clone, Copy)]
 pub struct Run {
     pub chip: State,
     pub number: u64,

@@ -10,7 +10,7 @@ use feed::Run;
 use states::Record;
 
 // How far it came, whether to go on, and whether all went well.
-#[derive(Drop)]
+#[derive(Clone, Copy)]
 pub struct Next {
     pub run: Run,
     pub on: bool,

@@ -10,7 +10,7 @@ use units::Address;
 // What the refusals look at of one frame: the cells of the array and the counts of the wear table that it is given, whether the page data fit the state, its whole bytes,
 // tail bits and WP# level, the room of its output, its command, its address in the array, whether it
 // programs over old data under the strict setting, and whether it erases a sector whose count is at its top.
-#[derive(Drop)]
+#[derive(Clone, Copy)]
 pub struct Head {
     pub cells: usize,
     pub sectors: usize,

@@ -5,7 +5,7 @@ ghost use Rattle.std.specs.Prelude.{◌≡◌};
 ghost use Rattle.lines.specs.Cutting.{end_of, held_with, used_of, Cuts};
 
 // What stands in a block from a place on.
-#[derive(Drop)]
+#[derive(Clone, Copy)]
 pub enum Cut {
     // a whole line, up to the newline at `end`
     Here { end: usize },

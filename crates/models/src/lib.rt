@@ -1,4 +1,6 @@
 // The models as rows, what is read off a row, and the protected ranges.
+#![tactic(auto)]
+
 ghost use Rattle.std.specs.Prelude.{◌≡◌};
 ghost use Rattle.models.specs.Models.{is_model, is_length, is_sectors, model_of, address_of, range_of, is_protected};
 
@@ -7,7 +9,7 @@ use units::{Address, Block};
 
 // A model's row: the array's length in bytes, sectors, half blocks and blocks; the highest BP; whether it has the configuration register and the
 // erase of a half block, and whether WEL falls when a unit is protected; the three identification bytes and the signature.
-#[derive(Drop)]
+#[derive(Clone, Copy)]
 pub struct Model {
     pub length: u32,
     pub sectors: u32,
@@ -24,7 +26,7 @@ pub struct Model {
 }
 
 // Protected blocks: the first, and how many.
-#[derive(Drop)]
+#[derive(Clone, Copy)]
 pub struct Range(pub Block, pub u32);
 
 // The models' rows.

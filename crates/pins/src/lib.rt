@@ -8,7 +8,7 @@ use parts::wide;
 
 // What is remembered: CS# and SCLK of the last sample and whether it was held; within a frame WP# at the fall, whether it has outgrown, the bits of the byte
 // begun with their value, and the whole bytes so far.
-#[derive(Drop)]
+#[derive(Clone, Copy)]
 pub struct Front {
     pub select: bool,
     pub clock: bool,
@@ -21,7 +21,7 @@ pub struct Front {
 }
 
 // What is told of a sample: an answer, and of a frame that is handed over its whole bytes, its tail bits and WP#.
-#[derive(Drop)]
+#[derive(Clone, Copy)]
 pub struct Told {
     pub answer: Answer,
     pub ready: bool,
@@ -30,7 +30,7 @@ pub struct Told {
     pub wp: bool,
 }
 
-#[derive(Drop)]
+#[derive(Clone, Copy)]
 pub struct Stepped {
     pub front: Front,
     pub told: Told,

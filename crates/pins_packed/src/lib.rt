@@ -9,7 +9,7 @@ use parts::wide;
 use pins::{Front, Told};
 
 // What a call comes to: what is told, and how many samples were taken.
-#[derive(Drop)]
+#[derive(Clone, Copy)]
 pub struct Probe {
     pub told: Told,
     pub used: usize,

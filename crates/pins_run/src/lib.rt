@@ -8,14 +8,14 @@ use parts::wide;
 use pins::{Front, Told};
 
 // What a run of samples comes to, and how many of them it took.
-#[derive(Drop)]
+#[derive(Clone, Copy)]
 pub struct Ran {
     pub front: Front,
     pub told: Told,
     pub used: usize,
 }
 
-#[derive(Drop)]
+#[derive(Clone, Copy)]
 struct Reached {
     front: Front,
     at: usize,

@@ -8,7 +8,7 @@ use states::{Record, State};
 use time::After;
 
 // What a line came to: the answer's number, the first driven position and how many bytes are driven, the state after, and whether a program folded.
-#[derive(Drop)]
+#[derive(Clone, Copy)]
 pub struct Played {
     pub answer: u32,
     pub from: u32,

@@ -5,7 +5,7 @@ ghost use Rattle.rewrite_blocks.specs.Blocks.{first_progress, passage, progress_
 
 // What goes on from block to block: the number of the line that is open, and whether its first bytes, over 640, are written already. The output
 // is to be written up to `at`, and from there up to `end` it is held; the report is filled up to `told`.
-#[derive(Drop)]
+#[derive(Clone, Copy)]
 pub struct Progress {
     pub number: u64,
     pub long: bool,
@@ -15,14 +15,14 @@ pub struct Progress {
 }
 
 // A block was taken, or a lent buffer is too short and nothing was done.
-#[derive(Drop)]
+#[derive(Clone, Copy)]
 pub enum Step {
     Took(Progress),
     NoRoom,
 }
 
 // The lines that ended in some bytes: where they end, and what is known of the line after them.
-#[derive(Drop)]
+#[derive(Clone, Copy)]
 struct Passed {
     at: usize,
     number: u64,

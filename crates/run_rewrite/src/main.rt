@@ -4,7 +4,7 @@ use libc::{STDERR_FILENO, STDIN_FILENO, STDOUT_FILENO};
 use rewrite_blocks::{Progress, Step};
 
 // How far it came, and whether to go on.
-#[derive(Drop)]
+#[derive(Clone, Copy)]
 struct Next {
     run: Progress,
     on: bool,

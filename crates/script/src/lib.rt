@@ -10,7 +10,7 @@ use hex::{is_digit, is_hex};
 use parts::byte_at;
 
 // What a line says. A bad line is answered 20.
-#[derive(Drop)]
+#[derive(Clone, Copy)]
 pub enum Line {
     // WP# high or low, the tail bits, and how many bytes stand in hex from byte 6 of the line on
     Frame { wp: bool, tail: u8, count: usize },

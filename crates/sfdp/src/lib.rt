@@ -8,7 +8,7 @@ use parts::wide;
 use units::SfdpAddress;
 
 // What a host reads of the whole: how many parameter headers, the density field, how many erase types.
-#[derive(Drop)]
+#[derive(Clone, Copy)]
 pub struct Contents {
     pub answer: Answer,
     pub headers: u32,
@@ -17,7 +17,7 @@ pub struct Contents {
 }
 
 // The table's revision.
-#[derive(Drop)]
+#[derive(Clone, Copy)]
 pub struct Version {
     pub answer: Answer,
     pub minor: u32,
@@ -25,7 +25,7 @@ pub struct Version {
 }
 
 // One parameter header: its table's owner, revision, length in double words and start.
-#[derive(Drop)]
+#[derive(Clone, Copy)]
 pub struct Parameter {
     pub answer: Answer,
     pub id: u32,
@@ -36,7 +36,7 @@ pub struct Parameter {
 }
 
 // One slot for an erase type.
-#[derive(Drop)]
+#[derive(Clone, Copy)]
 pub struct Slot {
     pub answer: Answer,
     pub exponent: u32,
@@ -86,7 +86,7 @@ fn pointer(bytes: &[u8], i: usize) -> u32
 }
 
 // What the tables of the headers show: whether some is longer than the bytes, and whether some leaves them.
-#[derive(Drop)]
+#[derive(Clone, Copy)]
 struct Seen {
     long: bool,
     leaves: bool,

@@ -1,4 +1,6 @@
 // Records, states, page data and the status byte.
+#![tactic(auto)]
+
 ghost use Rattle.std.specs.Prelude.{◌≡◌, ◌&&◌, max, ◌<◌, ◌≤◌, leb};
 ghost use Rattle.states.specs.States.{in_range, half_ok, record_ok, longest_settle, config_ok, operation_time, place_ok, level_ok, idle_ok, runs_ok, state_ok, used_bytes, page_fits, page_ok, tb_of, flag as States·flag, status_of, power_on, bench_kh25l512, bench_kh25l2006e, bench_kh25l12845g};
 
@@ -6,7 +8,7 @@ use commands::Operation;
 
 // The model's number, and its times in microseconds: busy after each operation (that of a half block's erase is 0 on a model that has none), and
 // settling after B9, the short AB and the long AB.
-#[derive(Drop)]
+#[derive(Clone, Copy)]
 pub struct Record {
     pub model: u32,
     pub status_write: u32,
@@ -23,7 +25,7 @@ pub struct Record {
 // SRWD, BP, the write enable latch, the deep power-down flag, the microseconds still busy, the configuration register, the
 // microseconds still to settle; and of the operation that runs its command byte and its address, or how many data bytes a status write has. An idle chip has
 // FF and FFFFFF there.
-#[derive(Drop)]
+#[derive(Clone, Copy)]
 pub struct State {
     pub srwd: bool,
     pub bp: u8,

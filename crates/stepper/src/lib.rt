@@ -53,7 +53,7 @@ pub fn stepped(
 }
 
 // The place past the row, and the state after.
-#[derive(Drop)]
+#[derive(Clone, Copy)]
 pub struct Logged {
     pub next: usize,
     pub state: State,

@@ -125,7 +125,7 @@ fn held_done(number: u64, held: &[u8], n: usize) {
 }
 
 // What goes on from block to block: the number of the next line, and how many bytes of it are held.
-#[derive(Drop)]
+#[derive(Clone, Copy)]
 struct Run {
     number: u64,
     used: usize,
@@ -159,7 +159,7 @@ fn feed(run: Run, block: &[u8], held: &mut [u8]) -> Run {
     Run { number, used }
 }
 
-#[derive(Drop)]
+#[derive(Clone, Copy)]
 struct Turn {
     run: Run,
     on: bool,

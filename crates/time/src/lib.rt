@@ -11,7 +11,7 @@ use commands::Operation;
 use states::{Record, State};
 
 // What a wait, a power cycle or a cut is answered, and the state after.
-#[derive(Drop)]
+#[derive(Clone, Copy)]
 pub struct After {
     pub answer: Answer,
     pub state: State,

@@ -5,19 +5,19 @@ ghost use Rattle.std.specs.Prelude.{◌≡◌, ◌<◌};
 ghost use Rattle.units.specs.Kinds.{sector_of, half_block_of, block_of, page_start, page_offset, block_of_sector, block_of_half, first_of_half, first_of_block, sector_start, half_block_start, block_start, sfdp_address};
 
 // A byte address, the numbers of a sector, of a half block of 32 KiB and of a block, and an address of the SFDP table: five kinds, so that none passes for another.
-#[derive(Drop)]
+#[derive(Clone, Copy)]
 pub struct Address(pub u32);
 
-#[derive(Drop)]
+#[derive(Clone, Copy)]
 pub struct Sector(pub u32);
 
-#[derive(Drop)]
+#[derive(Clone, Copy)]
 pub struct HalfBlock(pub u32);
 
-#[derive(Drop)]
+#[derive(Clone, Copy)]
 pub struct Block(pub u32);
 
-#[derive(Drop)]
+#[derive(Clone, Copy)]
 pub struct SfdpAddress(pub u32);
 
 impl Address {

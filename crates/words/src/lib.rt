@@ -5,7 +5,7 @@ ghost use Rattle.words.specs.Words.{same_text, wish_of, is_strict, without_stric
 use libc::{STDERR_FILENO, STDOUT_FILENO};
 
 // What they ask for: a run, with the strict setting off or on, or how the program is used; or nothing that it knows.
-#[derive(Drop)]
+#[derive(Clone, Copy)]
 pub enum Wish {
     Run,
     Strict,

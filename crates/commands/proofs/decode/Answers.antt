@@ -1,7 +1,6 @@
 -- `commands::decode` meets its contract.
 use mathlib.Core.Path.{◌∙◌}
 use borrow.Author.Tests.{ne_eqb}
-use borrow.Author.Rules.{rules}
 use Rattle.commands.specs.Commands.{decode_of}
 use Rattle.commands.proofs.decode.Goals as goal
 

@@ -1,7 +1,6 @@
 -- `commands::started_by` meets its contract.
 use mathlib.Core.Path.{ap, ◌∙◌}
 use Rattle.commands.specs.Commands.{operation_of}
-use borrow.Author.Rules.{rules}
 use Rattle.commands.proofs.started_by.Goals as goal
 
 pub returns : goal.returns

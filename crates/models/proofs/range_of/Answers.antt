@@ -4,7 +4,6 @@ use mathlib.Core.Bool.{Bool, true, false, not, ◌&&◌, ◌||◌}
 use Prim.Native.Nat.{ℕ, ◌≤◌}
 use native.Mathlib.Omega.{arith}
 use lib.Dec.{ltb}
-use borrow.Author.Rules.{rules}
 use Rattle.models.specs.declared.Model.{Model}
 use Rattle.models.specs.Models.{model_of, range, range_of}
 use Rattle.models.proofs.Rules.{range-bottom, range-top, range_all, no-range, out_of_range, in-range, highest-bp}
@@ -26,13 +25,10 @@ returns-then-row-bp c =
     let a = c.args in
     none a.number a.bottom a.bp _ c.model_of-row.ensures c.if-row-bp.true
 
--- TODO no goal for overflow-shl-most
--- shl_most : tie.Need-overflow-shl-most
--- shl_most c =
---     let m = c.before.before.before in
---     let a = m.before.args in
---     omega (arith, (some a.number a.bottom a.bp _ m.model_of.ensures c.if1.false).0, highest-bp a.number)
---
+pub overflow_shl-most : goal.overflow_shl-most
+overflow_shl-most c =
+    let a = c.args in
+    omega (arith, (some a.number a.bottom a.bp _ c.model_of-row.ensures c.if-row-bp.false).0, highest-bp a.number)
 
 pub returns-then-row-most : goal.returns-then-row-most
 returns-then-row-most c =

@@ -6,8 +6,7 @@ use lib.Dec.{eqb}
 use borrow.Author.Tests.{ne_eqb}
 use Rattle.states.specs.States.{config_ok}
 use Rattle.states.proofs.States.{config-0-ok}
-use Rattle.states.proofs.config_ok.Statement.{statement}
-use Rattle.states.proofs.config_ok.Tie as tie
+use Rattle.states.proofs.config_ok.Goals as goal
 
 -- without the register only 0 is right
 with-some : (register : Bool) (config : ℕ) → (config ≡ 0 → ⊥) → (register && (eqb (config / 32 % 2) 0 && eqb (config / 4 % 2) 0)) ≡ config_ok register config
@@ -15,11 +14,8 @@ unfolding config_ok
 with-some true config n = refl
 with-some false config n = sym (ne_eqb config 0 n)
 
-returns : tie.Need-returns
-returns c = sym (ap (config_ok c.before.args.register) c.if1.true ∙ config-0-ok c.before.args.register)
+pub returns-then-config-eq0 : goal.returns-then-config-eq0
+returns-then-config-eq0 c = sym (ap (config_ok c.args.register) c.if-config-eq0.true ∙ config-0-ok c.args.register)
 
-returns-2 : tie.Need-returns-2
-returns-2 c = with-some c.before.args.register c.before.args.config c.if1.false
-
-pub config-ok-spec : {M : Type 1} → statement M
-config-ok-spec = tie.close (tie.spec returns returns-2)
+pub returns : goal.returns
+returns c = with-some c.args.register c.args.config c.if-config-eq0.false
