@@ -14,7 +14,7 @@ use Rattle.packing.specs.Packing.{packed, page_in, is_packing, unpack_of}
 use Rattle.packing.proofs.Packing.{packing-length}
 use Rattle.fits.proofs.Lent.{packing-small, page-long, page-lent, back-page, back-length}
 use Rattle.lines.specs.Cutting.{held_room}
-use Rattle.log.specs.Row.{longest_row}
+use Rattle.script_log.specs.Row.{longest_row}
 use Rattle.feed.specs.declared.Run.{Run}
 use Rattle.feed.specs.Feed.{Start, Stand, standing, feed_of, last_of, Stands}
 use Rattle.feed.proofs.Feeds.{feed-feeds}

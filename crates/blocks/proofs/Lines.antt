@@ -21,7 +21,7 @@ use Rattle.script.specs.Reading.{line_of}
 use Rattle.lines.specs.declared.Cut.{Cut}
 use Rattle.lines.specs.declared.Cut.TheVariants.{Here, Joined, Open}
 use Rattle.lines.specs.Cutting.{cut_of, held_of}
-use Rattle.log.specs.Row.{longest_row}
+use Rattle.script_log.specs.Row.{longest_row}
 use Rattle.play.specs.Play.{Turn, frame_turn, turn_of}
 use Rattle.feed.specs.Feed.{Stand, line_done, cut_turn, feed_turn, feed_for, feed_of, last_of}
 

@@ -12,7 +12,7 @@ use Rattle.states.specs.declared.Record.{Record}
 use Rattle.packing.proofs.Packing.{page-packed, unpack-pack}
 use Rattle.lines.specs.Lines.{lines_from, last_line}
 use Rattle.lines.specs.Cutting.{Holds}
-use Rattle.log.specs.Row.{longest_row}
+use Rattle.script_log.specs.Row.{longest_row}
 use Rattle.stepper.specs.Rows.{log_from}
 use Rattle.feed.specs.Feed.{Stand, chip_now, feed_of, last_of}
 use Rattle.feed.specs.Fed.{Did}

@@ -3,7 +3,7 @@ use Rattle.std.specs.Prelude.{Bool, true, ◌&&◌, cond, List, ◌≡◌, ℕ, 
 use Rattle.states.specs.declared.Record.{Record}
 use Rattle.packing.specs.Packing.{packed, page_in, is_packing, unpack_of}
 use Rattle.lines.specs.Cutting.{held_room}
-use Rattle.log.specs.Row.{longest_row}
+use Rattle.script_log.specs.Row.{longest_row}
 use Rattle.feed.specs.declared.Run.{Run}
 use Rattle.feed.specs.Feed.{Stand, standing, feed_of, last_of}
 

@@ -99,7 +99,7 @@ pub fn last(
     ensures { LeavesLast (played_last rec strict (lending state.old array.old wear.old held.now used.old line.old log.old)) result state.new array.new wear.new used.new line.new log.new written.new }
 {
     *written = 0;
-    let refused = refusal(state, held.len(), *used, log::LONGEST_ROW <= log.len());
+    let refused = refusal(state, held.len(), *used, script_log::LONGEST_ROW <= log.len());
     if refused != 0 {
         return refused;
     }

@@ -4,7 +4,7 @@ use Rattle.states.specs.declared.Record.{Record}
 use Rattle.lines.specs.Cutting.{held_room, Holds}
 use Rattle.lines.proofs.Says.{holds-none}
 use Rattle.text.proofs.PutLaws.{put_same}
-use Rattle.log.specs.Row.{longest_row}
+use Rattle.script_log.specs.Row.{longest_row}
 use Rattle.feed.specs.declared.Run.{Run}
 use Rattle.feed.specs.Feed.{Start, Stand, standing, feed_of, Stands}
 use Rattle.feed.specs.Fed.{Fed}

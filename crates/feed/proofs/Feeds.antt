@@ -11,7 +11,7 @@ use Rattle.stepper.specs.declared.Logged.{Logged}
 use Rattle.play.specs.Play.{Turn}
 use Rattle.stepper.specs.Rows.{Device, line_turn, row_text, chip_after, log_from, device_from}
 use Rattle.stepper.proofs.Rows.{row-short}
-use Rattle.log.specs.Row.{longest_row}
+use Rattle.script_log.specs.Row.{longest_row}
 use Rattle.feed.specs.declared.Run.{Run}
 use Rattle.feed.specs.Feed.{Start, TurnStart, Stand, standing, chip_now, device_now, line_done, feed_turn, feed_for, feed_of, last_of, Stands, OneStands}
 use Rattle.feed.specs.Fed.{Did, Fed, Finished, FeedFeeds, LastFinishes}

@@ -8,7 +8,7 @@ use Rattle.text.proofs.PutLaws.{put_same}
 use Rattle.lines.specs.Lines.{lines_from, joined_up}
 use Rattle.lines.specs.Cutting.{Holds, held_room}
 use Rattle.stepper.specs.Rows.{log_from, device_from}
-use Rattle.log.specs.Row.{longest_row}
+use Rattle.script_log.specs.Row.{longest_row}
 use Rattle.feed.specs.Feed.{Stand, chip_now, feed_of}
 use Rattle.feed.specs.Fed.{Did, Fed}
 use Rattle.feed.specs.Script.{emptied, begun, filled_part, Wrote, block_for, whole_block, WholeScript, WholeDevice}

@@ -19,7 +19,7 @@ use Rattle.play.specs.Play.{Turn, turn_of, play_of}
 use Rattle.stepper.specs.declared.Logged.{Logged}
 use Rattle.stepper.specs.Rows.{line_turn, row_text, Logs, chip_after, next, log_from, device_from}
 use Rattle.stepper.proofs.Rows.{row-short}
-use Rattle.log.specs.Row.{longest_row}
+use Rattle.script_log.specs.Row.{longest_row}
 use Rattle.script.specs.Grammar.{longest_line}
 use Rattle.feed.specs.declared.Run.{Run}
 use Rattle.feed.specs.Feed.{TurnStart, Stand, standing, chip_now, goes_on, line_done, cut_turn, feed_turn, Stands}

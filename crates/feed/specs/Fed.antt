@@ -5,7 +5,7 @@ use Rattle.text.specs.Put.{Put}
 use Rattle.lines.specs.Lines.{lines_from, last_line}
 use Rattle.lines.specs.Cutting.{Holds, held_room}
 use Rattle.stepper.specs.Rows.{log_from, device_from}
-use Rattle.log.specs.Row.{longest_row}
+use Rattle.script_log.specs.Row.{longest_row}
 use Rattle.feed.specs.Feed.{Start, Stand, chip_now, device_now, feed_of, last_of}
 
 -- From s to t some text was put into the log, and the log of the lines to come is that text and the log of the lines still to come; what those

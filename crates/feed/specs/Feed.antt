@@ -9,7 +9,7 @@ use Rattle.lines.specs.Cutting.{cut_of, held_of, held_room}
 use Rattle.play.specs.Play.{Turn}
 use Rattle.stepper.specs.declared.Logged.{Logged}
 use Rattle.stepper.specs.Rows.{Device, line_turn, row_text, next}
-use Rattle.log.specs.Row.{longest_row}
+use Rattle.script_log.specs.Row.{longest_row}
 use Rattle.feed.specs.declared.Run.{Run}
 
 -- where a feed starts

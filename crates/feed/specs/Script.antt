@@ -4,7 +4,7 @@ use Rattle.states.specs.declared.Record.{Record}
 use Rattle.lines.specs.Lines.{lines_from, joined_up}
 use Rattle.lines.specs.Cutting.{Holds, held_room}
 use Rattle.stepper.specs.Rows.{log_from, device_from}
-use Rattle.log.specs.Row.{longest_row}
+use Rattle.script_log.specs.Row.{longest_row}
 use Rattle.feed.specs.declared.Run.{Run}
 use Rattle.feed.specs.Feed.{Stand, standing, chip_now, device_now, feed_of, last_of}
 

@@ -1,6 +1,6 @@
 // Blocks of a script fed to the chip: the lines that end in a block are played, and their rows go into the log.
 ghost use Rattle.std.specs.Prelude.{◌≡◌, ◌+◌, ◌<◌, ◌≤◌, [], length};
-ghost use Rattle.log.specs.Row.{longest_row};
+ghost use Rattle.script_log.specs.Row.{longest_row};
 ghost use Rattle.lines.specs.Cutting.{held_room};
 ghost use Rattle.feed.specs.Feed.{Start, TurnStart, goes_on, still_open, standing, line_done, feed_turn, feed_of, last_of, Stands};
 
@@ -121,7 +121,7 @@ pub fn feed(
     let mut at = first.at;
     while at < block.len() {
         let filled = run.filled;
-        if log.len() - filled < log::LONGEST_ROW {
+        if log.len() - filled < script_log::LONGEST_ROW {
             return run;
         }
         run = turn(run, rec, strict, held, block, page, array, wear, log);

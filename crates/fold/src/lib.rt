@@ -1,4 +1,6 @@
 // A page program: what goes beyond the page's end goes on at its start.
+#![tactic(auto)]
+
 ghost use Rattle.std.specs.Prelude.{◌≡◌, ◌≤◌, length};
 ghost use Rattle.fold.specs.Fold.{page_after, folds};
 ghost use Rattle.fold.specs.Strict.{over_old};

@@ -14,7 +14,7 @@ use Rattle.states.specs.declared.Record.{Record}
 use Rattle.lines.specs.Lines.{joined_up}
 use Rattle.lines.specs.Cutting.{held_room}
 use Rattle.lines.proofs.Says.{holds-none}
-use Rattle.log.specs.Row.{longest_row}
+use Rattle.script_log.specs.Row.{longest_row}
 use Rattle.stepper.specs.Rows.{Device}
 use Rattle.feed.specs.declared.Run.{Run}
 use Rattle.feed.specs.Feed.{Stand, standing, last_of, Stands}

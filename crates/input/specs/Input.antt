@@ -9,7 +9,7 @@ use Rattle.states.specs.declared.Record.{Record}
 use Rattle.states.specs.States.{power_on, chip_of}
 use Rattle.lines.specs.Lines.{lines_from}
 use Rattle.lines.specs.Cutting.{held_room}
-use Rattle.log.specs.Row.{longest_row}
+use Rattle.script_log.specs.Row.{longest_row}
 use Rattle.stepper.specs.Rows.{Device, device_from}
 use Rattle.feed.specs.declared.Run.{Run}
 use Rattle.feed.specs.Feed.{Stand, standing, last_of, Stands}

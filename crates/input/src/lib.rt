@@ -4,7 +4,7 @@ mod output;
 mod runs;
 
 ghost use Rattle.std.specs.Prelude.{◌≡◌, true, ◌≤◌, length};
-ghost use Rattle.log.specs.Row.{longest_row};
+ghost use Rattle.script_log.specs.Row.{longest_row};
 ghost use Rattle.feed.specs.Feed.{standing};
 ghost use Rattle.input.specs.Input.{BlockStart, BlockRead, ScriptPlayed};
 

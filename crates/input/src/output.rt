@@ -1,6 +1,6 @@
 // What goes to standard output. No contract can say what a call of the C library writes.
 ghost use Rattle.std.specs.Prelude.{◌≡◌, true, ◌≤◌, length};
-ghost use Rattle.log.specs.Row.{header_text, Rowed};
+ghost use Rattle.script_log.specs.Row.{header_text, Rowed};
 ghost use Rattle.input.specs.Input.{Flushed};
 
 use libc::STDOUT_FILENO;
@@ -33,5 +33,5 @@ pub fn flush(log: &[u8], filled: usize, written: bool) -> bool
 pub fn put_head(log: &mut [u8]) -> usize
     ensures { Rowed 28 header_text log.old 0 log.new result }
 {
-    log::put_header(log, 0)
+    script_log::put_header(log, 0)
 }

@@ -1,5 +1,5 @@
 -- The record of ten numbers, and the packed state: 01, "Record, state, frame", last paragraph, and Req 04 and 05.
-use Rattle.std.specs.Prelude.{Bool, true, false, ◌&&◌, cond, ◌≡◌, List, [], ◌∷◌, ◌++◌, ℕ, ◌+◌, ◌*◌, ◌/◌, ◌%◌, eqb, leb, length, get_or, take, drop}
+use Rattle.std.specs.Prelude.{Bool, true, false, ◌&&◌, cond, List, [], ◌∷◌, ◌++◌, ℕ, ◌+◌, ◌*◌, ◌/◌, ◌%◌, eqb, leb, length, get_or, take, drop}
 use Rattle.parts.specs.Parts.{bytes_of, spelt}
 use Rattle.states.specs.States.{flag, status_of, no_command, no_address}
 use Rattle.states.specs.declared.Record.{Record}

@@ -1,4 +1,6 @@
 // What C hands over: the record as ten numbers, and the state packed in 16 bytes, with the page data 272. The page data are neither read nor written here.
+#![tactic(auto)]
+
 ghost use Rattle.std.specs.Prelude.{◌≡◌, ◌∷◌, [], ◌≤◌, length};
 ghost use Rattle.parts.specs.Parts.{spelt};
 ghost use Rattle.packing.specs.Packing.{record_of, place_spelt, packed, page_in, read_of, is_packing, busy_in};

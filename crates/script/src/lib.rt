@@ -1,4 +1,6 @@
 // The lines of a script: what a line says, and the bytes of a frame's line.
+#![tactic(auto)]
+
 mod hex;
 
 ghost use Rattle.std.specs.Prelude.{◌≡◌, drop};

@@ -6,7 +6,7 @@ use Prim.Native.Nat.{ℕ, ◌-◌, ◌%◌}
 use native.Mathlib.Omega.{arith}
 use lib.Dec.{eqb, leb}
 use lib.ListN.{length, drop, replicate}
-use lib.Seq.{take_all, drop_at}
+use lib.Seq.{drop_at}
 use borrow.Author.Tests.{eqb-true, le-leb}
 use Rattle.parts.specs.Parts.{lay}
 use Rattle.parts.proofs.Lay.{length-lay}

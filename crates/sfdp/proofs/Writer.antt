@@ -13,7 +13,7 @@ use Rattle.parts.proofs.Lay.{part-back}
 use Rattle.sfdp.specs.Sfdp.{EraseType, erase_type, entry, pairs, fits_slot, all_fit, is_list, TakenList, small_bits, small_opcode, image_of, takes, table_for, Writes}
 use Rattle.units.proofs.Bools.{both}
 use Rattle.sfdp_image.specs.Image.{eight, image, sfdp_from}
-use Rattle.sfdp_image.proofs.Driven.{whole-image, length-image}
+use Rattle.sfdp_image.proofs.Driven.{whole-image}
 use Rattle.answers.specs.declared.Answer.TheVariants.{Done, BadEntry}
 
 -- ---- the code's test of the numbers

@@ -1,5 +1,5 @@
 -- The table that a host reads by 5A: 002, "Read SFDP Mode" (L530-656), and Req 12. Its layout for any record, a host's reader over any bytes, and the writer.
-use Rattle.std.specs.Prelude.{Bool, true, false, not, ◌&&◌, ◌||◌, cond, List, [], ◌∷◌, ◌++◌, ◌≡◌, ℕ, zero, suc, ◌+◌, ◌*◌, ◌/◌, ◌%◌, ◌^◌, eqb, leb, ltb, length, get_or, replicate}
+use Rattle.std.specs.Prelude.{Bool, true, false, not, ◌&&◌, ◌||◌, cond, List, [], ◌∷◌, ◌++◌, ◌≡◌, ℕ, zero, suc, ◌+◌, ◌*◌, ◌%◌, ◌^◌, eqb, leb, ltb, length, get_or, replicate}
 use Rattle.parts.specs.Parts.{lay, bytes_of, spelt}
 use Rattle.sfdp_image.specs.Image.{eight}
 use Rattle.answers.specs.Answers.{is_done}

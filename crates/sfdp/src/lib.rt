@@ -1,4 +1,6 @@
 // The SFDP table: a host's reader over any bytes, and the writer. Nothing here knows a chip.
+#![tactic(auto)]
+
 ghost use Rattle.std.specs.Prelude.{cond, ◌≡◌, ◌∷◌, [], ◌+◌, ◌*◌, ◌≤◌, ◌<◌, ◌^◌, eqb, length, get_or};
 ghost use Rattle.parts.specs.Parts.{spelt};
 ghost use Rattle.sfdp.specs.Sfdp.{is_signed, headers_of, words_of, pointer_of, is_long, is_out, some_below, table_refusal, density_at, erases_at, contents_of, revision_of, header_of, erase_of, erase_type, entry, pairs, small_bits, small_opcode, image_of, fits_slot, is_list, table_for, Writes, TakenList};

@@ -1,6 +1,6 @@
 -- Laws of records and states that the layers above cite.
 use mathlib.Core.Path.{◌≡◌, refl, ◌∙◌}
-use mathlib.Core.Bool.{Bool, true, false, not, ◌&&◌, ◌||◌, cond, or-true}
+use mathlib.Core.Bool.{Bool, true, false, not, ◌&&◌, cond}
 use mathlib.Core.Logic.{◌⊎◌, inl, inr, ⊎_elim}
 use mathlib.Core.List.{List, [], ◌∷◌, ◌++◌}
 use Prim.Native.Nat.{ℕ, zero, suc, ◌*◌, ◌/◌, ◌%◌, max, ◌≤◌, ◌<◌}
@@ -14,7 +14,7 @@ use Rattle.commands.specs.declared.Operation.{Operation}
 use Rattle.commands.specs.declared.Operation.TheVariants.{Idle, WritesStatus, Programs, ErasesSector, ErasesHalf, ErasesBlock, ErasesChip}
 use borrow.Author.Tests.{eqb-true, eqb-false, leb-true, leb-false, not-true, eq-eqb, ne_eqb, le-leb}
 use Rattle.models.specs.Models.{is_model, part_of, model_of}
-use Rattle.units.proofs.Bools.{both, either}
+use Rattle.units.proofs.Bools.{both}
 use Rattle.states.specs.States.{common_times, busy_times, settle_times, times_of, in_range, all, half_ok, record_ok, largest, longest_busy, longest_settle, longest_of, config_ok, no_command, no_address, operation_time, place_ok, level_ok, idle_ok, runs_ok, busy_ok, state_ok, used_page, page_fits, page_ok, blank_page}
 use Rattle.states.specs.declared.Record.{Record}
 use Rattle.states.specs.declared.State.{State}

@@ -1,4 +1,6 @@
 // Records, states, page data and the status byte.
+#![tactic(auto)]
+
 ghost use Rattle.std.specs.Prelude.{◌≡◌, ◌&&◌, max, ◌<◌, ◌≤◌, leb};
 ghost use Rattle.states.specs.States.{in_range, half_ok, record_ok, longest_settle, config_ok, operation_time, place_ok, level_ok, idle_ok, runs_ok, state_ok, used_bytes, page_fits, page_ok, tb_of, flag as States·flag, status_of, power_on, bench_kh25l512, bench_kh25l2006e, bench_kh25l12845g};
 

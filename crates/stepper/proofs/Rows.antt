@@ -12,8 +12,8 @@ use Rattle.states.specs.declared.Record.{Record}
 use Rattle.states.specs.declared.State.{State}
 use Rattle.states.specs.States.{Chip}
 use Rattle.text.specs.Put.{Put}
-use Rattle.log.specs.Row.{log_text, room_of, Rowed, longest_row}
-use Rattle.log.proofs.Laws.{row-most}
+use Rattle.script_log.specs.Row.{log_text, room_of, Rowed, longest_row}
+use Rattle.script_log.proofs.Laws.{row-most}
 use Rattle.play.specs.declared.Played.{Played}
 use Rattle.play.specs.Play.{Turn, Plays}
 use Rattle.play.proofs.Laws.{played-within}

@@ -4,7 +4,7 @@ use Rattle.parts.specs.Parts.{part}
 use Rattle.states.specs.declared.Record.{Record}
 use Rattle.states.specs.States.{Chip, chip_of}
 use Rattle.text.specs.Put.{Put}
-use Rattle.log.specs.Row.{log_text, longest_row}
+use Rattle.script_log.specs.Row.{log_text, longest_row}
 use Rattle.play.specs.Play.{Turn, play_of}
 use Rattle.stepper.specs.declared.Logged.{Logged}
 

@@ -3,7 +3,7 @@
 ghost use Rattle.std.specs.Prelude.{◌+◌, ◌≤◌, length};
 ghost use Rattle.states.specs.States.{chip_of};
 ghost use Rattle.play.specs.Play.{Plays, play_of};
-ghost use Rattle.log.specs.Row.{longest_row};
+ghost use Rattle.script_log.specs.Row.{longest_row};
 ghost use Rattle.stepper.specs.Steps.{Steps};
 ghost use Rattle.stepper.specs.Rows.{Logs};
 
@@ -79,7 +79,7 @@ pub fn log_line(
     let p = stepped(st, rec, strict, line, page, array, wear, &mut shown);
     let from = p.from as usize;
     let end = from + p.count as usize;
-    let next = log::put_row(number, p.answer, p.from, &shown[from..end], p.fold, log, at);
+    let next = script_log::put_row(number, p.answer, p.from, &shown[from..end], p.fold, log, at);
     let state = p.state;
     Logged { next, state }
 }

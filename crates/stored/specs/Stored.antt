@@ -11,7 +11,7 @@ use Rattle.script.specs.Reading.{line_of}
 use Rattle.script.specs.declared.Line.{Line}
 use Rattle.script.specs.declared.Line.TheVariants.{Frame, Wait, Power, Bad}
 use Rattle.lines.specs.Lines.{lines_from}
-use Rattle.log.specs.Row.{log_text}
+use Rattle.script_log.specs.Row.{log_text}
 use Rattle.play.specs.Play.{Turn, turn_of}
 use Rattle.stepper.specs.Rows.{chip_after, next, log_from}
 use Rattle.rewrite.specs.Rewriting.{rewritten}

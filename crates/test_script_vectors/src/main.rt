@@ -92,7 +92,7 @@ fn driven(line: Line, text: &[u8], bytes: &mut [u8]) -> usize {
 // The row of a line that drives the first n of bytes.
 fn put(number: u64, line: Line, bytes: &[u8], n: usize, out: &mut [u8]) -> usize {
     if n <= bytes.len() {
-        log::put_row(
+        script_log::put_row(
             number,
             answer(line),
             position(line),
@@ -207,7 +207,7 @@ fn run_all(block: &mut [u8], held: &mut [u8]) {
 
 fn main() {
     let mut top = [0u8; 64];
-    let end = log::put_header(&mut top, 0);
+    let end = script_log::put_header(&mut top, 0);
     flush(&top, end);
     let mut block = [0u8; 97];
     let mut held = [0u8; 641];

@@ -1,5 +1,7 @@
 // Text written into a lent buffer. Each function puts its text from `at` on, leaves the rest as it was, and gives the place past it, so
 // that one call goes on where the last one stopped. The room is the caller's to test, once for a whole row.
+#![tactic(auto)]
+
 ghost use Rattle.std.specs.Prelude.{◌≡◌, ◌∷◌, [], ◌+◌, ◌*◌, ◌≤◌, ◌<◌, length};
 ghost use Rattle.text.specs.Text.{digit_of, hex_text, decimal_text};
 ghost use Rattle.text.specs.Put.{Put};

@@ -14,7 +14,7 @@ use Rattle.parts.proofs.Lay.{lay-none, part-lay}
 use Rattle.text.specs.Text.{decimal_text}
 use Rattle.text.specs.Put.{Put}
 use Rattle.text.proofs.PutLaws.{put_same, put_then, put_as}
-use Rattle.log.specs.Row.{Rowed}
+use Rattle.script_log.specs.Row.{Rowed}
 use Rattle.models.specs.Models.{is_sectors}
 use Rattle.counts.specs.declared.Figures.{Figures}
 use Rattle.counts.specs.Counts.{largest_of, report_of}

@@ -3,7 +3,7 @@
 ghost use Rattle.std.specs.Prelude.{◌≡◌, ◌++◌, ◌+◌, ◌-◌, ◌*◌, ◌≤◌, leb, length, replicate};
 ghost use Rattle.text.specs.Text.{decimal_text};
 ghost use Rattle.text.specs.Put.{Put};
-ghost use Rattle.log.specs.Row.{Rowed};
+ghost use Rattle.script_log.specs.Row.{Rowed};
 ghost use Rattle.counts.specs.Counts.{largest_of};
 ghost use Rattle.wear_rows.specs.WearSheet.{marks_of, bar_text, right_text, sector_text, sectors_text, sums_text, mean_text, sheet_text, longest_bar, longest_line_of, sheet_room};
 

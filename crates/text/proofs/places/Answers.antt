@@ -1,19 +1,11 @@
 -- `text::places` meets its contract: the digits counted and those of the rest are one more than all.
-use mathlib.Core.Path.{◌≡◌}
-use Prim.Native.Nat.{◌+◌, ◌/◌, ◌^◌, ◌≤◌, ◌<◌}
+use Prim.Native.Nat.{◌/◌}
 use native.Mathlib.Omega.{arith}
-use lib.ListN.{length}
-use Rattle.text.specs.Text.{decimal_text}
 use Rattle.text.proofs.TextLaws.{decimal-few, places-some, places-one, places-more}
 use Rattle.text.proofs.places.Goals as goal
 
 pub loop-rest-init : goal.loop-rest-init
 loop-rest-init c = (omega arith, omega arith, places-some c.args.n)
-
--- TODO no goal for overflow-add-k
--- add-k : tie.Need-overflow-add-k invariant-loop decreases-loop
--- add-k c = let f = decimal-few c.before.before.args.n in omega arith
---
 
 pub loop-rest-preserved : goal.loop-rest-preserved
 loop-rest-preserved c =
@@ -23,3 +15,6 @@ loop-rest-preserved c =
 
 pub returns : goal.returns
 returns c = let m = places-one c.loop-rest.rest (omega arith) in omega arith
+
+pub overflow_add-k : goal.overflow_add-k
+overflow_add-k c = let f = decimal-few c.args.n in omega arith

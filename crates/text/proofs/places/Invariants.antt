@@ -1,10 +1,8 @@
 -- `text::places` meets its contract: the digits counted and those of the rest are one more than all.
 use mathlib.Core.Path.{◌≡◌}
-use Prim.Native.Nat.{◌+◌, ◌/◌, ◌^◌, ◌≤◌, ◌<◌}
-use native.Mathlib.Omega.{arith}
+use Prim.Native.Nat.{◌+◌, ◌^◌, ◌≤◌, ◌<◌}
 use lib.ListN.{length}
 use Rattle.text.specs.Text.{decimal_text}
-use Rattle.text.proofs.TextLaws.{decimal-few, places-some, places-one, places-more}
 use Rattle.text.proofs.places.Given as goal
 
 abbrev pub invariant-loop-rest : goal.invariant-loop-rest

@@ -1,5 +1,4 @@
 -- `text::put_all` meets its contract: the part from `at` on came back as the text.
-use borrow.Author.Rules.{rules}
 use Rattle.text.proofs.PutLaws.{put-part}
 use Rattle.text.proofs.put_all.Goals as goal
 

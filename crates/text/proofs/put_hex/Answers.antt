@@ -1,10 +1,7 @@
 -- `text::put_hex` meets its contract: the first i bytes are put.
-use mathlib.Core.Path.{◌≡◌, refl}
-use Prim.Native.Nat.{◌+◌, ◌-◌, ◌*◌, ◌≤◌}
+use mathlib.Core.Path.{refl}
 use native.Mathlib.Omega.{arith}
-use lib.ListN.{length, take, length-set}
-use Rattle.text.specs.Text.{hex_text}
-use Rattle.text.specs.Put.{Put}
+use lib.ListN.{length-set}
 use Rattle.text.proofs.PutLaws.{put-none}
 use Rattle.text.proofs.TextLaws.{hex-more, hex-done}
 use Rattle.text.proofs.put_hex.Goals as goal
@@ -13,25 +10,10 @@ pub loop-i-init : goal.loop-i-init
 loop-i-init c = (omega arith, refl, omega arith, put-none _ _ (omega arith))
 
 pub digit-requires : goal.digit-requires
-digit-requires c = omega (arith, c.shared_slice_known-in-loop-i-1.given c.loop-i.i)
-
--- TODO no goal for overflow-add-out
--- add-out : tie.Need-overflow-add-out invariant-loop decreases-loop
--- add-out c = omega arith
---
+digit-requires c = omega (arith, c.type_inv.bytes c.loop-i.i)
 
 pub bounds-out-to-in-loop-i : goal.bounds-out-to-in-loop-i
 bounds-out-to-in-loop-i c = simp length-set (omega arith)
-
--- TODO no goal for overflow-add-to
--- add-to : tie.Need-overflow-add-to invariant-loop decreases-loop
--- add-to c = omega arith
---
-
--- TODO no goal for overflow-add-i
--- add-i : tie.Need-overflow-add-i invariant-loop decreases-loop
--- add-i c = omega arith
---
 
 pub loop-i-preserved : goal.loop-i-preserved
 loop-i-preserved c =

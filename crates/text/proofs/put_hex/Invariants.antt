@@ -1,12 +1,9 @@
 -- `text::put_hex` meets its contract: the first i bytes are put.
-use mathlib.Core.Path.{◌≡◌, refl}
+use mathlib.Core.Path.{◌≡◌}
 use Prim.Native.Nat.{◌+◌, ◌-◌, ◌*◌, ◌≤◌}
-use native.Mathlib.Omega.{arith}
-use lib.ListN.{length, take, length-set}
+use lib.ListN.{length, take}
 use Rattle.text.specs.Text.{hex_text}
 use Rattle.text.specs.Put.{Put}
-use Rattle.text.proofs.PutLaws.{put-none}
-use Rattle.text.proofs.TextLaws.{hex-more, hex-done}
 use Rattle.text.proofs.put_hex.Given as goal
 
 abbrev pub invariant-loop-i : goal.invariant-loop-i

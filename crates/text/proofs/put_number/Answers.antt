@@ -1,17 +1,12 @@
 -- `text::put_number` meets its contract: the digits from `to` on stand, and the others are the last of rest.
 use mathlib.Core.Path.{◌≡◌, refl, sym}
-use Prim.Native.Nat.{◌+◌, ◌-◌, ◌≤◌}
+use Prim.Native.Nat.{◌+◌, ◌-◌}
 use native.Mathlib.Omega.{arith}
 use lib.ListN.{length, length-set}
 use Rattle.text.specs.Text.{decimal_text}
 use Rattle.text.proofs.PutLaws.{put-to}
-use Rattle.text.proofs.TextLaws.{decimal-few, Spelt, spelt-none, spelt_back, spelt-all}
+use Rattle.text.proofs.TextLaws.{decimal-few, spelt-none, spelt_back, spelt-all}
 use Rattle.text.proofs.put_number.Goals as goal
-
--- TODO no goal for overflow-add-end
--- add-end : tie.Need-overflow-add-end invariant-loop decreases-loop
--- add-end c = let f = decimal-few c.before.before.args.n in omega arith
---
 
 pub loop-to-init : goal.loop-to-init
 loop-to-init c =
@@ -20,21 +15,6 @@ loop-to-init c =
     let e : c.places.result ≡ length (decimal_text a.n) = c.places.ensures in
     let j : a.at + c.places.result - a.at ≡ length (decimal_text a.n) = omega arith in
     (omega arith, omega arith, omega arith, omega arith, omega arith, refl, rw j (spelt-none a.n a.out.now a.at (omega arith)))
-
--- TODO no goal for overflow-sub-to
--- sub-to : tie.Need-overflow-sub-to invariant-loop decreases-loop
--- sub-to c = omega arith
---
-
--- TODO no goal for overflow-cast-out
--- cast-out : tie.Need-overflow-cast-out invariant-loop decreases-loop
--- cast-out c = omega arith
---
-
--- TODO no goal for overflow-add-out
--- add-out : tie.Need-overflow-add-out invariant-loop decreases-loop
--- add-out c = omega arith
---
 
 pub loop-to-preserved : goal.loop-to-preserved
 loop-to-preserved c =
@@ -49,3 +29,6 @@ pub returns : goal.returns
 returns c =
     let i = c.loop-to.invariant in
     (put-to (spelt-all c.loop-to.to i.6 (omega arith) (omega arith)) (sym i.0), i.1)
+
+pub overflow_add-end : goal.overflow_add-end
+overflow_add-end c = let f = decimal-few c.args.n in omega arith

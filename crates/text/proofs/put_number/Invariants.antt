@@ -1,11 +1,9 @@
 -- `text::put_number` meets its contract: the digits from `to` on stand, and the others are the last of rest.
-use mathlib.Core.Path.{◌≡◌, refl, sym}
+use mathlib.Core.Path.{◌≡◌}
 use Prim.Native.Nat.{◌+◌, ◌-◌, ◌≤◌}
-use native.Mathlib.Omega.{arith}
-use lib.ListN.{length, length-set}
+use lib.ListN.{length}
 use Rattle.text.specs.Text.{decimal_text}
-use Rattle.text.proofs.PutLaws.{put-to}
-use Rattle.text.proofs.TextLaws.{decimal-few, Spelt, spelt-none, spelt_back, spelt-all}
+use Rattle.text.proofs.TextLaws.{Spelt}
 use Rattle.text.proofs.put_number.Given as goal
 
 abbrev pub invariant-loop-to : goal.invariant-loop-to

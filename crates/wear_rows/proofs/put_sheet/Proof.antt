@@ -5,7 +5,7 @@ use native.Mathlib.Omega.{arith}
 use lib.ListN.{length}
 use borrow.Author.Tests.{leb-true, not-true, not-false}
 use Rattle.text.proofs.PutLaws.{put_same}
-use Rattle.log.proofs.Laws.{rowed-no, rowed-yes}
+use Rattle.script_log.proofs.Laws.{rowed-no, rowed-yes}
 use Rattle.counts.specs.declared.Figures.{Figures}
 use Rattle.counts.proofs.Laws.{sectors-range}
 use Rattle.wear_rows.specs.WearSheet.{heading_text, sheet_room}

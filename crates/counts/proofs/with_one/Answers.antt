@@ -1,0 +1,6 @@
+-- `counts::with_one` meets its contract.
+use borrow.Author.Rules.{rules}
+use Rattle.counts.proofs.with_one.Goals as goal
+
+pub returns : goal.returns
+returns c = rw (c.largest_at.ensures, c.higher.ensures, c.lower.ensures)
