@@ -1,15 +1,13 @@
 -- `counts::count` meets its contract: only the covered counts are lent on.
 use mathlib.Core.Path.{◌≡◌, refl, sym, ap, subst, ◌∙◌}
-use mathlib.Core.Bool.{false, not}
+use mathlib.Core.Bool.{not}
 use mathlib.Core.List.{List}
 use Prim.Native.Nat.{ℕ, ◌+◌, ◌-◌, ◌≤◌}
 use native.Mathlib.Omega.{arith}
 use lib.ListN.{length, take, drop}
 use borrow.Rule.Slice.PartMut.{put_mid}
-use borrow.Author.Rules.{rules}
 use Rattle.units.specs.declared.Address.{Address}
 use Rattle.commands.specs.declared.Operation.{Operation}
-use Rattle.parts.specs.Parts.{lay}
 use Rattle.parts.proofs.Lay.{part-back, length_part}
 use Rattle.parts.proofs.Loop.{length-by_index}
 use Rattle.counts.specs.declared.Sectors.{Sectors}
