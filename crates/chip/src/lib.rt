@@ -1,4 +1,6 @@
 // The chip: any frame, on values and slices.
+#![tactic(auto)]
+
 ghost use Rattle.std.specs.Prelude.{◌≡◌, false, []};
 ghost use Rattle.states.specs.States.{chip_of};
 ghost use Rattle.effects.specs.ContractForms.{Gives};

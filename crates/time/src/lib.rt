@@ -1,4 +1,6 @@
 // Waits, power cycles and cuts of the power.
+#![tactic(auto)]
+
 ghost use Rattle.std.specs.Prelude.{◌≡◌, ◌-◌, eqb};
 ghost use Rattle.answers.specs.declared.Answer.TheVariants.{Done};
 ghost use Rattle.models.specs.Models.{model_of};
