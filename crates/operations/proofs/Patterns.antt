@@ -2,7 +2,7 @@
 use mathlib.Core.Path.{◌≡◌, refl, sym, ap, ◌∙◌}
 use mathlib.Core.Bool.{true}
 use mathlib.Core.List.{List, ◌++◌, append-nil}
-use Prim.Native.Nat.{ℕ, ◌+◌, ◌-◌, ◌≤◌, ◌<◌}
+use Prim.Native.Nat.{ℕ, ◌+◌, ◌≤◌, ◌<◌}
 use native.Mathlib.Omega.{arith}
 use lib.Dec.{ltb}
 use lib.ListN.{length, get_or, length-replicate, drop_of_length-le}
@@ -15,8 +15,8 @@ use Rattle.cells.specs.Cell.{FF, erased, programmed_cell, torn, torn_cells}
 use Rattle.cells.proofs.Cell.{torn-old, torn-new}
 use Rattle.parts.specs.Parts.{part, lay}
 use Rattle.parts.proofs.Loop.{length-by_index, by_index-at}
-use Rattle.parts.proofs.Lay.{length_part, part_at, part-lay, lay-part}
-use Rattle.fold.specs.Fold.{cell_after, page_after}
+use Rattle.parts.proofs.Lay.{length_part, part-lay, lay-part}
+use Rattle.fold.specs.Fold.{page_after}
 use Rattle.fold.proofs.Fold.{length-page_after, page_after-at}
 use Rattle.fold.proofs.Counts.{sent-counts}
 use Rattle.flash.specs.Arrays.{sector_erased, half_block_erased, block_erased, all_erased, programmed, page_torn}

@@ -1,4 +1,6 @@
 // What an operation does to cells and kept bits once its time has run out, and what a cut of the power leaves of it.
+#![tactic(auto)]
+
 ghost use Rattle.std.specs.Prelude.{◌≡◌, true, ◌≤◌, length};
 ghost use Rattle.models.specs.Models.{model_of};
 ghost use Rattle.states.specs.States.{place_ok, chip_of};

@@ -1,4 +1,6 @@
 // The commands that drive bytes out.
+#![tactic(auto)]
+
 ghost use Rattle.std.specs.Prelude.{◌≡◌, ◌≤◌, ◌<◌, length};
 ghost use Rattle.effects.specs.Effects.{read_status, read_config, read_from, read_id, waking_time, wake as Effects·wake, maker_bytes, read_maker, read_sfdp};
 ghost use Rattle.effects.specs.ContractForms.{Shows, Room};
