@@ -1,5 +1,7 @@
 // The wear sheet of a table, as text in a lent buffer: a heading, a line a sector with its number, its count and a bar, and the figures of
 // the report. A sheet that would not fit is not begun.
+#![tactic(auto)]
+
 ghost use Rattle.std.specs.Prelude.{◌≡◌, ◌++◌, ◌+◌, ◌-◌, ◌*◌, ◌≤◌, leb, length, replicate};
 ghost use Rattle.text.specs.Text.{decimal_text};
 ghost use Rattle.text.specs.Put.{Put};

@@ -12,11 +12,14 @@ use Rattle.script.proofs.HexLaws.{digit-range}
 use Rattle.script.proofs.number.Goals as goal
 
 -- what is known once the byte is a digit
+digit : (s : List ℕ) (i : ℕ) (r : Bool) → r ≡ is_digit (get_or s i 0) → r ≡ true → is_digit (get_or s i 0) ≡ true
+digit s i r e h = sym e ∙ h
+
 range : (s : List ℕ) (i : ℕ) (r : Bool) → r ≡ is_digit (get_or s i 0) → r ≡ true → (48 ≤ get_or s i 0) × (get_or s i 0 ≤ 57)
-range s i r e h = digit-range _ (sym e ∙ h)
+range s i r e h = digit-range _ (digit s i r e h)
 
 on : (n : ℕ) (s : List ℕ) (i : ℕ) (r : Bool) → i < length s → r ≡ is_digit (get_or s i 0) → r ≡ true → numbered n (drop i s) ≡ numbered (n * 10 + (get_or s i 0 - 48)) (drop (i + 1) s)
-on n s i r l e h = number-on n s i l (sym e ∙ h)
+on n s i r l e h = number-on n s i l (digit s i r e h)
 
 pub returns-then-not-is_digit : goal.returns-then-not-is_digit
 returns-then-not-is_digit c = number-off c.loop-i.sum c.args.s.now c.loop-i.i c.loop-i-test.true (sym c.is_digit.ensures ∙ c.if-not-is_digit.true) ∙ sym c.loop-i.invariant.1
