@@ -1,6 +1,8 @@
 // Lines cut out of an input that comes in blocks. A line that lies whole in its block is read where it is; what a block's end leaves of a
 // line is held in a lent buffer, as far as it has room. With room for 641 bytes that is enough to know a line over 640 bytes for one,
 // however long it is.
+#![tactic(auto)]
+
 ghost use Rattle.std.specs.Prelude.{◌≡◌};
 ghost use Rattle.lines.specs.Cutting.{end_of, held_with, used_of, Cuts};
 

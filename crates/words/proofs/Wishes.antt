@@ -1,12 +1,11 @@
 -- The cases of `wish_of`, as the code comes to them: `b` is whether the word is strict, `d` whether it is --help.
-use mathlib.Core.Path.{◌≡◌, refl, sym, ap, ◌∙◌}
+use mathlib.Core.Path.{◌≡◌, sym, ap, ◌∙◌}
 use mathlib.Core.Bool.{Bool, true, false, ◌&&◌}
 use mathlib.Core.List.{List}
 use Prim.Native.Nat.{ℕ, ◌≤◌, ◌<◌}
 use lib.Dec.{eqb}
 use borrow.Author.Tests.{lt-ltb, le-ltb}
 use Rattle.text.specs.Text.{ascii}
-use Rattle.words.specs.declared.Wish.{Wish}
 use Rattle.words.specs.declared.Wish.TheVariants.{Run, Strict, Help, Unknown}
 use Rattle.words.specs.Words.{same_text, only_word, wish_of}
 

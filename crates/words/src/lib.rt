@@ -1,8 +1,13 @@
-// The words that a program is started with: none, --help or strict.
+// The words that a program is started with: none, --help or strict; and what it says where its input or its output fails.
+#![tactic(auto)]
+
+mod failing;
+
 ghost use Rattle.std.specs.Prelude.{◌≡◌};
 ghost use Rattle.words.specs.Words.{same_text, wish_of, is_strict, without_strict, asks_no_run};
 
-use libc::{STDERR_FILENO, STDOUT_FILENO};
+pub use failing::fail;
+use std::env::{Env, FillError};
 
 // What they ask for: a run, with the strict setting off or on, or how the program is used; or nothing that it knows.
 #[derive(Clone, Copy)]
@@ -47,12 +52,24 @@ fn wish_of(count: usize, whole: bool, word: &[u8]) -> Wish
     Wish::Unknown
 }
 
-// What the program was started with asks for: which words those are is the C library's to say, and no contract's.
-pub fn asked() -> Wish {
+// How many words the program was started with, its own name among them.
+fn word_count(env: &impl Env) -> usize {
+    for i in 0..usize::MAX {
+        if let Err(FillError::NotPresent) = env.arg(i, &mut []) {
+            return i;
+        }
+    }
+    usize::MAX
+}
+
+// What the program was started with asks for: which words those are is the system's to say, and no contract's.
+pub fn asked(env: &impl Env) -> Wish {
     let mut word = [0u8; 6];
-    let n = os::arg(1, &mut word);
-    let whole = os::errno() == 0;
-    wish_of(os::arg_count(), whole, &word[..n])
+    let count = word_count(env);
+    match env.arg(1, &mut word) {
+        Ok(n) => wish_of(count, true, &word[..n]),
+        Err(_) => wish_of(count, false, b""),
+    }
 }
 
 // Whether a run is asked for with the strict setting on.
@@ -79,21 +96,27 @@ pub fn without_strict(wish: Wish) -> Wish
     }
 }
 
-// Whether no run is asked for, and so the program has no more to do. --help shows its use on standard output; words that it does not know what
-// is said of them, and the use, on standard error.
-pub fn answered(wish: Wish, unknown: &[u8], usage: &[u8]) -> bool
+// Whether no run is asked for, and so the program has no more to do. --help shows its use on `out`, standard output; words that it does not know
+// what is said of them, and the use, on `err`, standard error.
+pub fn answered(
+    out: &impl Print,
+    err: &impl Print,
+    wish: Wish,
+    unknown: &[u8],
+    usage: &[u8],
+) -> bool
     ensures { result ≡ asks_no_run wish }
 {
     match wish {
         Wish::Run => false,
         Wish::Strict => false,
         Wish::Help => {
-            io::write_all(STDOUT_FILENO, usage);
+            let _ = out.write_all(usage);
             true
         }
         Wish::Unknown => {
-            io::write_all(STDERR_FILENO, unknown);
-            io::write_all(STDERR_FILENO, usage);
+            let _ = err.write_all(unknown);
+            let _ = err.write_all(usage);
             true
         }
     }
