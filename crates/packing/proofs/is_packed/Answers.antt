@@ -8,4 +8,4 @@ returns-then-state-ne272 c = sym (wrong-length c.args.state.now c.if-state-ne272
 
 pub returns : goal.returns
 returns c =
-    tested c.args.state.now c.if-state-ne272.false c.requires (λ i. (c.shared_slice_known-1.given i).fits)
+    tested c.args.state.now c.if-state-ne272.false c.requires (λ i. (c.type_inv.state i).fits)
