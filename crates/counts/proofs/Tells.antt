@@ -9,9 +9,8 @@ use native.Mathlib.Omega.{arith}
 use lib.Dec.{eqb, leb}
 use lib.ListN.{length, get_or}
 use borrow.Author.Tests.{eqb-true, eqb-false, eq-eqb, leb-true, leb-false}
-use Rattle.models.specs.Models.{is_sectors}
 use Rattle.counts.specs.Counts.{least_from, most_from, smallest_of, largest_of, first_with, total_of, report_of}
-use Rattle.counts.specs.Tells.{Has, Tells, ReportTells}
+use Rattle.counts.specs.Tells.{Has, ReportTells}
 use Rattle.counts.proofs.Laws.{sectors-range}
 
 -- ---- the smallest

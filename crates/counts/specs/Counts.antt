@@ -1,5 +1,5 @@
 -- Erase counts, one 32-bit number a sector: which of them an erase raises, and what the report says of a table (Req 06).
-use Rattle.std.specs.Prelude.{Bool, true, false, ◌||◌, cond, List, [], ◌∷◌, ◌≡◌, ℕ, suc, ◌+◌, ◌/◌, ◌%◌, ◌≤◌, min, max, eqb, leb, ltb, length, get_or}
+use Rattle.std.specs.Prelude.{Bool, false, ◌||◌, cond, List, [], ◌∷◌, ◌≡◌, ℕ, suc, ◌+◌, ◌/◌, ◌%◌, ◌≤◌, min, max, eqb, leb, ltb, length, get_or}
 use Rattle.units.specs.declared.Address.{Address}
 use Rattle.units.specs.declared.Sector.{Sector}
 use Rattle.units.specs.Kinds.{sector_of, half_block_of, block_of, first_of_half, first_of_block}

@@ -1,4 +1,6 @@
 // The wear table: one count of erases a sector, which the caller lends. An erase raises those of the sectors that it covers; a report sums it up.
+#![tactic(auto)]
+
 ghost use Rattle.std.specs.Prelude.{◌≡◌, false, cond, ◌+◌, ◌*◌, ◌≤◌, ◌<◌, min, max, ltb, length};
 ghost use Rattle.counts.specs.Counts.{sectors, covered, at_top, raised, InTable, with_one, sums_of, report_of};
 ghost use Rattle.counts.specs.ContractForms.{Counting};

@@ -1,4 +1,6 @@
 // What each command does, apart from the frame that carries it (specs/Effects.antt); here replies, and the commands that turn the state.
+#![tactic(auto)]
+
 ghost use Rattle.std.specs.Prelude.{◌≡◌, ◌-◌};
 ghost use Rattle.effects.specs.Effects.{quiet as Effects·quiet, drives, folding, latched, dozing, starting, refusal_leaves, write_enable, write_disable, erase_starts as Effects·erase, sleep as Effects·sleep};
 

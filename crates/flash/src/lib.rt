@@ -1,5 +1,7 @@
 // The array of a chip, which the caller lends: erase a unit, program a page, read from an address, and the page of an address. Nothing here
 // knows a command.
+#![tactic(auto)]
+
 ghost use Rattle.std.specs.Prelude.{◌≡◌, ◌+◌, ◌-◌, ◌≤◌, ◌<◌, length};
 ghost use Rattle.units.specs.Kinds.{sector_start, half_block_start, block_start, page_start, page_offset};
 ghost use Rattle.parts.specs.Parts.{lay};

@@ -1,4 +1,6 @@
 // The refusals in their order. The stages are how; the one table of specs/Ladder.antt is what.
+#![tactic(auto)]
+
 ghost use Rattle.std.specs.Prelude.{◌≡◌};
 ghost use Rattle.ladder.specs.Stages.{given_of, said_of, heard_of, allowed_of};
 

@@ -1,5 +1,7 @@
 // Levels of CS#, SCLK, SI, WP# and HOLD#, sample by sample (Req 07): bits on rising clocks, bytes in a lent buffer, a frame when CS# rises. Nothing here knows a
 // chip.
+#![tactic(auto)]
+
 ghost use Rattle.std.specs.Prelude.{◌≡◌};
 ghost use Rattle.pins.specs.Pins.{is_held, front_ok, Sound, silent, refused, idle, in_frame, risen_of, clocked_of, step_of, stepped_of, Senses, Clocks};
 

@@ -1,4 +1,6 @@
 // The front packed in eight lent bytes (Req 07), and a sample or a run of samples on it: what the pod's firmware calls, but for the places that C lends.
+#![tactic(auto)]
+
 ghost use Rattle.std.specs.Prelude.{◌≡◌, ◌∷◌, [], ◌≤◌, length};
 ghost use Rattle.parts.specs.Parts.{spelt};
 ghost use Rattle.states.specs.States.{flag};

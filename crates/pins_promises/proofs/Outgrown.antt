@@ -1,5 +1,5 @@
 -- From a fall to the next rise, none held: a frame that does not fit is answered 4.
-use mathlib.Core.Path.{◌≡◌, refl, sym, ap, ◌∙◌}
+use mathlib.Core.Path.{◌≡◌, refl, ap, ◌∙◌}
 use mathlib.Core.Bool.{Bool, true, false, not, ◌&&◌, true≢false}
 use mathlib.Core.List.{List, [], ◌∷◌, ◌++◌}
 use Prim.Native.Nat.{ℕ, suc, ◌+◌, ◌*◌, ◌≤◌, ◌<◌}
@@ -13,9 +13,9 @@ use Rattle.pins.specs.declared.Front.{Front}
 use Rattle.pins.specs.Pins.{select_of, clock_of, si_of, wp_of, is_held, frame_limit, silent, refused, idle, in_frame, Sampled, sampled, risen_of, takes_bit, bit_taken, clocked_of, step_of}
 use Rattle.pins.proofs.Choices.{on-true, on-false}
 use Rattle.pins.proofs.Table.{step-fall, step-rise, step-low}
-use Rattle.pins_run.specs.Runs.{Captured, ran_to, ends, run_from, run_of}
+use Rattle.pins_run.specs.Runs.{Captured, ends, run_from}
 use Rattle.pins_run.proofs.Going.{run-silent, run_on, run_end, made, step_kept, step-bit, step-byte}
-use Rattle.pins_promises.specs.Samples.{all_low, none_held, bits_at, bytes_from, whole_of}
+use Rattle.pins_promises.specs.Samples.{all_low, none_held, bits_at, bytes_from}
 use Rattle.pins_promises.specs.Promises.{Outgrows}
 use Rattle.pins_promises.proofs.Handed.{at}
 

@@ -1,4 +1,6 @@
 // Runs of samples, a byte each: straight loops where nothing is told, and the step where CS# moves or a frame outgrows.
+#![tactic(auto)]
+
 ghost use Rattle.std.specs.Prelude.{◌≡◌, List, ℕ};
 ghost use Rattle.pins.specs.Pins.{Sound};
 ghost use Rattle.pins_run.specs.Runs.{ends, run_of, ran_of, Captures, Reaches};

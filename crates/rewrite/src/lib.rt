@@ -1,4 +1,6 @@
 // Scripts rewritten for models 1 and 2, which do not take 52 any more (Req 11): a line whose frame begins with 52 begins with D8.
+#![tactic(auto)]
+
 ghost use Rattle.std.specs.Prelude.{◌≡◌, ◌+◌, ◌≤◌, length, get_or, drop};
 ghost use Rattle.script.specs.Hex.{hex_bytes};
 ghost use Rattle.rewrite.specs.Rewriting.{begins52, LineRewritten};

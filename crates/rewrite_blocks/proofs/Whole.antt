@@ -327,7 +327,7 @@ pub one-rewrites : OneRewrites
 one-rewrites w r r₂ out out₂ report report₂ a b = (a.step' ∙ sym b.step', a.out' ∙ sym b.out', a.report' ∙ sym b.report')
 
 pub one-lines-rewritten : OneLinesRewritten
-one-lines-rewritten p report r r₂ bytes bytes₂ report' report₂ a b =
+one-lines-rewritten p report r r₂ bytes bytes₂ report₁ report₂ a b =
     let w = one-put _ _ _ _ _ _ _ a.put b.put in
     let at_same : r.at ≡ r₂.at = a.at' ∙ sym b.at' in
     let number_same : r.number ≡ r₂.number = a.number' ∙ sym b.number' in
@@ -339,4 +339,4 @@ one-lines-rewritten p report r r₂ bytes bytes₂ report' report₂ a b =
     )
 
 pub one-moved-down : OneMovedDown
-one-moved-down out at end r r₂ out' out₂ a b = (a.count ∙ sym b.count, a.is ∙ sym b.is)
+one-moved-down out at _ r r₂ out₁ out₂ a b = (a.count ∙ sym b.count, a.is ∙ sym b.is)

@@ -1,5 +1,7 @@
 // A script that comes in blocks is rewritten and goes out in blocks. Of a line that a block's end cuts, at most 640 bytes are held for the next
 // block: a longer one is bad however it goes on, and goes out as it is.
+#![tactic(auto)]
+
 ghost use Rattle.std.specs.Prelude.{◌≡◌, ◌*◌, ◌/◌, ◌≤◌, length, take, drop};
 ghost use Rattle.rewrite_blocks.specs.Blocks.{first_progress, passage, progress_at, block_fits, block_rewrite, last_rewrite, LinesRewritten, MovedDown, Rewrites};
 

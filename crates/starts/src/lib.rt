@@ -1,4 +1,6 @@
 // The commands that start an operation with page data: the data bytes go into the page data, and no cell changes yet.
+#![tactic(auto)]
+
 ghost use Rattle.std.specs.Prelude.{◌≡◌, ◌+◌, ◌≤◌, length, drop};
 ghost use Rattle.units.specs.Kinds.{page_start, page_offset};
 ghost use Rattle.parts.specs.Parts.{part};

@@ -1,15 +1,13 @@
 -- `counts::count` meets its contract: only the covered counts are lent on.
 use mathlib.Core.Path.{◌≡◌, refl, sym, ap, subst, ◌∙◌}
-use mathlib.Core.Bool.{false, not}
+use mathlib.Core.Bool.{not}
 use mathlib.Core.List.{List}
 use Prim.Native.Nat.{ℕ, ◌+◌, ◌-◌, ◌≤◌}
 use native.Mathlib.Omega.{arith}
 use lib.ListN.{length, take, drop}
 use borrow.Rule.Slice.PartMut.{put_mid}
-use borrow.Author.Rules.{rules}
 use Rattle.units.specs.declared.Address.{Address}
 use Rattle.commands.specs.declared.Operation.{Operation}
-use Rattle.parts.specs.Parts.{lay}
 use Rattle.parts.proofs.Lay.{part-back, length_part}
 use Rattle.parts.proofs.Loop.{length-by_index}
 use Rattle.counts.specs.declared.Sectors.{Sectors}
@@ -48,14 +46,6 @@ offset_bounds-wear-first c =
     let a = c.args in
     omega (arith, inside a.wear.now a.op a.at c.sectors_of-unit.result c.sectors_of-unit.ensures c.requires)
 
--- TODO no goal for slice-bounds-at-top-end
--- part-at-top-end : tie.Need-slice-bounds-at-top-end
--- part-at-top-end c =
---     let s = c.before.before.before.before in
---     let a = s.before.before.args in
---     omega (arith, inside a.wear.now a.op a.at s.sectors-of.result s.sectors-of.ensures s.before.before.requires)
---
-
 pub returns-then-at_top : goal.returns-then-at_top
 returns-then-at_top c =
     let a = c.args in
@@ -65,14 +55,6 @@ pub offset_bounds-wear-first-2 : goal.offset_bounds-wear-first-2
 offset_bounds-wear-first-2 c =
     let a = c.args in
     omega (arith, inside a.wear.now a.op a.at c.sectors_of-unit.result c.sectors_of-unit.ensures c.requires)
-
--- TODO no goal for slice-bounds-raise-end
--- part-raise-end : tie.Need-slice-bounds-raise-end
--- part-raise-end c =
---     let s = c.before.before.before.before.before.before.before in
---     let a = s.before.before.args in
---     omega (arith, inside a.wear.now a.op a.at s.sectors-of.result s.sectors-of.ensures s.before.before.requires)
---
 
 pub raise-requires : goal.raise-requires
 raise-requires c =

@@ -1,6 +1,5 @@
 -- `counts::largest_at` meets its contract.
 use borrow.Author.Tests.{lt-ltb, le-ltb}
-use borrow.Author.Rules.{rules}
 use Rattle.counts.proofs.largest_at.Goals as goal
 
 pub returns-then-largest-count : goal.returns-then-largest-count

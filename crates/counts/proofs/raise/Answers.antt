@@ -1,13 +1,11 @@
 -- `counts::raise` meets its contract: the counts below i are raised.
-use mathlib.Core.Path.{◌≡◌, refl}
-use mathlib.Core.Bool.{false}
-use Prim.Native.Nat.{ℕ, ◌+◌, ◌-◌, ◌≤◌, ◌<◌}
+use mathlib.Core.Path.{refl}
+use Prim.Native.Nat.{◌<◌}
 use native.Mathlib.Omega.{arith}
 use native.Mathlib.Nat.{le_refl}
-use lib.ListN.{length, get_or}
+use lib.ListN.{length}
 use borrow.Author.Rules.{rules}
-use Rattle.parts.proofs.Loop.{Done, done_none, done-step, done_all}
-use Rattle.counts.specs.Counts.{at_top, raised}
+use Rattle.parts.proofs.Loop.{done_none, done-step, done_all}
 use Rattle.counts.proofs.Laws.{below_top}
 use Rattle.counts.proofs.raise.Goals as goal
 

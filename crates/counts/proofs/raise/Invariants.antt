@@ -1,14 +1,10 @@
 -- `counts::raise` meets its contract: the counts below i are raised.
-use mathlib.Core.Path.{◌≡◌, refl}
+use mathlib.Core.Path.{◌≡◌}
 use mathlib.Core.Bool.{false}
-use Prim.Native.Nat.{ℕ, ◌+◌, ◌-◌, ◌≤◌, ◌<◌}
-use native.Mathlib.Omega.{arith}
-use native.Mathlib.Nat.{le_refl}
-use lib.ListN.{length, get_or}
-use borrow.Author.Rules.{rules}
-use Rattle.parts.proofs.Loop.{Done, done_none, done-step, done_all}
-use Rattle.counts.specs.Counts.{at_top, raised}
-use Rattle.counts.proofs.Laws.{below_top}
+use Prim.Native.Nat.{ℕ, ◌+◌, ◌≤◌}
+use lib.ListN.{length}
+use Rattle.parts.proofs.Loop.{Done}
+use Rattle.counts.specs.Counts.{at_top}
 use Rattle.counts.proofs.raise.Given as goal
 
 abbrev pub invariant-loop-i : goal.invariant-loop-i

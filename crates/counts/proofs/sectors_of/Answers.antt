@@ -8,7 +8,6 @@ use Rattle.commands.specs.declared.Operation.{Operation}
 use Rattle.counts.specs.declared.Sectors.{Sectors}
 use Rattle.counts.specs.Counts.{sectors, covered}
 use native.Mathlib.Omega.{arith}
-use borrow.Author.Rules.{rules}
 use Rattle.counts.proofs.sectors_of.Goals as goal
 
 -- what is covered by the operation that the code found
@@ -21,51 +20,44 @@ first_sector-requires c = rw c.in_half_block-unit.ensures (omega arith)
 pub first_sector-requires-in-ErasesBlock : goal.first_sector-requires-in-ErasesBlock
 first_sector-requires-in-ErasesBlock c = rw c.in_block-unit.ensures (omega arith)
 
--- TODO refused
-pub returns-in-ErasesBlock : goal.returns-in-ErasesBlock
-unfolding covered
-returns-in-ErasesBlock c =
-    let a = c.args in
-    by_kind a.at a.n c.enum_told-in-ErasesBlock-1.is (c.run-in-ErasesBlock.ensures ∙ ap (λ (s : Sector). sectors s 16) (c.first_sector-in-ErasesBlock.ensures ∙ ap first_of_block c.in_block-unit.ensures))
-
--- TODO refused
-pub returns-in-WritesStatus : goal.returns-in-WritesStatus
-unfolding covered
-returns-in-WritesStatus c =
-    let a = c.args in
-    by_kind a.at a.n c.enum_told-in-WritesStatus-1.is c.run-in-WritesStatus.ensures
-
--- TODO refused
 pub returns-in-Idle : goal.returns-in-Idle
 unfolding covered
 returns-in-Idle c =
     let a = c.args in
-    by_kind a.at a.n c.enum_told-1.is c.run.ensures
+    by_kind a.at a.n c.in-Idle.is c.run.ensures
 
--- TODO refused
-pub returns-in-ErasesChip : goal.returns-in-ErasesChip
+pub returns-in-WritesStatus : goal.returns-in-WritesStatus
 unfolding covered
-returns-in-ErasesChip c =
+returns-in-WritesStatus c =
     let a = c.args in
-    by_kind a.at a.n c.enum_told-in-ErasesChip-1.is c.run-in-ErasesChip.ensures
+    by_kind a.at a.n c.in-WritesStatus.is c.run-in-WritesStatus.ensures
 
--- TODO refused
-pub returns-in-ErasesSector : goal.returns-in-ErasesSector
-unfolding covered
-returns-in-ErasesSector c =
-    let a = c.args in
-    by_kind a.at a.n c.enum_told-in-ErasesSector-1.is (c.run-in-ErasesSector.ensures ∙ ap (λ (s : Sector). sectors s 1) c.in_sector.ensures)
-
--- TODO refused
-pub returns-in-ErasesHalf : goal.returns-in-ErasesHalf
-unfolding covered
-returns-in-ErasesHalf c =
-    let a = c.args in
-    by_kind a.at a.n c.enum_told-in-ErasesHalf-1.is (c.run-in-ErasesHalf.ensures ∙ ap (λ (s : Sector). sectors s 8) (c.first_sector.ensures ∙ ap first_of_half c.in_half_block-unit.ensures))
-
--- TODO refused
 pub returns-in-Programs : goal.returns-in-Programs
 unfolding covered
 returns-in-Programs c =
     let a = c.args in
-    by_kind a.at a.n c.enum_told-in-Programs-1.is c.run-in-Programs.ensures
+    by_kind a.at a.n c.in-Programs.is c.run-in-Programs.ensures
+
+pub returns-in-ErasesSector : goal.returns-in-ErasesSector
+unfolding covered
+returns-in-ErasesSector c =
+    let a = c.args in
+    by_kind a.at a.n c.in-ErasesSector.is (c.run-in-ErasesSector.ensures ∙ ap (λ (s : Sector). sectors s 1) c.in_sector.ensures)
+
+pub returns-in-ErasesHalf : goal.returns-in-ErasesHalf
+unfolding covered
+returns-in-ErasesHalf c =
+    let a = c.args in
+    by_kind a.at a.n c.in-ErasesHalf.is (c.run-in-ErasesHalf.ensures ∙ ap (λ (s : Sector). sectors s 8) (c.first_sector.ensures ∙ ap first_of_half c.in_half_block-unit.ensures))
+
+pub returns-in-ErasesBlock : goal.returns-in-ErasesBlock
+unfolding covered
+returns-in-ErasesBlock c =
+    let a = c.args in
+    by_kind a.at a.n c.in-ErasesBlock.is (c.run-in-ErasesBlock.ensures ∙ ap (λ (s : Sector). sectors s 16) (c.first_sector-in-ErasesBlock.ensures ∙ ap first_of_block c.in_block-unit.ensures))
+
+pub returns-in-ErasesChip : goal.returns-in-ErasesChip
+unfolding covered
+returns-in-ErasesChip c =
+    let a = c.args in
+    by_kind a.at a.n c.in-ErasesChip.is c.run-in-ErasesChip.ensures

@@ -1,10 +1,7 @@
 -- `counts::sum_up` meets its contract. The invariant: what is known of the counts looked at so far.
-use mathlib.Core.Path.{◌≡◌, refl}
-use Prim.Native.Nat.{◌-◌, ◌*◌, ◌≤◌, ◌<◌}
+use mathlib.Core.Path.{refl}
 use native.Mathlib.Omega.{arith}
-use lib.ListN.{length}
-use borrow.Author.Rules.{rules}
-use Rattle.counts.proofs.Pass.{Seen, seen_none, seen_one, seen_all}
+use Rattle.counts.proofs.Pass.{seen_none, seen_one, seen_all}
 use Rattle.counts.proofs.sum_up.Goals as goal
 
 pub with_one-s-requires : goal.with_one-s-requires

@@ -1,10 +1,8 @@
 -- `counts::sum_up` meets its contract. The invariant: what is known of the counts looked at so far.
-use mathlib.Core.Path.{◌≡◌, refl}
-use Prim.Native.Nat.{◌-◌, ◌*◌, ◌≤◌, ◌<◌}
-use native.Mathlib.Omega.{arith}
+use mathlib.Core.Path.{◌≡◌}
+use Prim.Native.Nat.{◌*◌, ◌≤◌}
 use lib.ListN.{length}
-use borrow.Author.Rules.{rules}
-use Rattle.counts.proofs.Pass.{Seen, seen_none, seen_one, seen_all}
+use Rattle.counts.proofs.Pass.{Seen}
 use Rattle.counts.proofs.sum_up.Given as goal
 
 abbrev pub invariant-loop-i : goal.invariant-loop-i

@@ -1,5 +1,4 @@
 -- `counts::with_one` meets its contract.
-use borrow.Author.Rules.{rules}
 use Rattle.counts.proofs.with_one.Goals as goal
 
 pub returns : goal.returns

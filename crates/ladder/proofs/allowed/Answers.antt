@@ -1,5 +1,4 @@
 -- `ladder::allowed` meets its contract.
-use borrow.Author.Rules.{rules}
 use Rattle.ladder.specs.Stages.{allowed_of}
 use Rattle.ladder.proofs.allowed.Goals as goal
 

@@ -2,55 +2,62 @@
 use mathlib.Core.Path.{◌≡◌, sym, ap, ◌∙◌}
 use mathlib.Core.Bool.{true, false, ◌&&◌}
 use lib.Dec.{eqb}
-use borrow.Author.Rules.{rules}
-use borrow.Author.Tests.{not-true, not-false, eq-eqb, ne_eqb, lt-ltb, le-ltb}
+use borrow.Author.Tests.{eq-eqb, ne_eqb, lt-ltb, le-ltb}
 use Rattle.models.specs.Models.{model_of}
 use Rattle.models.specs.declared.Model.{Model}
 use Rattle.states.specs.States.{record_ok, state_ok}
 use Rattle.ladder.specs.Stages.{given_of}
 use Rattle.ladder.proofs.given.Goals as goal
 
-right : (c : goal.Else-not-record_ok) → record_ok c.before.before.args.rec ≡ true
-right c = sym c.before.record-ok.ensures ∙ not-false _ c.if1.false
-
-whole : (c : goal.Else-head-row) → eqb c.before.before.before.before.before.before.args.head.cells (model_of c.before.before.before.before.before.before.args.rec.model).length ≡ true
-whole c = eq-eqb _ _ (c.if2.false ∙ ap (λ (m : Model). m.length) c.before.before.before.model_of.ensures)
-
--- as many counts as the model has sectors
-counted : (c : goal.Else-head-row-2) → (let given = c.before.before.before.before.before.before.before.before.before.args in eqb given.head.sectors (model_of given.rec.model).sectors ≡ true)
-counted c = eq-eqb _ _ (c.if3.false ∙ ap (λ (m : Model). m.sectors) c.before.before.before.before.before.before.model_of.ensures)
-
-valid : (c : goal.Else-not-state_ok-head) → (let given = c.before.before.before.before.before.before.before.before.before.before.before.before.args in (state_ok given.rec given.st && given.head.page) ≡ true)
-valid c = rw (← c.before.before.state-ok.ensures) (not-false _ c.if4.false)
-
-invalid : (c : goal.Then-not-state_ok-head) → (let given = c.before.before.before.before.before.before.before.before.before.before.before.before.args in (state_ok given.rec given.st && given.head.page) ≡ false)
-invalid c = rw (← c.before.before.state-ok.ensures) (not-true _ c.if4.true)
+pub returns-then-not-record_ok : goal.returns-then-not-record_ok
+unfolding given_of
+returns-then-not-record_ok c = let e : record_ok c.args.rec ≡ false = sym c.record_ok.ensures ∙ c.if-not-record_ok.true in rw e
 
 pub returns-then-head-row : goal.returns-then-head-row
 unfolding given_of
-returns-then-head-row c = rw (right c, ← (ap (λ (m : Model). m.length) c.model_of-row.ensures), ne_eqb _ _ c.if-head-row.true)
+returns-then-head-row c =
+    let right : record_ok c.args.rec ≡ true = sym c.record_ok.ensures ∙ c.if-not-record_ok.false in
+    rw (right, ← (ap (λ (m : Model). m.length) c.model_of-row.ensures), ne_eqb _ _ c.if-head-row.true)
 
 pub returns-then-head-row-2 : goal.returns-then-head-row-2
 unfolding given_of
 returns-then-head-row-2 c =
-    rw (right c, whole c, ← (ap (λ (m : Model). m.sectors) c.model_of-row.ensures), ne_eqb _ _ c.if-head-row-2.true)
+    let right : record_ok c.args.rec ≡ true = sym c.record_ok.ensures ∙ c.if-not-record_ok.false in
+    let whole : eqb c.args.head.cells (model_of c.args.rec.model).length ≡ true = eq-eqb _ _ (c.if-head-row.false ∙ ap (λ (m : Model). m.length) c.model_of-row.ensures) in
+    rw (right, whole, ← (ap (λ (m : Model). m.sectors) c.model_of-row.ensures), ne_eqb _ _ c.if-head-row-2.true)
 
 pub returns-then-not-state_ok-head : goal.returns-then-not-state_ok-head
 unfolding given_of
 returns-then-not-state_ok-head c =
-    rw (right c, whole c, counted c, invalid c)
+    let right : record_ok c.args.rec ≡ true = sym c.record_ok.ensures ∙ c.if-not-record_ok.false in
+    let whole : eqb c.args.head.cells (model_of c.args.rec.model).length ≡ true = eq-eqb _ _ (c.if-head-row.false ∙ ap (λ (m : Model). m.length) c.model_of-row.ensures) in
+    let counted : (let given = c.args in eqb given.head.sectors (model_of given.rec.model).sectors ≡ true) = eq-eqb _ _ (c.if-head-row-2.false ∙ ap (λ (m : Model). m.sectors) c.model_of-row.ensures) in
+    let invalid : (let given = c.args in (state_ok given.rec given.st && given.head.page) ≡ false) = rw (← c.state_ok.ensures) (c.if-not-state_ok-head.true) in
+    rw (right, whole, counted, invalid)
 
 pub returns-then-n-head : goal.returns-then-n-head
 unfolding given_of
 returns-then-n-head c =
-    rw (right c, whole c, counted c, valid c, c.if-n-head.true)
+    let right : record_ok c.args.rec ≡ true = sym c.record_ok.ensures ∙ c.if-not-record_ok.false in
+    let whole : eqb c.args.head.cells (model_of c.args.rec.model).length ≡ true = eq-eqb _ _ (c.if-head-row.false ∙ ap (λ (m : Model). m.length) c.model_of-row.ensures) in
+    let counted : (let given = c.args in eqb given.head.sectors (model_of given.rec.model).sectors ≡ true) = eq-eqb _ _ (c.if-head-row-2.false ∙ ap (λ (m : Model). m.sectors) c.model_of-row.ensures) in
+    let valid : (let given = c.args in (state_ok given.rec given.st && given.head.page) ≡ true) = rw (← c.state_ok.ensures) (c.if-not-state_ok-head.false) in
+    rw (right, whole, counted, valid, c.if-n-head.true)
 
 pub returns-then-head-n : goal.returns-then-head-n
 unfolding given_of
 returns-then-head-n c =
-    rw (right c, whole c, counted c, valid c, c.if-n-head.false, lt-ltb _ _ c.if-head-n.true)
+    let right : record_ok c.args.rec ≡ true = sym c.record_ok.ensures ∙ c.if-not-record_ok.false in
+    let whole : eqb c.args.head.cells (model_of c.args.rec.model).length ≡ true = eq-eqb _ _ (c.if-head-row.false ∙ ap (λ (m : Model). m.length) c.model_of-row.ensures) in
+    let counted : (let given = c.args in eqb given.head.sectors (model_of given.rec.model).sectors ≡ true) = eq-eqb _ _ (c.if-head-row-2.false ∙ ap (λ (m : Model). m.sectors) c.model_of-row.ensures) in
+    let valid : (let given = c.args in (state_ok given.rec given.st && given.head.page) ≡ true) = rw (← c.state_ok.ensures) (c.if-not-state_ok-head.false) in
+    rw (right, whole, counted, valid, c.if-n-head.false, lt-ltb _ _ c.if-head-n.true)
 
 pub returns : goal.returns
 unfolding given_of
 returns c =
-    rw (right c, whole c, counted c, valid c, c.if-n-head.false, le-ltb _ _ c.if-head-n.false)
+    let right : record_ok c.args.rec ≡ true = sym c.record_ok.ensures ∙ c.if-not-record_ok.false in
+    let whole : eqb c.args.head.cells (model_of c.args.rec.model).length ≡ true = eq-eqb _ _ (c.if-head-row.false ∙ ap (λ (m : Model). m.length) c.model_of-row.ensures) in
+    let counted : (let given = c.args in eqb given.head.sectors (model_of given.rec.model).sectors ≡ true) = eq-eqb _ _ (c.if-head-row-2.false ∙ ap (λ (m : Model). m.sectors) c.model_of-row.ensures) in
+    let valid : (let given = c.args in (state_ok given.rec given.st && given.head.page) ≡ true) = rw (← c.state_ok.ensures) (c.if-not-state_ok-head.false) in
+    rw (right, whole, counted, valid, c.if-n-head.false, le-ltb _ _ c.if-head-n.false)

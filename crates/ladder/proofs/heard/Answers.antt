@@ -1,7 +1,6 @@
 -- `ladder::heard` meets its contract.
 use mathlib.Core.Path.{◌≡◌, sym, ◌∙◌}
 use mathlib.Core.Bool.{true, false}
-use borrow.Author.Rules.{rules}
 use borrow.Author.Tests.{not-true, not-false, eq-eqb, ne_eqb}
 use Rattle.commands.specs.Commands.{length_ok}
 use Rattle.ladder.specs.Stages.{heard_of}
@@ -26,10 +25,6 @@ unfolding heard_of
 returns-then-st-t-2 c =
     rw (ne_eqb _ _ c.if-n-eq0.false, eq-eqb _ _ c.if-st-ne0.false, c.if-st-t.false, c.if-st-t-2.true)
 
--- the command is in the list
-known : (c : goal.Else-not-t) → c.before.before.before.before.before.before.before.before.before.before.before.args.t.known ≡ true
-known c = not-false _ c.if5.false
-
 pub returns-then-not-t : goal.returns-then-not-t
 unfolding heard_of
 returns-then-not-t c =
@@ -40,5 +35,21 @@ returns-then-not-t c =
 pub returns-then-t : goal.returns-then-t
 unfolding heard_of
 returns-then-t c =
-    rw (ne_eqb _ _ c.if-n-eq0.false, eq-eqb _ _ c.if-st-ne0.false, c.if-st-t.false, c.if-st-t-2.false, known c, c.if-t.true)
+    let known : c.args.t.known ≡ true = not-false _ c.if-not-t.false in
+    rw (ne_eqb _ _ c.if-n-eq0.false, eq-eqb _ _ c.if-st-ne0.false, c.if-st-t.false, c.if-st-t-2.false, known, c.if-t.true)
 
+pub returns-then-not-length_ok : goal.returns-then-not-length_ok
+unfolding heard_of
+returns-then-not-length_ok c =
+    let known : c.args.t.known ≡ true = not-false _ c.if-not-t.false in
+    let a = c.args in
+    let e : length_ok a.t a.head.count a.head.tail ≡ false = sym c.length_ok.ensures ∙ c.if-not-length_ok.true in
+    rw (e, ne_eqb _ _ c.if-n-eq0.false, eq-eqb _ _ c.if-st-ne0.false, c.if-st-t.false, c.if-st-t-2.false, known, c.if-t.false)
+
+pub returns : goal.returns
+unfolding heard_of
+returns c =
+    let known : c.args.t.known ≡ true = not-false _ c.if-not-t.false in
+    let a = c.args in
+    let e : length_ok a.t a.head.count a.head.tail ≡ true = sym c.length_ok.ensures ∙ c.if-not-length_ok.false in
+    rw (e, ne_eqb _ _ c.if-n-eq0.false, eq-eqb _ _ c.if-st-ne0.false, c.if-st-t.false, c.if-st-t-2.false, known, c.if-t.false)
