@@ -1,10 +1,8 @@
--- What `input` makes of the blocks that it reads. No contract can say which bytes a call of the C library reads or writes.
+-- What `input` makes of the blocks that it reads. No contract can say which bytes the system reads or writes.
 -- What is done with the number that a read has answered, and with the block after it, is said of every number and every block: `BlockTaken`. Of a
 -- read itself it is only said that there is such a number: `BlockRead`. Of a whole input it is only said that there is a script whose lines leave
 -- what was left: `ScriptPlayed`. It is any script, the empty one too: a program that played another script than it read would meet it as well.
-use Rattle.std.specs.Prelude.{◌≡◌, Bool, true, false, List, [], ℕ, ◌≤◌, ◌<◌, ℤ, pos, length, take}
-use Rattle.std.specs.Int.Signed.{lt_z}
-use Rattle.io.specs.Counts.{clamp_len}
+use Rattle.std.specs.Prelude.{◌≡◌, Bool, true, false, List, [], ℕ, ◌≤◌, ◌<◌, min, length, take, Option, Some, None, IsSome, IsNone}
 use Rattle.states.specs.declared.Record.{Record}
 use Rattle.states.specs.States.{power_on, chip_of}
 use Rattle.lines.specs.Lines.{lines_from}
@@ -54,16 +52,21 @@ pub record LastPlayed (t : Stand) (written r : Bool) (page cells wear log : List
   pub log' : log ≡ t.log
   pub quiet : written ≡ false → r ≡ true
 
--- What a read answered, and the block after it, from s on. It failed: it ends there, and nothing changes. No byte came: it ends with the last line. Else
+-- how many bytes of a block a read has brought: none where it failed, and no more than there are
+abbrev pub brought : Option ℕ → ℕ → ℕ
+brought None most = 0
+brought (Some n) most = min n most
+
+-- What a read answered, a number unless it failed, and the block after it, from s on. It failed: it ends there, and nothing changes. No byte came: it ends with the last line. Else
 -- as many bytes of the block as it says were played.
-pub record BlockTaken (rec : Record) (strict written : Bool) (got : ℤ) (block : List ℕ) (s : Stand) (r : Next) (held page cells wear log : List ℕ) : Type 0 where
-  pub failed : lt_z got (pos 0) ≡ true → (r ≡ ended_at s.run false) × Kept s page cells wear
-  pub last : lt_z got (pos 0) ≡ false → clamp_len got (length block) ≡ 0 → (r ≡ ended_at s.run r.well) × LastPlayed (last_of rec strict (begun s)) written r.well page cells wear log
-  pub some : 0 < clamp_len got (length block) → BlockPlayed rec strict written (take (clamp_len got (length block)) block) s r held page cells wear log
+pub record BlockTaken (rec : Record) (strict written : Bool) (got : Option ℕ) (block : List ℕ) (s : Stand) (r : Next) (held page cells wear log : List ℕ) : Type 0 where
+  pub failed : IsNone got → (r ≡ ended_at s.run false) × Kept s page cells wear
+  pub last : IsSome got → brought got (length block) ≡ 0 → (r ≡ ended_at s.run r.well) × LastPlayed (last_of rec strict (begun s)) written r.well page cells wear log
+  pub some : 0 < brought got (length block) → BlockPlayed rec strict written (take (brought got (length block)) block) s r held page cells wear log
 
 -- one read: there is such a number
 pub record BlockRead (rec : Record) (strict written : Bool) (block : List ℕ) (s : Stand) (r : Next) (held page cells wear log : List ℕ) : Type 0 where
-  pub got : ℤ
+  pub got : Option ℕ
   pub taken : BlockTaken rec strict written got block s r held page cells wear log
 
 -- some script was played from power-on: page data, array and wear table are as its lines leave them

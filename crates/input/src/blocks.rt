@@ -1,5 +1,6 @@
 // What is done with a block of the script: its lines are played, and their rows written out.
 ghost use Rattle.std.specs.Prelude.{◌≡◌, ◌≤◌, length, take};
+ghost use Rattle.std.specs.Result.{result_ok};
 ghost use Rattle.feed.specs.Feed.{standing, last_of};
 ghost use Rattle.feed.specs.Script.{begun};
 ghost use Rattle.input.specs.Input.{ended_at, BlockStart, BlockPlayed, LastPlayed, BlockTaken};
@@ -8,6 +9,8 @@ use crate::output::flush;
 use crate::runs::{at_block, emptied};
 use feed::Run;
 use states::Record;
+use std::io;
+use words::fail;
 
 // How far it came, whether to go on, and whether all went well.
 #[derive(Clone, Copy)]
@@ -30,6 +33,7 @@ fn ended(run: Run, well: bool) -> Next
 
 // The lines that end in the first n bytes of a block, and their rows written out.
 fn feed_block(
+    rt: &(impl Print + Eprint + Alloc),
     first: Run,
     rec: Record,
     strict: bool,
@@ -52,7 +56,7 @@ fn feed_block(
         let fed = feed::feed(run, rec, strict, held, block, page, array, wear, log);
         at = fed.at;
         run = emptied(fed);
-        if !flush(log, fed.filled, written) {
+        if !flush(rt, log, fed.filled, written) {
             return ended(run, false);
         }
     }
@@ -65,6 +69,7 @@ fn feed_block(
 
 // The input has ended: a last line without its newline. Whether its row was written.
 fn finish(
+    rt: &(impl Print + Eprint + Alloc),
     run: Run,
     rec: Record,
     strict: bool,
@@ -79,12 +84,13 @@ fn finish(
     ensures { LastPlayed (last_of rec strict (begun (standing run held.old page.old array.old wear.old log.old))) written result page.new array.new wear.new log.new }
 {
     let last = feed::finish(at_block(run), rec, strict, held, page, array, wear, log);
-    flush(log, last.filled, written)
+    flush(rt, log, last.filled, written)
 }
 
-// What a read into the block has answered, -1 or how many bytes: a failed read ends it, no byte is the input's end, and else they are fed.
+// What a read into the block has answered, how many bytes: a failed read ends it, no byte is the input's end, and else they are fed.
 pub fn take_block(
-    got: isize,
+    rt: &(impl Print + Eprint + Alloc),
+    got: io::Result<usize>,
     run: Run,
     rec: Record,
     strict: bool,
@@ -97,18 +103,20 @@ pub fn take_block(
     written: bool,
 ) -> Next
     requires { BlockStart run held.old log.old }
-    ensures { BlockTaken rec strict written got block.now (standing run held.old page.old array.old wear.old log.old) result held.new page.new array.new wear.new log.new }
+    ensures { BlockTaken rec strict written (result_ok got) block.now (standing run held.old page.old array.old wear.old log.old) result held.new page.new array.new wear.new log.new }
 {
-    if got < 0 {
-        os::fail(b"standard input");
-        return ended(run, false);
-    }
-    let n = io::count(got, block);
+    let n = match got {
+        Ok(n) => n.min(block.len()),
+        Err(error) => {
+            fail(rt, "standard input", error);
+            return ended(run, false);
+        }
+    };
     if n == 0 {
-        let well = finish(run, rec, strict, held, page, array, wear, log, written);
+        let well = finish(rt, run, rec, strict, held, page, array, wear, log, written);
         return ended(run, well);
     }
     feed_block(
-        run, rec, strict, held, block, n, page, array, wear, log, written,
+        rt, run, rec, strict, held, block, n, page, array, wear, log, written,
     )
 }

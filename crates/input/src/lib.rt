@@ -1,4 +1,6 @@
 // A script on standard input, played block after block: the part that the programs `runner` and `wear` share.
+#![tactic(auto)]
+
 mod blocks;
 mod output;
 mod runs;
@@ -10,14 +12,16 @@ ghost use Rattle.input.specs.Input.{BlockStart, BlockRead, ScriptPlayed};
 
 use blocks::{Next, take_block};
 use feed::Run;
-use libc::STDIN_FILENO;
 pub use output::write_first;
 use output::{flush, put_head};
 use runs::first_run;
 use states::Record;
+use std::io::Read;
 
 // Reads a block and takes it.
 fn read_block(
+    rt: &(impl Print + Eprint + Alloc),
+    input: &mut impl Read,
     run: Run,
     rec: Record,
     strict: bool,
@@ -32,14 +36,15 @@ fn read_block(
     requires { BlockStart run held.old log.old }
     ensures { BlockRead rec strict written block.new (standing run held.old page.old array.old wear.old log.old) result held.new page.new array.new wear.new log.new }
 {
-    let got = libc::read(STDIN_FILENO, block);
+    let got = input.read(block);
     take_block(
-        got, run, rec, strict, held, block, page, array, wear, log, written,
+        rt, got, run, rec, strict, held, block, page, array, wear, log, written,
     )
 }
 
 // Block after block, from power-on.
 fn play_blocks(
+    rt: &(impl Input + Print + Eprint + Alloc),
     rec: Record,
     strict: bool,
     page: &mut [u8],
@@ -52,18 +57,18 @@ fn play_blocks(
     ensures { result ≡ true → ScriptPlayed rec strict page.old array.old wear.old page.new array.new wear.new }
 {
     let mut held = [0u8; 641];
-    let mut block = io::large_buffer();
+    let mut block = [0u8; 65536];
+    let mut input = rt.reader();
     let mut run = first_run();
-    let mut blocks = u64::MAX;
-    while blocks > 0 {
+    for _ in 0..u64::MAX {
         let next = read_block(
-            run, rec, strict, &mut held, &mut block, page, array, wear, log, written,
+            rt, &mut input, run, rec, strict, &mut held, &mut block, page, array, wear, log,
+            written,
         );
         run = next.run;
         if !next.on {
             return next.well;
         }
-        blocks -= 1;
     }
     false
 }
@@ -72,6 +77,7 @@ fn play_blocks(
 // its end and every row was written, where rows are; if not, standard error says why. What is proved of it is less: that page data, array and
 // wear table are then those that some script leaves. Which bytes were read, and that header and rows were written, no contract can say.
 pub fn play_input(
+    rt: &(impl Input + Print + Eprint + Alloc),
     rec: Record,
     strict: bool,
     page: &mut [u8],
@@ -81,10 +87,10 @@ pub fn play_input(
 ) -> bool
     ensures { result ≡ true → ScriptPlayed rec strict page.old array.old wear.old page.new array.new wear.new }
 {
-    let mut log = io::large_buffer();
+    let mut log = [0u8; 65536];
     let headed = put_head(&mut log);
-    if !flush(&log, headed, written) {
+    if !flush(rt, &log, headed, written) {
         return false;
     }
-    play_blocks(rec, strict, page, array, wear, &mut log, written)
+    play_blocks(rt, rec, strict, page, array, wear, &mut log, written)
 }

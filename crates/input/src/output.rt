@@ -1,29 +1,29 @@
-// What goes to standard output. No contract can say what a call of the C library writes.
+// What goes to standard output. No contract can say what the system writes.
 ghost use Rattle.std.specs.Prelude.{◌≡◌, true, ◌≤◌, length};
 ghost use Rattle.script_log.specs.Row.{header_text, Rowed};
 ghost use Rattle.input.specs.Input.{Flushed};
 
-use libc::STDOUT_FILENO;
+use words::fail;
 
 // Writes the first n bytes of a text. Whether the output took them, and there are so many; where it failed, standard error says so.
-pub fn write_first(text: &[u8], n: usize) -> bool
+pub fn write_first(rt: &(impl Print + Eprint + Alloc), text: &[u8], n: usize) -> bool
     ensures { result ≡ true → n ≤ length text.now }
 {
     if n <= text.len() {
-        if io::write_all(STDOUT_FILENO, &text[0..n]) {
-            return true;
+        match rt.write_all(&text[0..n]) {
+            Ok(()) => return true,
+            Err(error) => fail(rt, "standard output", error),
         }
-        os::fail(b"standard output");
     }
     false
 }
 
 // The filled part of the log, if it is to be written.
-pub fn flush(log: &[u8], filled: usize, written: bool) -> bool
+pub fn flush(rt: &(impl Print + Eprint + Alloc), log: &[u8], filled: usize, written: bool) -> bool
     ensures { Flushed log.now filled written result }
 {
     if written {
-        write_first(log, filled)
+        write_first(rt, log, filled)
     } else {
         true
     }

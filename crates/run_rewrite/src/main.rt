@@ -1,7 +1,9 @@
 // Rewrites a script from standard input for models 1 and 2, which do not take 52 any more, and writes it to standard output; the numbers of the
 // lines that changed go to standard error.
-use libc::{STDERR_FILENO, STDIN_FILENO, STDOUT_FILENO};
+#![tactic(auto)]
+
 use rewrite_blocks::{Progress, Step};
+use std::io::Read;
 
 // How far it came, and whether to go on.
 #[derive(Clone, Copy)]
@@ -11,20 +13,20 @@ struct Next {
 }
 
 // Writes the first bytes of the output; whether they were taken. Where they were not, standard error says so.
-fn write_script(out: &[u8], n: usize) -> bool {
+fn write_script(rt: HostRuntime, out: &[u8], n: usize) -> bool {
     if n <= out.len() {
-        if io::write_all(STDOUT_FILENO, &out[0..n]) {
-            return true;
+        match rt.write_all(&out[0..n]) {
+            Ok(()) => return true,
+            Err(error) => words::fail(&rt, "rewrite: standard output", error),
         }
-        os::fail(b"rewrite: standard output");
     }
     false
 }
 
 // Writes the first bytes of the report. Where standard error does not take them the script goes on all the same.
-fn write_report(report: &[u8], n: usize) {
+fn write_report(rt: HostRuntime, report: &[u8], n: usize) {
     if n <= report.len() {
-        io::write_all(STDERR_FILENO, &report[0..n]);
+        let _ = rt.stderr().write_all(&report[0..n]);
     }
 }
 
@@ -38,23 +40,30 @@ fn rewrite_next(run: Progress, block: &[u8], out: &mut [u8], report: &mut [u8]) 
 }
 
 // Reads a block, and writes what comes of it.
-fn read_block(run: Progress, block: &mut [u8], out: &mut [u8], report: &mut [u8]) -> Next {
-    let got = libc::read(STDIN_FILENO, block);
-    if got < 0 {
-        os::fail(b"rewrite: standard input");
-        return Next { run, on: false };
-    }
-    let n = io::count(got, block);
+fn read_block(
+    rt: HostRuntime,
+    run: Progress,
+    block: &mut [u8],
+    out: &mut [u8],
+    report: &mut [u8],
+) -> Next {
+    let n = match rt.stdin().read(block) {
+        Ok(n) => n,
+        Err(error) => {
+            words::fail(&rt, "rewrite: standard input", error);
+            return Next { run, on: false };
+        }
+    };
     let step = rewrite_next(run, &block[..n], out, report);
     let Step::Took(next) = step else {
-        io::write_all(STDERR_FILENO, b"rewrite: a buffer is too short\n");
+        let _ = rt.stderr().write_all(b"rewrite: a buffer is too short\n");
         return Next { run, on: false };
     };
     let end = next.at;
     let told = next.told;
-    let taken = write_script(out, end);
+    let taken = write_script(rt, out, end);
     if taken {
-        write_report(report, told);
+        write_report(rt, report, told);
     }
     Next {
         run: next,
@@ -63,25 +72,25 @@ fn read_block(run: Progress, block: &mut [u8], out: &mut [u8], report: &mut [u8]
 }
 
 // Block after block.
-fn rewrite_input() {
-    let mut block = io::buffer();
-    let mut out = io::large_buffer();
-    let mut report = io::large_buffer();
+fn rewrite_input(rt: HostRuntime) {
+    let mut block = [0u8; 4096];
+    let mut out = [0u8; 65536];
+    let mut report = [0u8; 65536];
     let mut run = rewrite_blocks::first();
-    let mut blocks = u64::MAX;
-    while blocks > 0 {
-        let next = read_block(run, &mut block, &mut out, &mut report);
+    for _ in 0..u64::MAX {
+        let next = read_block(rt, run, &mut block, &mut out, &mut report);
         run = next.run;
         if !next.on {
             return;
         }
-        blocks -= 1;
     }
 }
 
-fn main() {
-    let wish = words::without_strict(words::asked());
+fn main(rt: HostRuntime) {
+    let wish = words::without_strict(words::asked(&rt));
     if words::answered(
+        &rt,
+        &rt.stderr(),
         wish,
         b"rewrite: it knows no word but --help\n",
         b"usage: rewrite <SCRIPT >NEW_SCRIPT 2>CHANGED_LINES
@@ -94,5 +103,5 @@ A script for a KH25L12845G needs no rewriting: there 52 erases 32 KiB.
     ) {
         return;
     }
-    rewrite_input();
+    rewrite_input(rt);
 }

@@ -1,8 +1,12 @@
 // Reads a script from standard input and writes its log to standard output: model 1 with bench values, from power-on, all cells FF. The strict
 // setting is off, unless the word strict asks for it.
-fn main() {
-    let wish = words::asked();
+#![tactic(auto)]
+
+fn main(rt: HostRuntime) {
+    let wish = words::asked(&rt);
     if words::answered(
+        &rt,
+        &rt.stderr(),
         wish,
         b"runner: it knows no words but --help and strict, and takes one of them\n",
         b"usage: runner [strict] <SCRIPT >LOG
@@ -23,5 +27,5 @@ reaches would not end up holding the byte that was sent to it.
     let mut array = [0xFFu8; 65536];
     let mut wear = [0u32; 16];
     let rec = states::bench_kh25l512();
-    input::play_input(rec, strict, &mut page, &mut array, &mut wear, true);
+    input::play_input(&rt, rec, strict, &mut page, &mut array, &mut wear, true);
 }

@@ -1,46 +1,48 @@
 // Reads a script from standard input and writes, for each line, its row of the log and then what was read of it. There is no chip here:
 // a frame stands for its own answer, which drives its bytes from the position that its tail says. The input comes in blocks of 97 bytes,
 // so that lines of every kind run across a block's end.
+#![tactic(auto)]
+
 ghost use Rattle.std.specs.Prelude.{◌<◌};
 
-use libc::{STDIN_FILENO, STDOUT_FILENO};
 use lines::Cut;
 use script::Line;
+use std::io::Read;
 
 // Writes the first n bytes of out.
-fn flush(out: &[u8], n: usize) {
+fn flush(rt: &impl Print, out: &[u8], n: usize) {
     if n <= out.len() {
-        io::write_all(STDOUT_FILENO, &out[0..n]);
+        let _ = rt.write_all(&out[0..n]);
     }
 }
 
-fn say(text: &[u8]) {
-    io::write_all(STDOUT_FILENO, text);
+fn say(rt: &impl Print, text: &[u8]) {
+    let _ = rt.write_all(text);
 }
 
-fn say_number(n: u64) {
-    io::print_decimal(STDOUT_FILENO, n);
+fn say_number(rt: &impl Print, n: u64) {
+    let _ = rt.print(n);
 }
 
 // What was read: the kind of line, and its values.
-fn show(line: Line) {
+fn show(rt: &impl Print, line: Line) {
     match line {
         Line::Frame { wp, tail, count } => {
-            say(b"frame ");
-            say_number(wp as u64);
-            say(b" ");
-            say_number(tail as u64);
-            say(b" ");
-            say_number(count as u64);
+            say(rt, b"frame ");
+            say_number(rt, wp as u64);
+            say(rt, b" ");
+            say_number(rt, tail as u64);
+            say(rt, b" ");
+            say_number(rt, count as u64);
         }
         Line::Wait(us) => {
-            say(b"wait ");
-            say_number(us as u64);
+            say(rt, b"wait ");
+            say_number(rt, us as u64);
         }
-        Line::Power => say(b"power"),
-        Line::Bad => say(b"bad"),
+        Line::Power => say(rt, b"power"),
+        Line::Bad => say(rt, b"bad"),
     }
-    say(b"\n");
+    say(rt, b"\n");
 }
 
 fn answer(line: Line) -> u32 {
@@ -107,20 +109,20 @@ fn put(number: u64, line: Line, bytes: &[u8], n: usize, out: &mut [u8]) -> usize
 }
 
 // One line of the script.
-fn line_done(number: u64, text: &[u8]) {
+fn line_done(rt: &impl Print, number: u64, text: &[u8]) {
     let line = script::read_line(text);
     let mut bytes = [0u8; 300];
     let n = driven(line, text, &mut bytes);
     let mut out = [0u8; 1024];
     let end = put(number, line, &bytes, n, &mut out);
-    flush(&out, end);
-    show(line);
+    flush(rt, &out, end);
+    show(rt, line);
 }
 
 // The line whose first n bytes are held.
-fn held_done(number: u64, held: &[u8], n: usize) {
+fn held_done(rt: &impl Print, number: u64, held: &[u8], n: usize) {
     if n <= held.len() {
-        line_done(number, &held[0..n]);
+        line_done(rt, number, &held[0..n]);
     }
 }
 
@@ -132,20 +134,20 @@ struct Run {
 }
 
 // The lines of a block.
-fn feed(run: Run, block: &[u8], held: &mut [u8]) -> Run {
+fn feed(rt: &impl Print, run: Run, block: &[u8], held: &mut [u8]) -> Run {
     let mut number = run.number;
     let mut used = run.used;
     let mut at = 0;
     while at < block.len() {
         match lines::cut_line(held, used, block, at) {
             Cut::Here { end } => {
-                line_done(number, &block[at..end]);
+                line_done(rt, number, &block[at..end]);
                 number = std::num::wrapping_add_u64(number, 1);
                 used = 0;
                 at = end + 1;
             }
             Cut::Joined { used: n, end } => {
-                held_done(number, held, n);
+                held_done(rt, number, held, n);
                 number = std::num::wrapping_add_u64(number, 1);
                 used = 0;
                 at = end + 1;
@@ -166,15 +168,19 @@ struct Turn {
 }
 
 // Reads a block and does its lines; whether to go on.
-fn read_block(run: Run, block: &mut [u8], held: &mut [u8]) -> Turn {
-    let got = libc::read(STDIN_FILENO, block);
-    if got <= 0 {
-        return Turn { run, on: false };
-    }
-    let n = io::count(got, block);
-    Turn {
-        run: feed(run, &block[0..n], held),
-        on: true,
+fn read_block(
+    rt: &impl Print,
+    input: &mut impl Read,
+    run: Run,
+    block: &mut [u8],
+    held: &mut [u8],
+) -> Turn {
+    match input.read(block) {
+        Ok(n) if n > 0 => Turn {
+            run: feed(rt, run, &block[0..n], held),
+            on: true,
+        },
+        _ => Turn { run, on: false },
     }
 }
 
@@ -187,29 +193,29 @@ fn turns_left(turns: u64, on: bool) -> u64
 }
 
 // The last line may lack its newline.
-fn finish(run: Run, held: &[u8]) {
+fn finish(rt: &impl Print, run: Run, held: &[u8]) {
     if run.used > 0 {
-        held_done(run.number, held, run.used);
+        held_done(rt, run.number, held, run.used);
     }
 }
 
 // Block after block.
-fn run_all(block: &mut [u8], held: &mut [u8]) {
+fn run_all(rt: &impl Print, input: &mut impl Read, block: &mut [u8], held: &mut [u8]) {
     let mut run = Run { number: 1, used: 0 };
     let mut turns = u64::MAX;
     while turns > 0 {
-        let next = read_block(run, block, held);
+        let next = read_block(rt, input, run, block, held);
         run = next.run;
         turns = turns_left(turns, next.on);
     }
-    finish(run, held);
+    finish(rt, run, held);
 }
 
-fn main() {
+fn main(rt: HostRuntime) {
     let mut top = [0u8; 64];
     let end = script_log::put_header(&mut top, 0);
-    flush(&top, end);
+    flush(&rt, &top, end);
     let mut block = [0u8; 97];
     let mut held = [0u8; 641];
-    run_all(&mut block, &mut held);
+    run_all(&rt, &mut rt.stdin(), &mut block, &mut held);
 }

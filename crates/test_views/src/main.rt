@@ -1,6 +1,7 @@
 // The page view of arrays of models 1 and 2 and of none (an array of model 3 is too long for a stack): a row for each length and address, with how many cells the view has and what they hold.
 // Cell i holds i, plus 3 for each page before it and 7 for each block, modulo 256.
-use libc::STDOUT_FILENO;
+#![tactic(auto)]
+
 use units::Address;
 
 // The arrays of models 1 and 2, and lengths that no model has.
@@ -12,49 +13,58 @@ const ADDRESSES: [u32; 14] = [
     0x03FFFF, 0x040000, 0x05ABCD, 0xFFFFFF, 0xFFFFFFFF,
 ];
 
-fn say(text: &[u8]) {
-    io::write_all(STDOUT_FILENO, text);
+fn say(rt: &impl Print, text: &[u8]) {
+    let _ = rt.write_all(text);
+}
+
+fn say_number(rt: &impl Print, n: u64) {
+    let _ = rt.print(n);
+}
+
+// An address, in six hex digits or more.
+fn say_address(rt: &impl Print, address: u32) {
+    let _ = print!(rt; "{address:06x}");
 }
 
 // The cells in hex; a view has at most 256.
-fn say_cells(cells: &[u8]) {
+fn say_cells(rt: &impl Print, cells: &[u8]) {
     let mut digits = [0u8; 512];
     if cells.len() <= 256 {
         let n = text::put_hex(cells, &mut digits, 0);
         if n <= 512 {
-            say(&digits[0..n]);
+            say(rt, &digits[0..n]);
         }
     }
 }
 
-fn say_view(array: &[u8], address: u32) {
+fn say_view(rt: &impl Print, array: &[u8], address: u32) {
     let page = flash::page_view(array, Address(address));
-    io::print_decimal(STDOUT_FILENO, array.len() as u64);
-    say(b"\t");
-    io::print_hex(STDOUT_FILENO, address as u64, 6);
-    say(b"\t");
-    io::print_decimal(STDOUT_FILENO, page.len() as u64);
-    say(b"\t");
-    say_cells(page);
-    say(b"\n");
+    say_number(rt, array.len() as u64);
+    say(rt, b"\t");
+    say_address(rt, address);
+    say(rt, b"\t");
+    say_number(rt, page.len() as u64);
+    say(rt, b"\t");
+    say_cells(rt, page);
+    say(rt, b"\n");
 }
 
 // The views of one array.
-fn say_views(array: &[u8]) {
+fn say_views(rt: &impl Print, array: &[u8]) {
     let mut i = 0;
     while i < 14 {
-        say_view(array, ADDRESSES[i]);
+        say_view(rt, array, ADDRESSES[i]);
         i += 1;
     }
 }
 
 // An array of each length: the first cells of a larger one.
-fn say_lengths(cells: &[u8]) {
+fn say_lengths(rt: &impl Print, cells: &[u8]) {
     let mut i = 0;
     while i < 8 {
         let n = LENGTHS[i];
         if n <= cells.len() {
-            say_views(&cells[0..n]);
+            say_views(rt, &cells[0..n]);
         }
         i += 1;
     }
@@ -73,9 +83,9 @@ fn number_cells(cells: &mut [u8]) {
     }
 }
 
-fn main() {
+fn main(rt: HostRuntime) {
     let mut cells = [0u8; 262144];
     number_cells(&mut cells);
-    say(b"length\taddress\tcells\tview\n");
-    say_lengths(&cells);
+    say(&rt, b"length\taddress\tcells\tview\n");
+    say_lengths(&rt, &cells);
 }

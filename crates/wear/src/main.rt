@@ -1,9 +1,13 @@
 // Reads a script from standard input, as the runner does, and writes the wear sheet of its chip to standard output: how often each sector was
 // erased. Model 1 with bench values, from power-on, all cells FF, every count 0; strict where the word strict asks for it. Where the input
 // fails there is no sheet.
-fn main() {
-    let wish = words::asked();
+#![tactic(auto)]
+
+fn main(rt: HostRuntime) {
+    let wish = words::asked(&rt);
     if words::answered(
+        &rt,
+        &rt.stderr(),
         wish,
         b"wear: it knows no words but --help and strict, and takes one of them\n",
         b"usage: wear [strict] <SCRIPT >SHEET
@@ -24,9 +28,9 @@ is refused.
     let mut array = [0xFFu8; 65536];
     let mut wear = [0u32; 16];
     let rec = states::bench_kh25l512();
-    if input::play_input(rec, strict, &mut page, &mut array, &mut wear, false) {
-        let mut sheet = io::large_buffer();
+    if input::play_input(&rt, rec, strict, &mut page, &mut array, &mut wear, false) {
+        let mut sheet = [0u8; 65536];
         let end = wear_rows::put_sheet(&wear, &mut sheet, 0);
-        input::write_first(&sheet, end);
+        input::write_first(&rt, &sheet, end);
     }
 }
