@@ -5,11 +5,9 @@ use mathlib.Core.List.{List, [], ◌∷◌, ◌++◌}
 use Prim.Native.Nat.{ℕ, ◌≤◌}
 use native.Mathlib.Omega.{arith}
 use lib.Dec.{eqb}
-use lib.IntN.{ℤ, pos, negsuc}
 use lib.ListN.{length, take}
-use lib.Signed.{lt_z}
-use borrow.Author.Tests.{eqb-true, eqb-false, ltb-true}
-use Rattle.io.specs.Counts.{clamp_len}
+use borrow.Author.Tests.{eqb-true, eqb-false}
+use Rattle.std.specs.Prelude.{Option, Some, None, IsSome, IsNone, is_some}
 use Rattle.states.specs.declared.Record.{Record}
 use Rattle.lines.specs.Lines.{joined_up}
 use Rattle.lines.specs.Cutting.{held_room}
@@ -23,7 +21,7 @@ use Rattle.feed.proofs.Turns.{stands}
 use Rattle.feed.proofs.Script.{whole-device}
 use Rattle.feed.proofs.Blocks.{Passing, passing-none, passed-more}
 use Rattle.input.specs.declared.blocks.Next.{Next}
-use Rattle.input.specs.Input.{Flushed, first_run, ended_at, BlockPlayed, Kept, LastPlayed, BlockTaken, BlockRead, ScriptPlayed}
+use Rattle.input.specs.Input.{Flushed, first_run, ended_at, brought, BlockPlayed, Kept, LastPlayed, BlockTaken, BlockRead, ScriptPlayed}
 
 -- ---- one block
 
@@ -63,35 +61,35 @@ last-played rec strict run held₀ page₀ cells₀ wear₀ log₀ {last} {page 
     record { kept = record { page' = f.page'; cells' = f.cells'; wear' = f.wear' }; log' = f.log'; quiet = w.quiet }
 
 -- ---- what a read answered
-none-of-failed : (got : ℤ) (most : ℕ) → lt_z got (pos 0) ≡ true → clamp_len got most ≡ 0
-none-of-failed (pos k) most h = absurd (omega (arith, ltb-true k 0 h))
-none-of-failed (negsuc k) most h = refl
+none-of-failed : (got : Option ℕ) (most : ℕ) → IsNone got → brought got most ≡ 0
+none-of-failed None most h = refl
+none-of-failed (Some n) most h = absurd (false≢true (sym h))
 
--- the same number, read back from its bits
-pub taken_at : {rec : Record} {strict written : Bool} {x got : ℤ} {block : List ℕ} {s : Stand} {r : Next} {held page cells wear log : List ℕ} → x ≡ got → BlockTaken rec strict written x block s r held page cells wear log
+-- the same answer
+pub taken_at : {rec : Record} {strict written : Bool} {x got : Option ℕ} {block : List ℕ} {s : Stand} {r : Next} {held page cells wear log : List ℕ} → x ≡ got → BlockTaken rec strict written x block s r held page cells wear log
     → BlockTaken rec strict written got block s r held page cells wear log
 taken_at {rec} {strict} {written} {block = block} {s = s} {r = r} {held = held} {page = page} {cells = cells} {wear = wear} {log = log} e t =
-    subst (λ (z : ℤ). BlockTaken rec strict written z block s r held page cells wear log) e t
+    subst (λ (z : Option ℕ). BlockTaken rec strict written z block s r held page cells wear log) e t
 
-module _ {rec : Record} {strict written : Bool} {got : ℤ} {block : List ℕ} {s : Stand} {r : Next} {held page cells wear log : List ℕ} where
-  pub taken-failed : lt_z got (pos 0) ≡ true → r ≡ ended_at s.run false → Kept s page cells wear → BlockTaken rec strict written got block s r held page cells wear log
-  taken-failed h e k = record { failed = λ g. (e, k); last = λ g z. absurd (false≢true (sym g ∙ h)); some = λ z. absurd (omega (arith, none-of-failed got (length block) h)) }
+module _ {rec : Record} {strict written : Bool} {got : Option ℕ} {block : List ℕ} {s : Stand} {r : Next} {held page cells wear log : List ℕ} where
+  pub taken-failed : IsNone got → r ≡ ended_at s.run false → Kept s page cells wear → BlockTaken rec strict written got block s r held page cells wear log
+  taken-failed h e k = record { failed = λ g. (e, k); last = λ g z. absurd (false≢true (sym h ∙ g)); some = λ z. absurd (omega (arith, none-of-failed got (length block) h)) }
 
-  pub taken-last : {n : ℕ} {well : Bool} → lt_z got (pos 0) ≡ false → n ≡ clamp_len got (length block) → n ≡ 0 → r ≡ ended_at s.run well
+  pub taken-last : {n : ℕ} {well : Bool} → IsSome got → n ≡ brought got (length block) → n ≡ 0 → r ≡ ended_at s.run well
       → LastPlayed (last_of rec strict (begun s)) written well page cells wear log → BlockTaken rec strict written got block s r held page cells wear log
   taken-last {well = well} g c z e p =
       let w : r.well ≡ well = ap (λ (x : Next). x.well) e in
       record {
-        failed = λ h. absurd (false≢true (sym g ∙ h));
+        failed = λ h. absurd (false≢true (sym h ∙ g));
         last = λ h q. (e ∙ ap (ended_at s.run) (sym w), subst (λ (x : Bool). LastPlayed (last_of rec strict (begun s)) written x page cells wear log) (sym w) p);
         some = λ q. absurd (omega (arith, c, z, q));
       }
 
-  pub taken-some : {n : ℕ} → lt_z got (pos 0) ≡ false → n ≡ clamp_len got (length block) → (n ≡ 0 → ⊥) → BlockPlayed rec strict written (take n block) s r held page cells wear log
+  pub taken-some : {n : ℕ} → IsSome got → n ≡ brought got (length block) → (n ≡ 0 → ⊥) → BlockPlayed rec strict written (take n block) s r held page cells wear log
       → BlockTaken rec strict written got block s r held page cells wear log
   taken-some g c z p =
       record {
-        failed = λ h. absurd (false≢true (sym g ∙ h));
+        failed = λ h. absurd (false≢true (sym h ∙ g));
         last = λ h q. absurd (z (c ∙ q));
         some = λ q. subst (λ (x : ℕ). BlockPlayed rec strict written (take x block) s r held page cells wear log) c p;
       }
@@ -116,16 +114,16 @@ went-ended {rec} {strict} {s = s} {held = held} {page = page} {cells = cells} {w
 went_on : {rec : Record} {strict written : Bool} {block : List ℕ} {s : Stand} {r : Next} {held page cells wear log : List ℕ} → BlockPlayed rec strict written block s r held page cells wear log → Went rec strict s r held page cells wear log
 went_on {block = block} p = record { used = p.used; more = λ q. record { block = block; is = stands (p.whole q) }; last = λ q w. absurd (false≢true (sym q ∙ sym p.well' ∙ w)) }
 
-pub went : {rec : Record} {strict written : Bool} {block : List ℕ} {s : Stand} {r : Next} {held page cells wear log : List ℕ} → s.run.used ≤ held_room → (got : ℤ)
+pub went : {rec : Record} {strict written : Bool} {block : List ℕ} {s : Stand} {r : Next} {held page cells wear log : List ℕ} → s.run.used ≤ held_room → (got : Option ℕ)
     → BlockTaken rec strict written got block s r held page cells wear log → Went rec strict s r held page cells wear log
-went {rec} {strict} {block = block} {s = s} {r = r} {held = held} {page = page} {cells = cells} {wear = wear} {log = log} u got t = go (lt_z got (pos 0)) refl (eqb (clamp_len got (length block)) 0) refl
+went {rec} {strict} {block = block} {s = s} {r = r} {held = held} {page = page} {cells = cells} {wear = wear} {log = log} u got t = go (is_some got) refl (eqb (brought got (length block)) 0) refl
   where
-    go : (a : Bool) → lt_z got (pos 0) ≡ a → (b : Bool) → eqb (clamp_len got (length block)) 0 ≡ b → Went rec strict s r held page cells wear log
-    go true h b e = went-ended u (t.failed h).0 (λ q. absurd (false≢true q))
-    go false h true e =
-        let l = t.last h (eqb-true (clamp_len got (length block)) 0 e) in
+    go : (a : Bool) → is_some got ≡ a → (b : Bool) → eqb (brought got (length block)) 0 ≡ b → Went rec strict s r held page cells wear log
+    go false h b e = went-ended u (t.failed h).0 (λ q. absurd (false≢true q))
+    go true h true e =
+        let l = t.last h (eqb-true (brought got (length block)) 0 e) in
         went-ended u l.0 (λ q. l.1.kept)
-    go false h false e = went_on (t.some (omega (arith, eqb-false (clamp_len got (length block)) 0 e)))
+    go true h false e = went_on (t.some (omega (arith, eqb-false (brought got (length block)) 0 e)))
 
 -- ---- read after read: some blocks brought it from `start` to `now`
 pub record Came (rec : Record) (strict : Bool) (start now : Stand) : Type 0 where
