@@ -1,6 +1,6 @@
 #!/usr/bin/env bash
 # What tools/edits.py says of edits that it must not let pass: one that changes no answer, one whose text is not there, one that
-# stands twice, one that does not compile; and of a crate that is not proved.
+# stands more than once, one that does not compile, one after which only a proof does not fit; and of a crate that is not proved or not there.
 set -u
 cd "$(dirname "$0")/.." || exit 1
 work=$(mktemp -d)
@@ -8,11 +8,10 @@ trap 'rm -rf "$work"' EXIT
 passed=0
 failed=0
 
-mkdir -p "$work/crates" "$work/tools" "$work/target"
+mkdir -p "$work/crates/answers" "$work/tools"
 echo 'answers:' >"$work/crates.txt"
-cp -r crates/answers "$work/crates/answers"
+cp -r crates/answers/src crates/answers/specs crates/answers/proofs crates/answers/must-fail "$work/crates/answers/"
 cp tools/edits.py tools/refusals.py "$work/tools/"
-mkdir "$work/target/rlib" "$work/target/stamp" "$work/target/log"
 edits=$work/crates/answers/must-fail
 
 # only NAME OLD NEW: the crate has that edit of its code alone.
@@ -21,10 +20,10 @@ only() {
     printf 'file: src/lib.rt\nold: %s\nnew: %s\n' "$2" "$3" >"$edits/$1.edit"
 }
 
-# says WHAT STATUS COUNTS TEXT: the run ends with that status, has these counts in its last line, and says the text.
+# says WHAT STATUS COUNTS TEXT [CRATE]: the run ends with that status, has these counts in its last line, and says the text.
 says() {
     local status
-    tools/host.sh python -B "$work/tools/edits.py" >"$work/said" 2>&1
+    tools/host.sh python -B "$work/tools/edits.py" ${5:-} >"$work/said" 2>&1
     status=$?
     if [ "$status" -eq "$2" ] && [ "$(tail -n 1 "$work/said")" = "$3" ] && grep -qF "$4" "$work/said"; then
         passed=$((passed + 1))
@@ -38,6 +37,7 @@ says() {
 
 only wrong_number 'Answer::Busy => 11,' 'Answer::Busy => 12,'
 says 'a wrong answer is refused' 0 '1 passed, 0 failed' 'answers/wrong_number: refused, as it must be'
+says 'and is not tried again' 0 '1 passed, 0 failed' 'answers/wrong_number: refused, as it must be' answers
 only another_comment '// ' '//  '
 says 'a text that stands more than once' 1 '0 passed, 1 failed' 'answers/another_comment: BAD EDIT'
 only same_number 'Answer::Busy => 11,' 'Answer::Busy => 0x0B,'
@@ -46,6 +46,9 @@ only no_text 'Answer::Bussy => 11,' 'Answer::Bussy => 12,'
 says 'a text that is not there' 1 '0 passed, 1 failed' 'answers/no_text: BAD EDIT'
 only no_number 'Answer::Busy => 11,' 'Answer::Busy => eleven,'
 says 'an edit that does not compile' 1 '0 passed, 1 failed' 'answers/no_number: BAD EDIT: it did not reach the prover'
+only no_call 'number_of(a) == 0' 'matches!(a, Answer::Done)'
+says 'an edit that the proof does not fit' 1 '0 passed, 1 failed' 'answers/no_call: SHOWS NOTHING: only a proof that names what is gone fails'
+says 'a crate that is not there' 2 'edits: there is no crate answer' 'there is no crate answer' answer
 sed -i 's/Answer::Busy => 11,/Answer::Busy => 12,/' "$work/crates/answers/src/lib.rt"
 only wrong_number 'Answer::Busy => 12,' 'Answer::Busy => 13,'
 says 'a crate that is not proved' 1 '0 passed, 1 failed' 'answers: NOT PROVED as it is'

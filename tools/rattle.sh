@@ -1,41 +1,47 @@
 #!/usr/bin/env bash
-# Asks the toolchain for what a command runs; what is up to date is not proved again.
+# Asks the toolchain for what a command runs; where nothing has changed since it was made, nothing is asked.
 #   tools/rattle.sh COMMAND runner     target/bin/runner
 #   tools/rattle.sh COMMAND wear       target/bin/wear
 #   tools/rattle.sh COMMAND run_rewrite   target/bin/run_rewrite
 #   tools/rattle.sh COMMAND archive    target/staticlib/libpod.a, the functions of `pod` and those of `player`
-# COMMAND is who asks. Which crates are proved, and how many are left, goes to standard error as it comes.
+#   tools/rattle.sh COMMAND programs   the three programs as an `rt ci` that has just passed left them, so that nothing is proved again
+# COMMAND is who asks. Which crates are proved, and how many of those that are needed, goes to standard error as it comes.
 set -u
 cd "$(dirname "$0")/.." || exit 2
 command=$1
-case $2 in
-runner | wear | run_rewrite) tops=$2 made=target/bin/$2 ;;
-archive) tops='pod player' made=target/staticlib/libpod.a ;;
-*) echo "tools/rattle.sh: there is nothing of the name $2" >&2; exit 2 ;;
-esac
+what=$2
+programs='runner wear run_rewrite'
 
-# How many crates of crates.txt it stands on, its own among them; with a word more, their names.
+# of WORD: what it stands on, and what it is.
+of() {
+    case $1 in
+    runner | wear | run_rewrite) tops=$1 made=target/bin/$1 ;;
+    archive) tops='pod player' made=target/staticlib/libpod.a ;;
+    *) echo "tools/rattle.sh: there is nothing of the name $1" >&2; exit 2 ;;
+    esac
+    kept=target/rattle.$1.sources
+}
+
+# crates NAME..: those crates of crates.txt and all that they stand on.
 crates() {
-    awk -F: -v tops="$tops" -v names="${1:-}" '
-        /^[a-z]/ { needs[$1] = $2 }
+    awk -F: -v tops="$*" '
+        /^[a-z]/ { split($1, head, " "); needs[head[1]] = $2 }
         function reach(name,   list, n, i) {
             if (!(name in needs) || name in seen) return
             seen[name] = 1
-            count++
-            if (names != "") print name
+            print name
             n = split(needs[name], list, " ")
             for (i = 1; i <= n; i++) reach(list[i])
         }
         END {
             m = split(tops, own, " ")
             for (k = 1; k <= m; k++) reach(own[k])
-            if (names == "") print count + 0
         }' crates.txt
 }
 
-# What it was made of, in a number: every file of its crates but the must-fail edits; and what was made, in another.
+# What it is made of, in a number: every file of its crates but the must-fail edits and what rt keeps there; and what was made, in another.
 sources() {
-    { echo crates.txt; crates names | while IFS= read -r name; do find "crates/$name" -name must-fail -prune -o -type f -print; done | LC_ALL=C sort; } |
+    { echo crates.txt; crates $tops | while IFS= read -r name; do find "crates/$name" \( -path "crates/$name/must-fail" -o -path "crates/$name/out" \) -prune -o -type f -print; done | LC_ALL=C sort; } |
         tr '\n' '\0' | xargs -0 sha256sum | sha256sum
 }
 
@@ -44,52 +50,65 @@ made_of() {
     sha256sum <"$made"
 }
 
-# `rt staticlib` proves its crate each time. So the archive, and the program of gwo rewrite, are asked for only where a file of either kind is
-# not what it was when they were made.
-kept=target/rattle.$2.sources
-case $2 in
-archive | run_rewrite)
-    now=$(sources)
-    [ -f "$made" ] && [ -f "$kept" ] && [ "$(cat "$kept")" = "$(made_of "$now")" ] && exit 0 ;;
-*) now= ;;
-esac
-if ! command -v rt >/dev/null 2>&1; then
-    echo "$command: the Rattle toolchain is missing: there is no rt on the path" >&2
-    exit 2
-fi
+is_made() {
+    [ -f "$made" ] && [ -f "$kept" ] && [ "$(cat "$kept")" = "$(made_of "$now")" ]
+}
 
-# The toolchain's lines as they come (an awk may wait for more of them): a crate that has just been proved is said.
+# put FILE: it is what was to be made.
+put() {
+    mkdir -p "${made%/*}" && cp "$1" "$made.new" && mv -f "$made.new" "$made" && made_of "$now" >"$kept"
+}
+
+# The toolchain's lines as they come: a crate that has just been proved is said. What it stands on was proved before it.
 progress() {
-    local all line name
-    local -A proved=()
-    all=$(crates)
+    local all line name= proved=
+    all=$(crates $tops | wc -l)
     while IFS= read -r line; do
-        [[ $line =~ ^rt:\ ([a-z0-9_]+)\ proved\ \( ]] || continue
-        name=${BASH_REMATCH[1]}
-        proved[$name]=1
-        [[ $line =~ ^rt:\ [a-z0-9_]+\ proved\ \([0-9]+\ s\)$ ]] || continue
-        echo "$command: $name is proved, ${#proved[@]} of $all crates"
+        if [[ $line =~ ^crate\ ([a-z0-9_]+):\ modules\ loaded=[0-9]+\ checked=[1-9] ]]; then
+            name=${BASH_REMATCH[1]}
+        elif [[ $line == logic=proved* && -n $name ]]; then
+            proved+=" $name"
+            name=
+            echo "$command: ${proved##* } is proved, $(crates $proved | wc -l) of $all crates"
+        fi
     done
 }
 
+# rt runs what it builds: here on nothing, and what it writes is let go.
 ask_program() {
-    rt check "$1"
+    (cd "crates/$1" && rt run </dev/null 2>&1 >/dev/null) && put "crates/$1/out/$1"
 }
 
 # One archive. The two are compiled on their own and joined: together the compiler would keep the frame's code apart from its call for the player's
 # sake, and the pod's calls would take more stack.
 ask_archive() {
-    rt staticlib pod && rt staticlib player &&
-        (cd target/staticlib && ../../tools/host.sh ar x libplayer.a player.o && ../../tools/host.sh ar r libpod.a player.o && rm player.o)
+    local top joined=target/staticlib/joined
+    for top in $tops; do (cd "crates/$top" && rt lib) 2>&1 || return; done
+    rm -rf "$joined" && mkdir -p "$joined" && cp crates/pod/out/libpod.a "$joined/libpod.a" && cp crates/player/out/libplayer.a "$joined/" &&
+        (cd "$joined" && ../../../tools/host.sh ar x libplayer.a player.o && ../../../tools/host.sh ar r libpod.a player.o) &&
+        put "$joined/libpod.a" && rm -r "$joined"
 }
 
-mkdir -p target 2>/dev/null && [ -w target ] || { echo "$command: $made is to be built, and the folder target cannot be written" >&2; exit 2; }
-[ -f "$made" ] || echo "$command: $made is proved and built first, which takes some minutes" >&2
-"ask_$([ "$2" = archive ] && echo archive || echo program)" "$2" 2>&1 | tee "target/rattle.$2.log" | progress >&2
-if [ "${PIPESTATUS[0]}" -eq 0 ] && [ -f "$made" ]; then
-    [ -z "$now" ] || made_of "$now" >"$kept"
+# What rt ci builds of a program for its run stands in the crate's out/.
+if [ "$what" = programs ]; then
+    for name in $programs; do
+        of "$name"
+        now=$(sources)
+        is_made || put "crates/$name/out/$name" || exit 2
+    done
     exit 0
 fi
-cat "target/rattle.$2.log" >&2
+of "$what"
+now=$(sources)
+is_made && exit 0
+if ! command -v rt >/dev/null 2>&1; then
+    echo "$command: the Rattle toolchain is missing: there is no rt on the path" >&2
+    exit 2
+fi
+mkdir -p target 2>/dev/null && [ -w target ] || { echo "$command: $made is to be built, and the folder target cannot be written" >&2; exit 2; }
+[ -f "$made" ] || echo "$command: $made is proved and built first, which takes some minutes" >&2
+"ask_$([ "$what" = archive ] && echo archive || echo program)" "$what" 2>&1 | tee "target/rattle.$what.log" | progress >&2
+[ "${PIPESTATUS[0]}" -eq 0 ] && [ -f "$made" ] && exit 0
+cat "target/rattle.$what.log" >&2
 echo "$command: $made could not be proved and built" >&2
 exit 2

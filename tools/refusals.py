@@ -1,10 +1,12 @@
-"""Why each must-fail edit was refused: a look at the first error of its log, after `rt ci` or `rt must-fail`. The last line counts one check, or those that failed.
+"""Why each must-fail edit was refused: a look at what `rt ci` or `rt must-fail` said of it. The last line counts one check, or those that failed.
 
-    tools/refusals.py [FOLDER]
+    tools/refusals.py LOG
 
-FOLDER holds CRATE/LABEL/.log, as the toolchain leaves it (target/must-fail). An edit shows something only if a fact fails with it.
-Where the proof merely does not fit the edited text any more (a field is missing, a name is out of scope, a fact has another number,
-a function has another number of binders), it shows nothing, and counts as failed. So does an edit of a proof.
+LOG is what the toolchain said. Of each edit it has a line, with the first error or note that is not of a proof file alone. An edit shows something
+only if a fact fails with it. Where the proof merely does not fit the edited text any more (a field is missing, a name is out of scope, a fact has
+another name, a function has another number of binders), it shows nothing, and counts as failed; so does one that is refused only because the prover
+came to a limit of its own, one that the toolchain could not try, and an edit of a proof. An edit of the code may spell the names of steps and of
+goals anew in a proof, as the changed code makes them (`if-n-eq3` becomes `if-n-eq2`), and nothing else there.
 """
 import glob
 import os
@@ -12,62 +14,97 @@ import re
 import sys
 
 ROOT = os.path.dirname(os.path.dirname(os.path.abspath(__file__)))
+REFUSED = 'refused, as it must be'
 
-# What the checker says where the proof does not fit the text, and what that means.
+# What the toolchain says where the proof does not fit the text, or where there is no verdict, and what that means.
 SHAPES = (
+    (r'^ \(only because a proof file names what the edit took away', 'only a proof that names what is gone fails'),
+    (r'^ \(only by a limit of the prover', 'the prover came to a limit'),
     (r'missing field', 'a record lacks a field'),
     (r'has no field', 'a record has no such field'),
     (r'is not in scope', 'a name is not in scope'),
-    (r'has no `Need-', 'a fact that the proof names is not there'),
+    (r'has no `', 'a fact that the proof names is not there'),
+    (r'which was rejected', 'a fact that the proof names is not there'),
     (r'binders?, but its type has room', 'the number of binders is another'),
     (r'(more|fewer) patterns than', 'the number of patterns is another'),
-    (r'has no clause', 'a case is missing'),
+    (r'has no clause|no clause covers', 'a case is missing'),
+    (r'does not define it', 'a definition is taken apart'),
 )
 
 
-def first_error(text):
-    """The first error, or the first note where there is none."""
-    lines = text.split('\n')
-    found = [line for line in lines if re.match(r'[^ ]*: error', line)] or [line for line in lines if line.startswith('note: ')]
-    return found[0] if found else ''
+def said_of(text):
+    """What is said of each edit, by its crate and label; of one that is named twice, the last."""
+    lines = re.findall(r'^rt: must-fail ([a-z0-9_]+)/([A-Za-z0-9_.-]+)\.edit: (.*)', text, re.M)
+    return {(crate, label): said for crate, label, said in lines}
 
 
-def shape(text):
-    """What is wrong with a refusal, or nothing."""
-    error = first_error(text)
-    if not error:
-        return 'its log names no error'
+def shape(said):
+    """What is wrong with that refusal, or nothing."""
+    why = said[len(REFUSED):]
+    if not re.search(r': \S', why):
+        return 'no error is named'
     for pattern, meaning in SHAPES:
-        if re.search(pattern, error):
+        if re.search(pattern, why):
             return meaning
     return ''
 
 
-def edits():
-    """Crate, label and text of each edit."""
+def edits(crates=None):
+    """Crate, label and text of each edit, of these crates or of all."""
     for path in sorted(glob.glob(os.path.join(ROOT, 'crates', '*', 'must-fail', '*.edit'))):
-        with open(path, encoding='utf-8') as file:
-            yield path.split(os.sep)[-3], os.path.basename(path)[:-len('.edit')], file.read()
+        crate, label = path.split(os.sep)[-3], os.path.basename(path)[:-len('.edit')]
+        if crates is None or crate in crates:
+            with open(path, encoding='utf-8') as file:
+                yield crate, label, file.read()
 
 
-def fault(folder, crate, label, text):
-    if re.search(r'^file: proofs/', text, re.M):
+def pairs_of(text):
+    """The replacements of an edit: file, old text, new text."""
+    name = old = None
+    for line in text.split('\n'):
+        if line.startswith('file: '):
+            name = line[len('file: '):].strip()
+        elif line.startswith('old: '):
+            old = line[len('old: '):]
+        elif line.startswith('new:') and name and old:
+            yield name, old, line[len('new:'):].removeprefix(' ')
+            old = None
+
+
+def respells(old, new):
+    """Whether nothing but names of steps and goals is another; such a name begins with its kind, before the first hyphen."""
+    olds, news = (re.split(r'([^\w\'-]+)', it) for it in (old, new))
+    return len(olds) == len(news) and all(a == b or '-' in a and '-' in b and a.split('-')[0] == b.split('-')[0] for a, b in zip(olds, news))
+
+
+def changes_a_proof(text):
+    files = [(name.split('/')[0], respells(old, new)) for name, old, new in pairs_of(text)]
+    proofs = [same for part, same in files if part == 'proofs']
+    return bool(proofs) and (len(proofs) == len(files) or not all(proofs))
+
+
+def fault(said, text):
+    """What is wrong with an edit of that text, of which that was said, or nothing."""
+    if changes_a_proof(text):
         return 'it changes a proof'
-    log = os.path.join(folder, crate, label, '.log')
-    if not os.path.isfile(log):
-        return 'it has no log'
-    with open(log, encoding='utf-8', errors='replace') as file:
-        said = file.read()
+    if said is None:
+        return 'it was not tried'
+    if not said.startswith(REFUSED):
+        return said[:300]
     why = shape(said)
-    return f'{why}: {first_error(said)[:300]}' if why else ''
+    return f'{why}{said[len(REFUSED):][:300]}' if why else ''
 
 
 def main(words):
-    folder = words[0] if words else os.path.join(ROOT, 'target', 'must-fail')
+    if len(words) != 1:
+        print(__doc__, end='', file=sys.stderr)
+        return 2
+    with open(words[0], encoding='utf-8', errors='replace') as file:
+        said = said_of(file.read())
     count = failed = 0
     for crate, label, text in edits():
         count += 1
-        why = fault(folder, crate, label, text)
+        why = fault(said.get((crate, label)), text)
         if why:
             failed += 1
             print(f'refusals: {crate}/{label}: SHOWS NOTHING: {why}')

@@ -22,31 +22,41 @@ count() {
     fi
 }
 
+# The programs and the archive. After a gate that passed the programs are those that it ran.
+built() {
+    local what
+    [ $failed -ne 0 ] || tools/rattle.sh 'make test' programs || return
+    for what in runner wear run_rewrite archive; do tools/rattle.sh 'make test' $what || return; done
+}
+
 if ! command -v rt >/dev/null 2>&1; then
     echo "make test: the Rattle toolchain is missing: there is no rt on the path" >&2
     echo "0 passed, 1 failed"
     exit 1
 fi
 started=$SECONDS
-count rt ci
+count tools/ci.sh
 proved=$SECONDS
-count tools/host.sh python -B tools/refusals.py
-count tools/refusals_test.sh
-count tools/edits_test.sh
-if tools/rattle.sh 'make test' archive; then
+if built; then
     GWO_RUNNER="$PWD/tools/host.sh program $PWD/target/bin/runner"
     GWO_WEAR="$PWD/tools/host.sh program $PWD/target/bin/wear"
     export GWO_RUNNER GWO_WEAR
+    archived=$SECONDS
     count host/test.sh
     count host/gwo/test.sh
     count scripts/test.sh
     count tools/commands.sh
     count tools/rewrite_test.sh
-    count makers/test.sh
-    count tools/host.sh python -B tools/names.py
 else
+    archived=$SECONDS
     failed=$((failed + 1))
 fi
-echo "rt ci took $((proved - started)) s, the host tests $((SECONDS - proved)) s"
+count tools/host.sh python -B tools/refusals.py target/ci.log
+count tools/ci_test.sh
+count tools/refusals_test.sh
+count tools/edits_test.sh
+count makers/test.sh
+count tools/host.sh python -B tools/names.py
+echo "rt ci took $((proved - started)) s, the archive $((archived - proved)) s, the host tests $((SECONDS - archived)) s"
 echo "$passed passed, $failed failed"
 [ "$failed" -eq 0 ]

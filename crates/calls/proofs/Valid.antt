@@ -1,5 +1,5 @@
 -- Every call leaves a valid state valid, its page data fitting and the array as long as it was.
-use mathlib.Core.Path.{◌≡◌, refl, sym, ap, ◌∙◌}
+use mathlib.Core.Path.{◌≡◌, refl}
 use mathlib.Core.Bool.{Bool, true, false, ◌||◌, cond}
 use mathlib.Core.List.{List}
 use mathlib.Core.Logic.{⊎_elim, inl, inr}
@@ -8,14 +8,12 @@ use native.Mathlib.Nat.{le_trans}
 use native.Mathlib.Omega.{arith}
 use lib.Dec.{eqb, ltb}
 use lib.ListN.{length}
-use borrow.Author.Tests.{eqb-true, eqb-false, eq-eqb, ne_eqb, ltb-true}
-use Rattle.units.proofs.Bools.{either, neither}
+use borrow.Author.Tests.{eqb-true, eq-eqb, ne_eqb, ltb-true}
+use Rattle.units.proofs.Bools.{either}
 use Rattle.models.specs.Models.{model_of}
 use Rattle.answers.specs.Answers.{is_done}
-use Rattle.answers.specs.declared.Answer.{Answer}
-use Rattle.commands.specs.Commands.{started_by}
 use Rattle.commands.specs.declared.Operation.{Operation}
-use Rattle.states.specs.States.{longest_settle, record_ok, operation_time, place_ok, used_bytes, used_page, page_ok, blank_page, power_on, Chip, chip_of}
+use Rattle.states.specs.States.{longest_settle, record_ok, operation_time, used_page, page_ok, blank_page, power_on, Chip, chip_of}
 use Rattle.states.specs.declared.Record.{Record}
 use Rattle.states.specs.declared.State.{State}
 use Rattle.states.proofs.States.{Sound, Resting, Running, config-0-ok, only-tb-ok, blank-page, blank_ok}

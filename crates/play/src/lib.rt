@@ -1,4 +1,6 @@
 // A script line played on the chip.
+#![tactic(auto)]
+
 ghost use Rattle.std.specs.Prelude.{◌≡◌};
 ghost use Rattle.states.specs.States.{chip_of};
 ghost use Rattle.play.specs.Play.{Plays, passed_of, frame_turn, play_of};
