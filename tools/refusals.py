@@ -24,10 +24,10 @@ SHAPES = (
     (r'has no field', 'a record has no such field'),
     (r'is not in scope', 'a name is not in scope'),
     (r'has no `', 'a fact that the proof names is not there'),
-    (r'which was rejected', 'a fact that the proof names is not there'),
+    (r'which was (rejected|not admitted)', 'a fact that the proof names is not there'),
     (r'binders?, but its type has room', 'the number of binders is another'),
     (r'(more|fewer) patterns than', 'the number of patterns is another'),
-    (r'has no clause|no clause covers', 'a case is missing'),
+    (r'write the clause|no clause covers', 'a case is missing'),
     (r'does not define it', 'a definition is taken apart'),
 )
 

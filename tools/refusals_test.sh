@@ -50,7 +50,7 @@ says 'a fact of another name' 1 'a fact that the proof names is not there' src/l
 says 'what stands on one' 1 'a fact that the proof names is not there' src/lib.rt "$(error '2 declarations that depend on `goal`, which was rejected, were not checked: returns, loop-i-preserved')"
 says 'another number of binders' 1 'the number of binders is another' src/lib.rt "$(error 'this has 3 binders, but its type has room for only 2')"
 says 'another number of patterns' 1 'the number of patterns is another' src/lib.rt "$(error 'more patterns than the type has arguments')"
-says 'a missing case' 1 'a case is missing' specs/Cell.antt "$(error 'no clause covers 1 case; the missing clause is ..')"
+says 'a missing case' 1 'a case is missing' specs/Cell.antt 'refused, as it must be: ./specs/Cell.antt:7:11: error: `number_of`: write the clause `number_of Torn = …`'
 says 'a definition that is none any more' 1 'a definition is taken apart' specs/Cell.antt "$(error 'this clause follows the signature of `is_done` but does not define it')"
 says 'a refusal without an error' 1 'no error is named' src/lib.rt 'refused, as it must be'
 says 'an edit that is still proved' 1 'SHOWS NOTHING: NOT REFUSED' src/lib.rt 'NOT REFUSED: the crate is still proved with this edit'
