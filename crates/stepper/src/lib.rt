@@ -1,5 +1,7 @@
 // One line's step: the chip's state is one record that is lent to the step and altered there. Above it stands a function with plain
 // parameters, so that whoever calls that one needs no proof by hand; and the line's row of the log.
+#![tactic(auto)]
+
 ghost use Rattle.std.specs.Prelude.{◌+◌, ◌≤◌, length};
 ghost use Rattle.states.specs.States.{chip_of};
 ghost use Rattle.play.specs.Play.{Plays, play_of};
