@@ -1,7 +1,8 @@
 #!/bin/sh
 # The one script that knows the machine. Everything that Rattle compiles is x86-64 code: on x86-64
 # the native compiler makes its C hosts and they run as they are; on Arm Debian's cross compiler makes
-# them, statically linked, and qemu-x86_64 runs them. A missing tool is installed with apt-get.
+# them, statically linked, and qemu-x86_64 runs them, as a processor of the level that Rattle compiles for. A missing
+# tool is installed with apt-get.
 #
 #   tools/host.sh machine              native or emulated
 #   tools/host.sh cc ARG..             compile and link C for x86-64
@@ -10,7 +11,7 @@
 #   tools/host.sh here COMPILER ARG..  compile and link for this machine itself, with its gcc, g++ or clang
 #   tools/host.sh run PROGRAM ARG..    run an x86-64 program that `cc` or `cxx` linked
 #   tools/host.sh program PROGRAM ..   run an x86-64 program that `rt` linked
-#   tools/host.sh kit                  where the toolchain has its emulator and loader, on a machine that needs them
+#   tools/host.sh emulator             the words that run an x86-64 program, on a machine that needs them
 #   tools/host.sh python ARG..         run Python
 #   tools/host.sh need COMMAND PACKAGE..  install the packages, if the command is missing
 #   tools/host.sh count-flags          what the benchmark is compiled with, so that its rows can be counted
@@ -90,21 +91,18 @@ here() {
     exec "$compiler" "$@"
 }
 
+# x86-64-v2; what `rt` links finds the loader and the C library that come with the cross compiler.
+emulator='qemu-x86_64 -cpu Nehalem -L /usr/x86_64-linux-gnu'
+
 run() {
     [ $way = native ] && exec "$@"
     need qemu-x86_64 qemu-user
-    exec qemu-x86_64 -cpu qemu64 "$@"
+    exec $emulator "$@"
 }
 
-kit() {
-    echo "${RATTLE_HOME:-$(dirname "$(dirname "$(readlink -f "$(command -v rt)")")")}/on/$machine/toolchain"
-}
-
-# What `rt` links is loaded by the machine's own loader; on Arm by the one that the toolchain has beside its emulator.
 program() {
-    [ $way = native ] && exec "$@"
-    kit=$(kit)
-    exec "$kit/bin/qemu-x86_64" "$kit/lib/ld-linux-x86-64.so.2" --library-path "$kit/lib" "$@"
+    [ $way = native ] || need x86_64-linux-gnu-gcc gcc-x86-64-linux-gnu libc6-dev-amd64-cross
+    run "$@"
 }
 
 # Callgrind writes one file for each marked stretch: its mark in `desc: Trigger`, its count in `totals`.
@@ -127,7 +125,7 @@ count_emulated() {
     native_cc
     for version in 1 2 3 4 5 6; do
         gcc -O2 -shared -fPIC -DVERSION=$version -o "$dir/counter.so" "$root/host/benchmark/qemu_counter.c"
-        if qemu-x86_64 -cpu qemu64 -plugin "$dir/counter.so,counts=$dir/counts" "$@" >"$dir/qemu.log" 2>&1; then
+        if $emulator -plugin "$dir/counter.so,counts=$dir/counts" "$@" >"$dir/qemu.log" 2>&1; then
             cat "$dir/counts"
             return 0
         fi
@@ -148,16 +146,14 @@ count_all_native() {
 
 count_all_emulated() {
     dir=$1
-    how=$2
     shift 2
     need qemu-x86_64 qemu-user
     native_cc
-    [ "$how" = run ] || set -- "$(kit)/lib/ld-linux-x86-64.so.2" --library-path "$(kit)/lib" "$@"
     for version in 1 2 3 4 5 6; do
         gcc -O2 -shared -fPIC -DVERSION=$version -o "$dir/counter.so" "$root/host/benchmark/qemu_counter.c"
-        qemu-x86_64 -cpu qemu64 -plugin "$dir/counter.so,counts=$dir/counts" "$@" </dev/null >/dev/null 2>&1 && break
+        $emulator -plugin "$dir/counter.so,counts=$dir/counts" "$@" </dev/null >/dev/null 2>&1 && break
     done
-    qemu-x86_64 -cpu qemu64 -plugin "$dir/counter.so,counts=$dir/counts" "$@" >"$dir/out" 2>"$dir/qemu.log" || { cat "$dir/qemu.log" >&2; exit 1; }
+    $emulator -plugin "$dir/counter.so,counts=$dir/counts" "$@" >"$dir/out" 2>"$dir/qemu.log" || { cat "$dir/qemu.log" >&2; exit 1; }
     sed -n 's/^all //p' "$dir/counts"
 }
 
@@ -172,7 +168,7 @@ here) here "$@" ;;
 need) need "$@" ;;
 run) run "$@" ;;
 program) program "$@" ;;
-kit) kit ;;
+emulator) echo "$emulator" ;;
 python)
     need python3 python3-minimal
     exec python3 "$@" ;;
