@@ -1,8 +1,7 @@
 #!/bin/sh
 # The one script that knows the machine. Everything that Rattle compiles is x86-64 code: on x86-64
 # the native compiler makes its C hosts and they run as they are; on Arm Debian's cross compiler makes
-# them, statically linked, and qemu-x86_64 runs them, as a processor of the level that Rattle compiles for. A missing
-# tool is installed with apt-get.
+# them, statically linked, and qemu-x86_64 runs them. A missing tool is installed with apt-get.
 #
 #   tools/host.sh machine              native or emulated
 #   tools/host.sh cc ARG..             compile and link C for x86-64
@@ -11,7 +10,7 @@
 #   tools/host.sh here COMPILER ARG..  compile and link for this machine itself, with its gcc, g++ or clang
 #   tools/host.sh run PROGRAM ARG..    run an x86-64 program that `cc` or `cxx` linked
 #   tools/host.sh program PROGRAM ..   run an x86-64 program that `rt` linked
-#   tools/host.sh emulator             the words that run an x86-64 program, on a machine that needs them
+#   tools/host.sh emulator run|program the words that run one or the other, on a machine that needs them
 #   tools/host.sh python ARG..         run Python
 #   tools/host.sh need COMMAND PACKAGE..  install the packages, if the command is missing
 #   tools/host.sh count-flags          what the benchmark is compiled with, so that its rows can be counted
@@ -91,18 +90,25 @@ here() {
     exec "$compiler" "$@"
 }
 
-# x86-64-v2; what `rt` links finds the loader and the C library that come with the cross compiler.
-emulator='qemu-x86_64 -cpu Nehalem -L /usr/x86_64-linux-gnu'
+# The archive is for any x86-64. What `rt` links is for x86-64-v2, and finds the loader and the C library that come with the cross compiler.
+emulator() {
+    case $1 in
+    run) echo 'qemu-x86_64 -cpu qemu64' ;;
+    program) echo 'qemu-x86_64 -cpu Nehalem -L /usr/x86_64-linux-gnu' ;;
+    esac
+}
 
 run() {
     [ $way = native ] && exec "$@"
     need qemu-x86_64 qemu-user
-    exec $emulator "$@"
+    exec $(emulator run) "$@"
 }
 
 program() {
-    [ $way = native ] || need x86_64-linux-gnu-gcc gcc-x86-64-linux-gnu libc6-dev-amd64-cross
-    run "$@"
+    [ $way = native ] && exec "$@"
+    need qemu-x86_64 qemu-user
+    need x86_64-linux-gnu-gcc gcc-x86-64-linux-gnu libc6-dev-amd64-cross
+    exec $(emulator program) "$@"
 }
 
 # Callgrind writes one file for each marked stretch: its mark in `desc: Trigger`, its count in `totals`.
@@ -125,7 +131,7 @@ count_emulated() {
     native_cc
     for version in 1 2 3 4 5 6; do
         gcc -O2 -shared -fPIC -DVERSION=$version -o "$dir/counter.so" "$root/host/benchmark/qemu_counter.c"
-        if $emulator -plugin "$dir/counter.so,counts=$dir/counts" "$@" >"$dir/qemu.log" 2>&1; then
+        if $(emulator run) -plugin "$dir/counter.so,counts=$dir/counts" "$@" >"$dir/qemu.log" 2>&1; then
             cat "$dir/counts"
             return 0
         fi
@@ -146,14 +152,15 @@ count_all_native() {
 
 count_all_emulated() {
     dir=$1
+    words=$(emulator "$2")
     shift 2
     need qemu-x86_64 qemu-user
     native_cc
     for version in 1 2 3 4 5 6; do
         gcc -O2 -shared -fPIC -DVERSION=$version -o "$dir/counter.so" "$root/host/benchmark/qemu_counter.c"
-        $emulator -plugin "$dir/counter.so,counts=$dir/counts" "$@" </dev/null >/dev/null 2>&1 && break
+        $words -plugin "$dir/counter.so,counts=$dir/counts" "$@" </dev/null >/dev/null 2>&1 && break
     done
-    $emulator -plugin "$dir/counter.so,counts=$dir/counts" "$@" >"$dir/out" 2>"$dir/qemu.log" || { cat "$dir/qemu.log" >&2; exit 1; }
+    $words -plugin "$dir/counter.so,counts=$dir/counts" "$@" >"$dir/out" 2>"$dir/qemu.log" || { cat "$dir/qemu.log" >&2; exit 1; }
     sed -n 's/^all //p' "$dir/counts"
 }
 
@@ -168,7 +175,7 @@ here) here "$@" ;;
 need) need "$@" ;;
 run) run "$@" ;;
 program) program "$@" ;;
-emulator) echo "$emulator" ;;
+emulator) emulator "$@" ;;
 python)
     need python3 python3-minimal
     exec python3 "$@" ;;

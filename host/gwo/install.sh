@@ -34,13 +34,13 @@ Libs: -L\${libdir} -lgwo
 END
 }
 
-# in_emulator PROGRAM WORDS: what starts it where it is no code of this machine.
+# in_emulator HOW PROGRAM NAME: what starts it where it is no code of this machine; HOW is tools/host.sh's word.
 in_emulator() {
     cat <<END
 #!/bin/sh
-# $2 on a machine that is not x86-64: the program runs in an emulator (the packages qemu-user and libc6-amd64-cross).
+# $3 on a machine that is not x86-64: the program runs in an emulator (the packages qemu-user and libc6-amd64-cross).
 here=\$(dirname "\$(readlink -f "\$0")")
-exec $(tools/host.sh emulator) "\$here/$1" "\$@"
+exec $(tools/host.sh emulator "$1") "\$here/$2" "\$@"
 END
 }
 
@@ -64,9 +64,9 @@ install_all() {
         put 755 target/bin/run_rewrite libexec/gwo/gwo-rewrite
     else
         put 755 build/gwo.x86-64 libexec/gwo/gwo.x86-64
-        in_emulator ../libexec/gwo/gwo.x86-64 gwo | put 755 /dev/stdin bin/gwo
+        in_emulator run ../libexec/gwo/gwo.x86-64 gwo | put 755 /dev/stdin bin/gwo
         put 755 target/bin/run_rewrite libexec/gwo/run_rewrite
-        in_emulator run_rewrite 'The program behind gwo rewrite' | put 755 /dev/stdin libexec/gwo/gwo-rewrite
+        in_emulator program run_rewrite 'The program behind gwo rewrite' | put 755 /dev/stdin libexec/gwo/gwo-rewrite
     fi
     echo "make install: gwo $version is in $to"
 }
