@@ -10,7 +10,7 @@ use borrow.Author.Tests.{eqb-true, eq-eqb, ne_eqb, leb-true}
 use borrow.Rule.Slice.PartMut.{mid_of, put_mid}
 use Rattle.units.proofs.Bools.{both}
 use Rattle.states.specs.declared.Record.{Record}
-use Rattle.packing.specs.Packing.{packed, page_in, is_packing, unpack_of}
+use Rattle.packing.specs.Packing.{packed, page_in, is_packing}
 use Rattle.packing.proofs.Packing.{packing-length}
 use Rattle.fits.proofs.Lent.{packing-small, page-long, page-lent, back-page, back-length}
 use Rattle.lines.specs.Cutting.{held_room}

@@ -22,7 +22,7 @@ use Rattle.lines.specs.declared.Cut.{Cut}
 use Rattle.lines.specs.declared.Cut.TheVariants.{Here, Joined, Open}
 use Rattle.lines.specs.Cutting.{cut_of, held_of}
 use Rattle.script_log.specs.Row.{longest_row}
-use Rattle.play.specs.Play.{Turn, frame_turn, turn_of}
+use Rattle.play.specs.Play.{frame_turn, turn_of}
 use Rattle.feed.specs.Feed.{Stand, line_done, cut_turn, feed_turn, feed_for, feed_of, last_of}
 
 -- state and page data fit the 272 bytes

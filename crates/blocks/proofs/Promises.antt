@@ -20,7 +20,7 @@ use Rattle.feed.specs.Script.{begun}
 use Rattle.feed.proofs.Feeds.{feed-feeds, last-finishes}
 use Rattle.feed.proofs.Script.{put-filled}
 use Rattle.blocks.specs.Blocks.{Lending, lent_stand, lent_after, block_refusal, played_from, played_block, played_last, BlockDone}
-use Rattle.blocks.specs.Promises.{BlockCarries, LastCarries, with_log, rows_in, PlayedAll, ends, plays, RowsAreTheLog, OneBlock, OneLast}
+use Rattle.blocks.specs.Promises.{BlockCarries, LastCarries, with_log, rows_in, ends, plays, RowsAreTheLog, OneBlock, OneLast}
 use Rattle.blocks.proofs.Lines.{Fitting, feed-fits, last_fits}
 use Rattle.blocks.proofs.Lent.{Taken, taken, fitting, done, played-done}
 

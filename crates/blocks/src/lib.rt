@@ -1,5 +1,7 @@
 // A block of script text played on a lent chip: the state packed in 272 lent bytes, the rows into a lent log, and the start of a line that the block leaves
 // open in a lent buffer of 641 bytes. The caller comes again with the rest of the text, and with the next block.
+#![tactic(auto)]
+
 ghost use Rattle.std.specs.Prelude.{◌≡◌, true};
 ghost use Rattle.packing.specs.Packing.{is_packing};
 ghost use Rattle.blocks.specs.Blocks.{lending, lent_run, block_refusal, played_block, played_last, LeavesBlock, LeavesLast};
@@ -99,7 +101,12 @@ pub fn last(
     ensures { LeavesLast (played_last rec strict (lending state.old array.old wear.old held.now used.old line.old log.old)) result state.new array.new wear.new used.new line.new log.new written.new }
 {
     *written = 0;
-    let refused = refusal(state, held.len(), *used, script_log::LONGEST_ROW <= log.len());
+    let refused = refusal(
+        state,
+        held.len(),
+        *used,
+        script_log::LONGEST_ROW <= log.len(),
+    );
     if refused != 0 {
         return refused;
     }

@@ -1,9 +1,7 @@
 -- A caller's loops: a block fed again and again until it is used up, and block after block.
-use Rattle.std.proofs.Common.{◌≡◌, ℕ, zero, suc, ◌+◌, ◌<◌, ◌≤◌, Bool, ltb, List, [], ◌∷◌, ◌++◌, length, sym, refl, ap, ◌∙◌, subst, arith, le-ltb, lt-ltb}
+use Rattle.std.proofs.Common.{◌≡◌, ℕ, zero, suc, ◌+◌, ◌<◌, ◌≤◌, Bool, List, [], ◌∷◌, ◌++◌, length, sym, refl, ap, ◌∙◌, subst, arith, le-ltb, lt-ltb}
 use Rattle.states.specs.declared.Record.{Record}
-use Rattle.lines.specs.Cutting.{held_room, Holds}
-use Rattle.lines.proofs.Says.{holds-none}
-use Rattle.text.proofs.PutLaws.{put_same}
+use Rattle.lines.specs.Cutting.{held_room}
 use Rattle.script_log.specs.Row.{longest_row}
 use Rattle.feed.specs.declared.Run.{Run}
 use Rattle.feed.specs.Feed.{Start, Stand, standing, feed_of, Stands}

@@ -7,9 +7,8 @@ use Rattle.text.specs.Put.{Put}
 use Rattle.text.proofs.PutLaws.{put-none, put_as, put_then}
 use Rattle.lines.specs.Lines.{lines_from, last_line}
 use Rattle.lines.specs.Cutting.{Holds, held_room}
-use Rattle.stepper.specs.declared.Logged.{Logged}
 use Rattle.play.specs.Play.{Turn}
-use Rattle.stepper.specs.Rows.{Device, line_turn, row_text, chip_after, log_from, device_from}
+use Rattle.stepper.specs.Rows.{line_turn, row_text, chip_after, log_from, device_from}
 use Rattle.stepper.proofs.Rows.{row-short}
 use Rattle.script_log.specs.Row.{longest_row}
 use Rattle.feed.specs.declared.Run.{Run}

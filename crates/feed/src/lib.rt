@@ -1,4 +1,6 @@
 // Blocks of a script fed to the chip: the lines that end in a block are played, and their rows go into the log.
+#![tactic(auto)]
+
 ghost use Rattle.std.specs.Prelude.{◌≡◌, ◌+◌, ◌<◌, ◌≤◌, [], length};
 ghost use Rattle.script_log.specs.Row.{longest_row};
 ghost use Rattle.lines.specs.Cutting.{held_room};

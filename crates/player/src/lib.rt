@@ -1,5 +1,7 @@
 // What a program on a computer calls besides `pod`: script text played on a chip, block after block. It has an archive of its own, so that what the pod's firmware
 // calls stays as small and as quick as it is.
+#![tactic(auto)]
+
 ghost use Rattle.std.specs.Prelude.{not, eqb};
 ghost use Rattle.packing.specs.Packing.{record_of};
 ghost use Rattle.blocks.specs.Blocks.{lending, played_block, played_last, LeavesBlock, LeavesLast};

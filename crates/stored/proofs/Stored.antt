@@ -1,8 +1,8 @@
 -- A rewritten line is played as the line was before, so the logs are the same.
-use mathlib.Core.Path.{◌≡◌, refl, sym, ap, ◌∙◌}
+use mathlib.Core.Path.{◌≡◌, refl, ap, ◌∙◌}
 use mathlib.Core.Bool.{Bool}
 use mathlib.Core.List.{List, [], ◌∷◌, ◌++◌, map}
-use Prim.Native.Nat.{ℕ, zero, suc}
+use Prim.Native.Nat.{ℕ, suc}
 use lib.ListN.{take, drop, replicate}
 use Rattle.states.specs.States.{Chip}
 use Rattle.states.specs.declared.Record.{Record}
@@ -11,9 +11,9 @@ use Rattle.script.specs.Reading.{line_of}
 use Rattle.script.specs.declared.Line.{Line}
 use Rattle.script.specs.declared.Line.TheVariants.{Frame, Wait, Power, Bad}
 use Rattle.lines.specs.Lines.{lines_from}
-use Rattle.play.specs.Play.{Turn, frame_turn, turn_of, play_of}
+use Rattle.play.specs.Play.{Turn, frame_turn, turn_of}
 use Rattle.stepper.specs.Rows.{line_turn, row_text, chip_after, next, log_from}
-use Rattle.rewrite.specs.Rewriting.{rewritten_line, rewritten}
+use Rattle.rewrite.specs.Rewriting.{rewritten_line}
 use Rattle.rewrite.specs.Promises.{first_replaced}
 use Rattle.rewrite.proofs.Frames.{says-the-same, frame-replaced}
 use Rattle.rewrite.proofs.Scripts.{line-by-line}

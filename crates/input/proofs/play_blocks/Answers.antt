@@ -1,5 +1,5 @@
 -- `input::play_blocks` meets its contract: after each block, some blocks brought it from power-on to where it stands.
-use Rattle.std.proofs.Common.{◌∙◌, rules}
+use Rattle.std.proofs.Common.{◌∙◌}
 use borrow.Author.Tests.{not-true, not-false}
 use Rattle.input.proofs.Came.{went, came-more, came-last}
 use Rattle.input.proofs.play_blocks.Goals as goal

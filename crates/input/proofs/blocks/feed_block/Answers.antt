@@ -1,5 +1,5 @@
 -- `input::blocks::feed_block` meets its contract: each turn feeds at least one more byte of the block, until it is used up (`Passing`).
-use Rattle.std.proofs.Common.{sym, ap, ◌∙◌, arith, rules}
+use Rattle.std.proofs.Common.{sym, ap, arith}
 use Rattle.feed.specs.declared.Run.{Run}
 use Rattle.feed.proofs.Turns.{front}
 use Rattle.feed.proofs.Blocks.{passing-on, passing-less, passing-all}
