@@ -20,12 +20,13 @@ only() {
     printf 'file: src/lib.rt\nold: %s\nnew: %s\n' "$2" "$3" >"$edits/$1.edit"
 }
 
-# says WHAT STATUS COUNTS TEXT [CRATE]: the run ends with that status, has these counts in its last line, and says the text.
+# says WHAT STATUS COUNTS TEXT [CRATE [KEPT]]: the run ends with that status, has these counts in its last line, and says the text; what is kept of
+# the crate says the other text.
 says() {
     local status
     tools/host.sh python -B "$work/tools/edits.py" ${5:-} >"$work/said" 2>&1
     status=$?
-    if [ "$status" -eq "$2" ] && [ "$(tail -n 1 "$work/said")" = "$3" ] && grep -qF "$4" "$work/said"; then
+    if [ "$status" -eq "$2" ] && [ "$(tail -n 1 "$work/said")" = "$3" ] && grep -qF "$4" "$work/said" && { [ $# -lt 6 ] || grep -qF "$6" "$work/target/edits/$5.log"; }; then
         passed=$((passed + 1))
         echo "passed  edits: $1"
     else
@@ -37,7 +38,7 @@ says() {
 
 only wrong_number 'Answer::Busy => 11,' 'Answer::Busy => 12,'
 says 'a wrong answer is refused' 0 '1 passed, 0 failed' 'answers/wrong_number: refused, as it must be'
-says 'and is not tried again' 0 '1 passed, 0 failed' 'answers/wrong_number: refused, as it must be' answers
+says 'and is not tried again' 0 '1 passed, 0 failed' 'answers/wrong_number: refused, as it must be' answers '1 of its 1 must-fail edits were tried by an earlier run'
 only another_comment '// ' '//  '
 says 'a text that stands more than once' 1 '0 passed, 1 failed' 'answers/another_comment: BAD EDIT'
 only same_number 'Answer::Busy => 11,' 'Answer::Busy => 0x0B,'
