@@ -5,8 +5,6 @@
 set -u
 cd "$(dirname "$0")/.." || exit 1
 unset MAKEFLAGS MFLAGS MAKELEVEL SCRIPT LOG STRICT MODEL IMAGE SAVE GWO_BEHIND
-# On Arm the runner's emulator stands beside the real rt, which the stand-in hides.
-real=$(command -v rt) && export RATTLE_HOME="${RATTLE_HOME:-$(dirname "$(dirname "$(readlink -f "$real")")")}"
 passed=0
 failed=0
 work=$(mktemp -d)
@@ -26,13 +24,26 @@ check() {
     fi
 }
 
-# stand_in STATUS LINE..: an rt that prints the lines and ends so; the archive then counts as new.
+# stand_in STATUS LINE..: an rt that prints the lines, leaves a program in crates/runner and ends so.
 stand_in() {
     local status=$1
     shift
     mkdir -p "$work/bin"
-    { echo '#!/bin/sh'; printf "echo '%s'\n" "$@"; echo "exit $status"; } >"$work/bin/rt"
+    { echo '#!/bin/sh'; printf "echo '%s'\n" "$@"; echo 'case $PWD in */crates/runner) mkdir -p out && echo made >out/runner ;; esac'; echo "exit $status"; } >"$work/bin/rt"
     chmod +x "$work/bin/rt"
+}
+
+# fresh: a project of three crates, in which nothing is built yet.
+fresh() {
+    local name
+    rm -rf "$work/fresh" && mkdir "$work/fresh" && cp -r tools "$work/fresh/" || return 1
+    printf '%s\n' '# below' 'units:' 'cells staticlib: units' 'runner: units cells' 'wear: units' >"$work/fresh/crates.txt"
+    for name in units cells runner wear; do mkdir -p "$work/fresh/crates/$name/src" && echo "// $name" >"$work/fresh/crates/$name/src/lib.rt" || return 1; done
+}
+
+# from_fresh COMMAND..: there; what it says is in $work/err.
+from_fresh() {
+    (cd "$work/fresh" && PATH=$work/bin:$PATH "$@") >"$work/out" 2>"$work/err" </dev/null
 }
 
 # ends WANTED WORDS COMMAND..: with that status, and with those words on standard error, if there are any.
@@ -101,29 +112,54 @@ misspelt() {
 # Only what the scripts need is on the path, and no rt.
 no_toolchain() {
     local tool got=0
-    mkdir "$work/bare"
-    for tool in bash sh env dirname cat mkdir; do
+    fresh && mkdir "$work/bare" || return 1
+    for tool in bash sh env dirname cat mkdir awk find sort tr xargs sha256sum; do
         ln -s "$(command -v $tool)" "$work/bare/$tool" || return 1
     done
-    PATH=$work/bare tools/rattle.sh 'make run' runner >"$work/out" 2>"$work/err" || got=$?
-    [ $got -eq 2 ] && grep -q 'Rattle toolchain is missing: there is no rt' "$work/err" || { cat "$work/err"; return 1; }
+    (cd "$work/fresh" && PATH=$work/bare tools/rattle.sh 'make run' runner) >"$work/out" 2>"$work/err" || got=$?
+    [ $got -eq 2 ] && echo 'make run: the Rattle toolchain is missing: there is no rt on the path' | diff - "$work/err"
 }
 
+# proves NAME [CHECKED]: what rt says of a crate that it has checked; with 0, of one that it had checked before.
+proves() {
+    printf '%s\n' "fn $1::wide: proved" 'statements core: modules loaded=222 checked=0' "crate $1: modules loaded=58 checked=${2:-30}" 'logic=proved functions=1 sum=d'
+}
+
+# What is proved is said, with all below it counted; what was proved before is not.
 progress() {
-    stand_in 0 'fn units::wide: proved' 'rt: units proved (15 s)' 'rt: cells proved (unchanged since it was last proved)' 'rt: runner proved (28 s)'
-    PATH=$work/bin:$PATH tools/rattle.sh 'make run' runner >"$work/out" 2>"$work/err" || return 1
-    sed 's/ of [0-9]* crates$//' "$work/err" >"$work/steps"
-    printf 'make run: %s\n' 'units is proved, 1' 'runner is proved, 3' | diff -a - "$work/steps"
+    local said
+    mapfile -t said < <(echo 'only=0 proved=0'; proves units; proves cells 0; proves runner)
+    fresh && stand_in 0 "${said[@]}" && from_fresh tools/rattle.sh 'make run' runner || { cat "$work/err"; return 1; }
+    printf 'make run: %s\n' 'target/bin/runner is proved and built first, which takes some minutes' 'units is proved, 1 of 3 crates' 'runner is proved, 3 of 3 crates' | diff -a - "$work/err" &&
+        echo made | diff - "$work/fresh/target/bin/runner" || return 1
+    # and with no file changed rt is not asked again; an edit, or what rt keeps, is no change
+    mkdir "$work/fresh/crates/units/must-fail" "$work/fresh/crates/units/out" && touch "$work/fresh/crates/units/must-fail/x.edit" "$work/fresh/crates/units/out/x" && stand_in 1 &&
+        from_fresh tools/rattle.sh 'make run' runner || return 1
+    echo '// another' >>"$work/fresh/crates/units/src/lib.rt"
+    ! from_fresh tools/rattle.sh 'make run' runner
+}
+
+# The programs as rt ci left them are taken, and rt is not asked for them then.
+as_left() {
+    local name
+    fresh && sed -i 's/^wear:/run_rewrite: units\nwear:/' "$work/fresh/crates.txt" && mkdir -p "$work/fresh/crates/run_rewrite/src" && stand_in 1 || return 1
+    ! from_fresh tools/rattle.sh 'make test' programs || { echo 'programs that are not there are taken'; return 1; }
+    for name in runner wear run_rewrite; do mkdir -p "$work/fresh/crates/$name/out" && echo "$name" >"$work/fresh/crates/$name/out/$name" || return 1; done
+    from_fresh tools/rattle.sh 'make test' programs || { cat "$work/err"; return 1; }
+    for name in runner wear run_rewrite; do
+        from_fresh tools/rattle.sh 'make test' $name && echo "$name" | diff - "$work/fresh/target/bin/$name" || return 1
+    done
 }
 
 # A crate is said before the next one is done: the stand-in waits until it was.
 at_once() {
-    local tries=0 pid
-    rm -f "$work/err"
-    stand_in 0 'rt: units proved (15 s)'
+    local tries=0 pid said
+    rm -f "$work/err" "$work/seen"
+    mapfile -t said < <(proves units)
+    fresh && stand_in 0 "${said[@]}" || return 1
     sed -i '$d' "$work/bin/rt"
     echo "for i in \$(seq 100); do [ -e '$work/seen' ] && exit 0; sleep 0.1; done; exit 1" >>"$work/bin/rt"
-    PATH=$work/bin:$PATH tools/rattle.sh 'make run' runner >"$work/out" 2>"$work/err" &
+    from_fresh tools/rattle.sh 'make run' runner &
     pid=$!
     while [ $((tries += 1)) -lt 80 ] && [ ! -e "$work/seen" ]; do
         sleep 0.1
@@ -133,8 +169,8 @@ at_once() {
 }
 
 not_proved() {
-    stand_in 1 'rt: units NOT PROVED (exit 1, 2 s)'
-    ends 2 'rt: units NOT PROVED' tools/rattle.sh 'make run' runner
+    fresh && stand_in 1 'fn units::wide: not proved' || return 1
+    ! from_fresh tools/rattle.sh 'make run' runner && grep -q '^fn units::wide: not proved$' "$work/err" && grep -q '^make run: target/bin/runner could not be proved and built$' "$work/err"
 }
 
 differs() {
@@ -222,7 +258,7 @@ example_full_disk() {
 copied() {
     local copy="$work/a \$ copy" name
     mkdir -m 755 "$copy" && chmod 755 "$work" || return 1
-    cp -a Makefile tools host scripts crates crates.txt "$copy/" && mkdir "$copy/target" && cp -a target/bin target/staticlib target/rattle.*.sources "$copy/target/" && cp -a build "$copy/" || return 1
+    cp -a Makefile tools host scripts crates.txt "$copy/" && tar -c --exclude='crates/*/out' crates | tar -x -C "$copy" && mkdir "$copy/target" && cp -a target/bin target/staticlib target/rattle.*.sources "$copy/target/" && cp -a build "$copy/" || return 1
     touch "$copy/host/gwo/main.c" # so that it is built there
     gives scripts/example.log make -C "$copy" run SCRIPT=scripts/example.txt && gives "$work/examples" make -C "$copy" example || return 1
     [ "$(id -u)" -eq 0 ] && command -v setpriv >/dev/null || return 0
@@ -287,6 +323,7 @@ check 'install and uninstall' installed
 check 'lib and gwo: nothing is asked for again' asked_once
 check 'run: what is proved is said' progress
 check 'run: it is said at once' at_once
+check 'the programs of the gate' as_left
 check 'run: what is not proved is said' not_proved
 echo "$passed passed, $failed failed"
 [ "$failed" -eq 0 ]

@@ -10,7 +10,7 @@
 #   tools/host.sh here COMPILER ARG..  compile and link for this machine itself, with its gcc, g++ or clang
 #   tools/host.sh run PROGRAM ARG..    run an x86-64 program that `cc` or `cxx` linked
 #   tools/host.sh program PROGRAM ..   run an x86-64 program that `rt` linked
-#   tools/host.sh kit                  where the toolchain has its emulator and loader, on a machine that needs them
+#   tools/host.sh emulator run|program the words that run one or the other, on a machine that needs them
 #   tools/host.sh python ARG..         run Python
 #   tools/host.sh need COMMAND PACKAGE..  install the packages, if the command is missing
 #   tools/host.sh count-flags          what the benchmark is compiled with, so that its rows can be counted
@@ -90,21 +90,25 @@ here() {
     exec "$compiler" "$@"
 }
 
+# The archive is for any x86-64. What `rt` links is for x86-64-v2, and finds the loader and the C library that come with the cross compiler.
+emulator() {
+    case $1 in
+    run) echo 'qemu-x86_64 -cpu qemu64' ;;
+    program) echo 'qemu-x86_64 -cpu Nehalem -L /usr/x86_64-linux-gnu' ;;
+    esac
+}
+
 run() {
     [ $way = native ] && exec "$@"
     need qemu-x86_64 qemu-user
-    exec qemu-x86_64 -cpu qemu64 "$@"
+    exec $(emulator run) "$@"
 }
 
-kit() {
-    echo "${RATTLE_HOME:-$(dirname "$(dirname "$(readlink -f "$(command -v rt)")")")}/on/$machine/toolchain"
-}
-
-# What `rt` links is loaded by the machine's own loader; on Arm by the one that the toolchain has beside its emulator.
 program() {
     [ $way = native ] && exec "$@"
-    kit=$(kit)
-    exec "$kit/bin/qemu-x86_64" "$kit/lib/ld-linux-x86-64.so.2" --library-path "$kit/lib" "$@"
+    need qemu-x86_64 qemu-user
+    need x86_64-linux-gnu-gcc gcc-x86-64-linux-gnu libc6-dev-amd64-cross
+    exec $(emulator program) "$@"
 }
 
 # Callgrind writes one file for each marked stretch: its mark in `desc: Trigger`, its count in `totals`.
@@ -127,7 +131,7 @@ count_emulated() {
     native_cc
     for version in 1 2 3 4 5 6; do
         gcc -O2 -shared -fPIC -DVERSION=$version -o "$dir/counter.so" "$root/host/benchmark/qemu_counter.c"
-        if qemu-x86_64 -cpu qemu64 -plugin "$dir/counter.so,counts=$dir/counts" "$@" >"$dir/qemu.log" 2>&1; then
+        if $(emulator run) -plugin "$dir/counter.so,counts=$dir/counts" "$@" >"$dir/qemu.log" 2>&1; then
             cat "$dir/counts"
             return 0
         fi
@@ -148,16 +152,15 @@ count_all_native() {
 
 count_all_emulated() {
     dir=$1
-    how=$2
+    words=$(emulator "$2")
     shift 2
     need qemu-x86_64 qemu-user
     native_cc
-    [ "$how" = run ] || set -- "$(kit)/lib/ld-linux-x86-64.so.2" --library-path "$(kit)/lib" "$@"
     for version in 1 2 3 4 5 6; do
         gcc -O2 -shared -fPIC -DVERSION=$version -o "$dir/counter.so" "$root/host/benchmark/qemu_counter.c"
-        qemu-x86_64 -cpu qemu64 -plugin "$dir/counter.so,counts=$dir/counts" "$@" </dev/null >/dev/null 2>&1 && break
+        $words -plugin "$dir/counter.so,counts=$dir/counts" "$@" </dev/null >/dev/null 2>&1 && break
     done
-    qemu-x86_64 -cpu qemu64 -plugin "$dir/counter.so,counts=$dir/counts" "$@" >"$dir/out" 2>"$dir/qemu.log" || { cat "$dir/qemu.log" >&2; exit 1; }
+    $words -plugin "$dir/counter.so,counts=$dir/counts" "$@" >"$dir/out" 2>"$dir/qemu.log" || { cat "$dir/qemu.log" >&2; exit 1; }
     sed -n 's/^all //p' "$dir/counts"
 }
 
@@ -172,7 +175,7 @@ here) here "$@" ;;
 need) need "$@" ;;
 run) run "$@" ;;
 program) program "$@" ;;
-kit) kit ;;
+emulator) emulator "$@" ;;
 python)
     need python3 python3-minimal
     exec python3 "$@" ;;

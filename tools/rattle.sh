@@ -61,7 +61,7 @@ put() {
 
 # The toolchain's lines as they come: a crate that has just been proved is said. What it stands on was proved before it.
 progress() {
-    local all line name= proved=
+    local all line name='' proved=''
     all=$(crates $tops | wc -l)
     while IFS= read -r line; do
         if [[ $line =~ ^crate\ ([a-z0-9_]+):\ modules\ loaded=[0-9]+\ checked=[1-9] ]]; then
@@ -74,16 +74,16 @@ progress() {
     done
 }
 
-# rt runs what it builds: here on nothing, and what it writes is let go.
+# rt runs what it builds: here on nothing.
 ask_program() {
-    (cd "crates/$1" && rt run </dev/null 2>&1 >/dev/null) && put "crates/$1/out/$1"
+    (cd "crates/$1" && rt run </dev/null) && put "crates/$1/out/$1"
 }
 
-# One archive. The two are compiled on their own and joined: together the compiler would keep the frame's code apart from its call for the player's
-# sake, and the pod's calls would take more stack.
+# One archive, for any x86-64: what rt compiles unasked is for x86-64-v2, and an archive cannot see where it runs. The two are compiled on their own and
+# joined: together the compiler would keep the frame's code apart from its call for the player's sake, and the pod's calls would take more stack.
 ask_archive() {
     local top joined=target/staticlib/joined
-    for top in $tops; do (cd "crates/$top" && rt lib) 2>&1 || return; done
+    for top in $tops; do (cd "crates/$top" && rt lib --cpu x86-64) || return; done
     rm -rf "$joined" && mkdir -p "$joined" && cp crates/pod/out/libpod.a "$joined/libpod.a" && cp crates/player/out/libplayer.a "$joined/" &&
         (cd "$joined" && ../../../tools/host.sh ar x libplayer.a player.o && ../../../tools/host.sh ar r libpod.a player.o) &&
         put "$joined/libpod.a" && rm -r "$joined"

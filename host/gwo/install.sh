@@ -34,24 +34,13 @@ Libs: -L\${libdir} -lgwo
 END
 }
 
-# Where the program is no code of this machine.
+# in_emulator HOW PROGRAM NAME: what starts it where it is no code of this machine; HOW is tools/host.sh's word.
 in_emulator() {
-    cat <<'END'
-#!/bin/sh
-# gwo on a machine that is not x86-64: the program runs in an emulator (the package qemu-user).
-here=$(dirname "$(readlink -f "$0")")
-exec qemu-x86_64 -cpu qemu64 "$here/../libexec/gwo/gwo.x86-64" "$@"
-END
-}
-
-# What the toolchain links needs the loader that it has beside its emulator.
-rewrite_in_emulator() {
-    kit=$(tools/host.sh kit)
     cat <<END
 #!/bin/sh
-# The program behind gwo rewrite on a machine that is not x86-64, in the emulator of the Rattle toolchain.
+# $3 on a machine that is not x86-64: the program runs in an emulator (the packages qemu-user and libc6-amd64-cross).
 here=\$(dirname "\$(readlink -f "\$0")")
-exec '$kit/bin/qemu-x86_64' '$kit/lib/ld-linux-x86-64.so.2' --library-path '$kit/lib' "\$here/run_rewrite"
+exec $(tools/host.sh emulator "$1") "\$here/$2" "\$@"
 END
 }
 
@@ -75,9 +64,9 @@ install_all() {
         put 755 target/bin/run_rewrite libexec/gwo/gwo-rewrite
     else
         put 755 build/gwo.x86-64 libexec/gwo/gwo.x86-64
-        in_emulator | put 755 /dev/stdin bin/gwo
+        in_emulator run ../libexec/gwo/gwo.x86-64 gwo | put 755 /dev/stdin bin/gwo
         put 755 target/bin/run_rewrite libexec/gwo/run_rewrite
-        rewrite_in_emulator | put 755 /dev/stdin libexec/gwo/gwo-rewrite
+        in_emulator program run_rewrite 'The program behind gwo rewrite' | put 755 /dev/stdin libexec/gwo/gwo-rewrite
     fi
     echo "make install: gwo $version is in $to"
 }

@@ -73,7 +73,7 @@ read_by_flashrom() {
 
 # The emulator itself is started, not the script that starts it: its times are to be had.
 program_words=build/gwo
-[ ! -s build/gwo.x86-64 ] || program_words="qemu-x86_64 -cpu qemu64 build/gwo.x86-64"
+[ ! -s build/gwo.x86-64 ] || program_words="$(tools/host.sh emulator run) build/gwo.x86-64"
 [ -s build/gwo.x86-64 ] || [ "$(uname -m)" = x86_64 ] || how=none
 script
 if [ $how = none ]; then

@@ -21,7 +21,7 @@ use Rattle.feed.proofs.Turns.{stands}
 use Rattle.feed.proofs.Script.{whole-device}
 use Rattle.feed.proofs.Blocks.{Passing, passing-none, passed-more}
 use Rattle.input.specs.declared.blocks.Next.{Next}
-use Rattle.input.specs.Input.{Flushed, first_run, ended_at, brought, BlockPlayed, Kept, LastPlayed, BlockTaken, BlockRead, ScriptPlayed}
+use Rattle.input.specs.Input.{Flushed, first_run, ended_at, brought, BlockPlayed, Kept, LastPlayed, BlockTaken, ScriptPlayed}
 
 -- ---- one block
 

@@ -8,9 +8,9 @@ use Rattle.states.specs.States.{power_on, chip_of}
 use Rattle.lines.specs.Lines.{lines_from}
 use Rattle.lines.specs.Cutting.{held_room}
 use Rattle.script_log.specs.Row.{longest_row}
-use Rattle.stepper.specs.Rows.{Device, device_from}
+use Rattle.stepper.specs.Rows.{device_from}
 use Rattle.feed.specs.declared.Run.{Run}
-use Rattle.feed.specs.Feed.{Stand, standing, last_of, Stands}
+use Rattle.feed.specs.Feed.{Stand, last_of, Stands}
 use Rattle.feed.specs.Script.{begun, whole_block}
 use Rattle.input.specs.declared.blocks.Next.{Next}
 

@@ -1,5 +1,5 @@
 -- What C calls, one effect a call: the number returned and what each lent place holds after.
-use Rattle.std.specs.Prelude.{Bool, true, false, not, cond, List, ◌≡◌, ℕ, ◌≤◌, eqb, length}
+use Rattle.std.specs.Prelude.{true, false, not, cond, List, ◌≡◌, ℕ, ◌≤◌, eqb, length}
 use Rattle.answers.specs.Answers.{number_of, is_done}
 use Rattle.answers.specs.Tables.{first_of}
 use Rattle.ladder.specs.Ladder.{Loan, lent_rows, call_rows}

@@ -1,5 +1,7 @@
 // What the pod's firmware, written in C, calls: frame, wait, power cycle and cut on numbers and byte slices, the state packed in 272 lent bytes. The last 256
 // are the page data, and are lent on as they stand. In `discovery`, the SFDP table; in `levels`, the pins.
+#![tactic(auto)]
+
 mod discovery;
 mod levels;
 

@@ -49,7 +49,7 @@ use Rattle.chip.proofs.Sorts.{is-done, notes, counts, moves, Move, stays, latche
 use Rattle.chip.proofs.Cases.{head, refusal, frame-cases, sort, shown-asked, refused-moves, table-frame}
 use Rattle.calls.specs.Calls.{sends, waits, cycles, cuts, after, Bench}
 use Rattle.calls.proofs.Steps.{wait-taken, waits-to, refused-frame}
-use Rattle.promises.specs.Laws.{WaitsAdd, RefusedFrame, RefusedWait, RefusedCut, RefusedCycle, unit, OnlyItsUnit, CutsOnlyItsUnit, ProgramFalls, NotBefore, unit_cells, PatternOld, PatternFinished, OneOutcome, OneEffect, OneShown, OneStarted, OneDone, OneCounting, OneLeft, OneEnd, OneCycle, NumberFixed, FoldNoted, RefusalKeeps, RefusalClears, LatchFalls, TbStays, among, settling_numbers, SettlingAnswers, SettlingStays, WearCounted}
+use Rattle.promises.specs.Laws.{WaitsAdd, RefusedFrame, RefusedWait, RefusedCut, RefusedCycle, OnlyItsUnit, CutsOnlyItsUnit, ProgramFalls, NotBefore, unit_cells, PatternOld, PatternFinished, OneOutcome, OneEffect, OneShown, OneStarted, OneDone, OneCounting, OneLeft, OneEnd, OneCycle, NumberFixed, FoldNoted, RefusalKeeps, RefusalClears, LatchFalls, TbStays, among, settling_numbers, SettlingAnswers, SettlingStays, WearCounted}
 
 -- ---- waits
 -- both waits run the time out exactly where their sum does

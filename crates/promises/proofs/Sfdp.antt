@@ -1,6 +1,5 @@
 -- The statements of `specs/Sfdp.antt`.
-use mathlib.Core.Path.{◌≡◌, refl, sym, ap, subst, ◌∙◌}
-use mathlib.Core.Bool.{true, false}
+use mathlib.Core.Path.{◌≡◌, refl, ap, subst, ◌∙◌}
 use mathlib.Core.List.{List, [], ◌∷◌}
 use mathlib.Core.Logic.{⊎_elim}
 use Prim.Native.Nat.{ℕ, zero, suc, ◌+◌, ◌-◌, ◌≤◌, ◌<◌}
@@ -30,7 +29,7 @@ use Rattle.chip.specs.Frames.{Sent, head_for, head_of, accepted_of, frame_of}
 use Rattle.chip.proofs.Cases.{refusal}
 use Rattle.calls.proofs.Steps.{taken, stopped_by, refused-frame}
 use Rattle.promises.specs.Withdrawn.{Clear21}
-use Rattle.promises.specs.Sfdp.{Begins5A, SfdpTaken, SfdpShort, SfdpUnknown, seen_by, SfdpSeen, HostFinds, HostReads}
+use Rattle.promises.specs.Sfdp.{Begins5A, SfdpTaken, SfdpShort, SfdpUnknown, seen_by, SfdpSeen, HostReads}
 
 -- a frame that begins with 5A has a byte
 some : (bytes : List ℕ) → get_or bytes 0 0 ≡ 0x5A → length bytes ≡ 0 → ⊥

@@ -1,6 +1,6 @@
 -- The statements of `specs/Withdrawn.antt`.
 use mathlib.Core.Path.{◌≡◌, refl, sym, ap, subst, ◌∙◌}
-use mathlib.Core.Bool.{Bool, true, false, not, ◌&&◌, ◌||◌, true≢false, false≢true}
+use mathlib.Core.Bool.{Bool, true, false, not, ◌||◌, true≢false, false≢true}
 use mathlib.Core.List.{List, [], ◌∷◌}
 use mathlib.Core.Logic.{◌⊎◌, inl, inr, ⊎_elim}
 use Prim.Native.Nat.{ℕ, suc, ◌≤◌, ◌<◌}
@@ -32,7 +32,6 @@ use Rattle.time.specs.Time.{chip_refusal, power_refusal, cut_refusal, wait_of, p
 use Rattle.chip.specs.Frames.{Sent, head_for, frame_of}
 use Rattle.chip.proofs.Sorts.{is-done}
 use Rattle.chip.proofs.Cases.{head, refusal, frame-cases, sort}
-use Rattle.calls.specs.Calls.{Bench, Roomy, Tabled}
 use Rattle.calls.proofs.Steps.{stopped_by, refused-frame}
 use Rattle.promises.specs.Locked.{SmallChip}
 use Rattle.promises.specs.Withdrawn.{Begins52, Clear21, WithdrawnWhen, WithdrawnOnly, withdrawn_numbers, WithdrawnNever, WithdrawnStays, WithdrawnIdle, WithdrawnStored}

@@ -1,1 +1,2 @@
 // Laws of the model: theorems over the definitions; no code.
+#![tactic(auto)]

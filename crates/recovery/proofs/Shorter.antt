@@ -20,7 +20,7 @@ use Rattle.effects.specs.Effects.{dozing, starting}
 use Rattle.time.specs.Time.{later, waited}
 use Rattle.calls.specs.Calls.{Call, sends, waits, ours, answer, Bench, Roomy, Tabled, frame}
 use Rattle.recovery.specs.Recovery.{Job, JobFits, wake_up, enable_unlock, enable_erase, enable_program, read_back}
-use Rattle.recovery.specs.Shorter.{Then, ThenBusy, TooShort, ShorterWake, ShorterUnlock, ShorterErase, ShorterProgram}
+use Rattle.recovery.specs.Shorter.{Then, TooShort, ShorterWake, ShorterUnlock, ShorterErase, ShorterProgram}
 use Rattle.calls.proofs.Steps.{Goes, ends, goes, goes_on, goes_then, Step, waits-on, while-busy, while-settling}
 use Rattle.recovery.proofs.Recovery.{not_yet, z, idle-after, woken, rests, wakes, to-unlock, to-erase, to-program, unlocks, erases, programs, worn-table}
 

@@ -8,8 +8,8 @@ use Rattle.states.specs.declared.Record.{Record}
 use Rattle.counts.specs.Counts.{total_of}
 use Rattle.chip.proofs.Cases.{total-frame}
 use Rattle.calls.specs.Calls.{Call, sends, waits, cycles, cuts, ours, after}
-use Rattle.recovery.specs.Histories.{Lent, lend}
-use Rattle.recovery.specs.Wear.{with_table, on_table, table_after, sectors_erased, table_over, sectors_over, WearAddsUp}
+use Rattle.recovery.specs.Histories.{lend}
+use Rattle.recovery.specs.Wear.{with_table, on_table, table_after, sectors_erased, sectors_over, WearAddsUp}
 
 one-call : (rec : Record) (c : Call) (x : Chip) (wear : List ℕ) → total_of (table_after rec c x wear) ≡ total_of wear + sectors_erased rec c x wear
 one-call rec (sends f) x wear = total-frame rec x (with_table wear f)

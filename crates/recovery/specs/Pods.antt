@@ -1,13 +1,9 @@
 -- Worthless pods: 01, "How tight a promise is". Each is a kind of pod, and no pod of that kind wins chips back.
-use Rattle.std.specs.Prelude.{◌≡◌, Bool, true, false, List, [], ◌∷◌, ◌⊎◌, ℕ, ◌+◌, ◌<◌, length, get_or}
+use Rattle.std.specs.Prelude.{◌≡◌, Bool, true, false, List, [], ◌∷◌, ◌⊎◌, ℕ, ◌+◌, ◌<◌, get_or}
 use Rattle.cells.specs.Cell.{FF}
-use Rattle.answers.specs.Answers.{is_done}
-use Rattle.commands.specs.Commands.{decode_of}
 use Rattle.states.specs.declared.Record.{Record}
 use Rattle.answers.specs.declared.Answer.TheVariants.{Done}
-use Rattle.effects.specs.declared.Reply.{Reply}
 use Rattle.effects.specs.Effects.{Effect, state_only}
-use Rattle.effects.specs.ContractForms.{Gives}
 use Rattle.chip.specs.Frames.{Sent}
 use Rattle.states.specs.States.{Chip}
 use Rattle.calls.specs.Calls.{Call, sends, waits, cycles, cuts, Pod}

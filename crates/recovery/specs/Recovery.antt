@@ -1,6 +1,6 @@
 -- The calls that win a chip back, whatever firmware did to it: 01, "The twelve calls", and the wait after AB, which makes them thirteen. The first wait may
 -- end an operation that runs, so the array is compared with what that wait left (Req 05).
-use Rattle.std.specs.Prelude.{◌≡◌, Bool, List, [], ◌∷◌, ◌++◌, ℕ, ◌+◌, ◌/◌, ◌≤◌, ◌<◌, length, get_or, replicate}
+use Rattle.std.specs.Prelude.{◌≡◌, Bool, List, [], ◌∷◌, ◌++◌, ℕ, ◌+◌, ◌≤◌, ◌<◌, length, get_or, replicate}
 use Rattle.units.specs.declared.Address.{Address}
 use Rattle.units.specs.Kinds.{sector_of, sector_start}
 use Rattle.models.specs.Models.{model_of, address_of}

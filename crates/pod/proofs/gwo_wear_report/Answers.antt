@@ -3,14 +3,11 @@ use mathlib.Core.Path.{◌≡◌, refl, sym, ap, ◌∙◌}
 use mathlib.Core.Bool.{true, false}
 use mathlib.Core.List.{List}
 use Prim.Native.Nat.{ℕ}
-use borrow.Author.Rules.{rules}
-use borrow.Author.Tests.{not-true, not-false}
 use Rattle.answers.specs.Answers.{number_of, is_done}
 use Rattle.counts.specs.declared.Figures.{Figures}
 use Rattle.counts.specs.Counts.{report_of}
 use Rattle.pod.specs.Calls.{called_report, Reports}
-use Rattle.pod.proofs.gwo_wear_report.Statement.{statement}
-use Rattle.pod.proofs.gwo_wear_report.Tie as tie
+use Rattle.pod.proofs.gwo_wear_report.Goals as goal
 
 module _ (wear : List ℕ) (t s l k m q : ℕ) {r : Figures} (e : r ≡ report_of wear) where
   -- the places stay
@@ -36,16 +33,10 @@ module _ (wear : List ℕ) (t s l k m q : ℕ) {r : Figures} (e : r ≡ report_o
         remainder_is = ap (λ (f : Figures). f.remainder) e;
       })
 
-returns : tie.Need-returns
+pub returns-then-not-is_done : goal.returns-then-not-is_done
+returns-then-not-is_done c =
+    told-no _ _ _ _ _ _ _ c.report-said.ensures (sym c.is_done.ensures ∙ c.if-not-is_done.true) c.number_of.ensures
+
+pub returns : goal.returns
 returns c =
-    let t = c.before in
-    let r = t.before.before in
-    told-no _ _ _ _ _ _ _ r.report.ensures (sym t.before.is-done.ensures ∙ not-true _ t.if1.true) c.number_of.ensures
-
-returns-2 : tie.Need-returns-2
-returns-2 c =
-    let e = c.before in
-    told-figures _ _ _ _ _ _ _ e.before.before.report.ensures (sym e.before.is-done.ensures ∙ not-false _ e.if1.false)
-
-pub gwo-wear-report-spec : {M : Type 1} → statement M
-gwo-wear-report-spec = tie.close (tie.spec (λ c κs. search rules) (λ c κs. search rules) (λ c κs. search rules) returns returns-2)
+    told-figures _ _ _ _ _ _ _ c.report-said.ensures (sym c.is_done.ensures ∙ c.if-not-is_done.false)
