@@ -5,8 +5,7 @@
 LOG is what the toolchain said. Of each edit it has a line, with the first error or note that is not of a proof file alone. An edit shows something
 only if a fact fails with it. Where the proof merely does not fit the edited text any more (a field is missing, a name is out of scope, a fact has
 another name, a function has another number of binders), it shows nothing, and counts as failed; so does one that is refused only because the prover
-came to a limit of its own, one that the toolchain could not try, and an edit of a proof. An edit of the code may spell the names of steps and of
-goals anew in a proof, as the changed code makes them (`if-n-eq3` becomes `if-n-eq2`), and nothing else there.
+came to a limit of its own, one that the toolchain could not try, and an edit of a proof.
 """
 import glob
 import os
@@ -71,16 +70,8 @@ def pairs_of(text):
             old = None
 
 
-def respells(old, new):
-    """Whether nothing but names of steps and goals is another; such a name begins with its kind, before the first hyphen."""
-    olds, news = (re.split(r'([^\w\'-]+)', it) for it in (old, new))
-    return len(olds) == len(news) and all(a == b or '-' in a and '-' in b and a.split('-')[0] == b.split('-')[0] for a, b in zip(olds, news))
-
-
 def changes_a_proof(text):
-    files = [(name.split('/')[0], respells(old, new)) for name, old, new in pairs_of(text)]
-    proofs = [same for part, same in files if part == 'proofs']
-    return bool(proofs) and (len(proofs) == len(files) or not all(proofs))
+    return any(name.startswith('proofs/') for name, _, _ in pairs_of(text))
 
 
 def fault(said, text):
