@@ -130,7 +130,7 @@ closed_output() {
     ended "${PIPESTATUS[1]}" && echo "$header" | diff -a - "$work/log"
 }
 
-# The same where no signal ends the runner and only its write fails.
+# The same where the signal of a reader that has gone is ignored before the runner starts; up to rattle-kit-5b the signal ended it.
 closed_output_unsignalled() (
     trap '' PIPE
     closed_output
