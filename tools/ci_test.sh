@@ -2,10 +2,7 @@
 # What tools/ci.sh makes of what rt ci says; a stand-in for rt says it.
 set -u
 cd "$(dirname "$0")/.." || exit 1
-work=$(mktemp -d)
-trap 'rm -rf "$work"' EXIT
-passed=0
-failed=0
+. tools/tally.sh ci
 mkdir -p "$work/tools" "$work/bin"
 cp tools/ci.sh "$work/tools/"
 
@@ -19,14 +16,8 @@ says() {
     rm -rf "$work/asked" "$work/target"
     PATH=$work/bin:$PATH "$work/tools/ci.sh" >"$work/said" 2>&1
     status=$?
-    if [ "$status" -eq "$wanted" ] && [ "$(tail -n 1 "$work/said")" = "$counts" ] && [ "$(cat "$work/asked")" = "$work ci" ] && printf '%s\n' "$@" | diff - "$work/target/ci.log"; then
-        passed=$((passed + 1))
-        echo "passed  ci: $what"
-    else
-        failed=$((failed + 1))
-        echo "FAILED  ci: $what: status $status"
-        cat "$work/said"
-    fi
+    [ "$status" -eq "$wanted" ] && [ "$(tail -n 1 "$work/said")" = "$counts" ] && [ "$(cat "$work/asked")" = "$work ci" ] && printf '%s\n' "$@" | diff - "$work/target/ci.log"
+    tell $? "$what" "$status"
 }
 
 says 'all is well' 0 '6 passed, 0 failed' 0 'rt: low proved' 'rt: ok; handles allowed: none; must-fail edits: 2 refused; every proof and must-fail edit was done in this run' '6 passed, 0 failed'
@@ -39,5 +30,4 @@ says 'counts without a failure, and a status' 1 '5 passed, 1 failed' 1 'rt: ok; 
 says 'no line rt: ok' 1 '5 passed, 1 failed' 0 'rt: low and the crates below passed' '5 passed, 0 failed'
 says 'a run that breaks off' 1 '0 passed, 1 failed' 1 'rt: low proved'
 says 'a run of some crates' 1 '0 passed, 1 failed' 0 'rt: ok; handles allowed: none' '4 passed, 0 failed (low and the crates below alone: not the gate)'
-echo "$passed passed, $failed failed"
-[ "$failed" -eq 0 ]
+counts

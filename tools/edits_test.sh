@@ -3,10 +3,7 @@
 # stands more than once, one that does not compile, one after which only a proof does not fit; and of a crate that is not proved or not there.
 set -u
 cd "$(dirname "$0")/.." || exit 1
-work=$(mktemp -d)
-trap 'rm -rf "$work"' EXIT
-passed=0
-failed=0
+. tools/tally.sh edits
 
 mkdir -p "$work/crates/answers" "$work/tools"
 echo 'answers:' >"$work/crates.txt"
@@ -26,14 +23,8 @@ says() {
     local status
     tools/host.sh python -B "$work/tools/edits.py" ${5:-} >"$work/said" 2>&1
     status=$?
-    if [ "$status" -eq "$2" ] && [ "$(tail -n 1 "$work/said")" = "$3" ] && grep -qF "$4" "$work/said" && { [ $# -lt 6 ] || grep -qF "$6" "$work/target/edits/$5.log"; }; then
-        passed=$((passed + 1))
-        echo "passed  edits: $1"
-    else
-        failed=$((failed + 1))
-        echo "FAILED  edits: $1: status $status"
-        cat "$work/said"
-    fi
+    [ "$status" -eq "$2" ] && [ "$(tail -n 1 "$work/said")" = "$3" ] && grep -qF "$4" "$work/said" && { [ $# -lt 6 ] || grep -qF "$6" "$work/target/edits/$5.log"; }
+    tell $? "$1" "$status"
 }
 
 only wrong_number 'Answer::Busy => 11,' 'Answer::Busy => 12,'
@@ -53,5 +44,4 @@ says 'a crate that is not there' 2 'edits: there is no crate answer' 'there is n
 sed -i 's/Answer::Busy => 11,/Answer::Busy => 12,/' "$work/crates/answers/src/lib.rt"
 only wrong_number 'Answer::Busy => 12,' 'Answer::Busy => 13,'
 says 'a crate that is not proved' 1 '0 passed, 1 failed' 'answers: NOT PROVED as it is'
-echo "$passed passed, $failed failed"
-[ "$failed" -eq 0 ]
+counts

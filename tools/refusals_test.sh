@@ -3,10 +3,7 @@
 # was not tried, and of an edit of a proof.
 set -u
 cd "$(dirname "$0")/.." || exit 1
-work=$(mktemp -d)
-trap 'rm -rf "$work"' EXIT
-passed=0
-failed=0
+. tools/tally.sh refusals
 mkdir -p "$work/tools" "$work/crates/cells/must-fail"
 cp tools/refusals.py "$work/tools/refusals.py"
 
@@ -23,14 +20,8 @@ says() {
     } >"$work/log"
     tools/host.sh python -B "$work/tools/refusals.py" "$work/log" >"$work/said" 2>&1
     status=$?
-    if [ "$status" -eq "$2" ] && grep -qF "$3" "$work/said" && [[ $(tail -n 1 "$work/said") =~ ^[01]\ passed,\ $2\ failed$ ]]; then
-        passed=$((passed + 1))
-        echo "passed  refusals: $1"
-    else
-        failed=$((failed + 1))
-        echo "FAILED  refusals: $1: status $status"
-        cat "$work/said"
-    fi
+    [ "$status" -eq "$2" ] && grep -qF "$3" "$work/said" && [[ $(tail -n 1 "$work/said") =~ ^[01]\ passed,\ $2\ failed$ ]]
+    tell $? "$1" "$status"
 }
 
 # error TEXT: a refusal at that error of a proof.
@@ -60,5 +51,4 @@ says 'an edit of which nothing is said' 1 'it was not tried' src/lib.rt ''
 says 'an edit of a proof' 1 'it changes a proof' proofs/fill/Answers.antt "$(error 'expected type `0 ≡ 1`')"
 fails=$(error 'expected type `0 ≡ 1`')
 says 'a proof that is changed with the code' 1 'it changes a proof' src/lib.rt "$fails" proofs/fill/Answers.antt 'omega c.if-n-eq3.false' 'omega c.if-n-eq2.false'
-echo "$passed passed, $failed failed"
-[ "$failed" -eq 0 ]
+counts

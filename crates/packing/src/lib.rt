@@ -48,7 +48,7 @@ fn time_of(a: u8, b: u8, c: u8, d: u8) -> u32
 fn place_of(high: u8, middle: u8, low: u8) -> u32
     ensures { result ≡ place_spelt high middle low }
 {
-    wide(low) + 256 * (wide(middle) + 256 * wide(high))
+    u32::from_be_bytes([0, high, middle, low])
 }
 
 // The busy time that 272 bytes spell; 0 of any other number of bytes.
