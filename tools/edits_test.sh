@@ -8,6 +8,15 @@ cd "$(dirname "$0")/.." || exit 1
 mkdir -p "$work/crates/answers" "$work/tools"
 echo 'answers:' >"$work/crates.txt"
 cp -r crates/answers/src crates/answers/specs crates/answers/proofs crates/answers/must-fail "$work/crates/answers/"
+# A proof that names a step of its function: the crate itself needs none.
+mkdir -p "$work/crates/answers/proofs/number_of"
+cat >"$work/crates/answers/proofs/number_of/Answers.antt" <<'END'
+-- `answers::number_of` meets its contract.
+use Rattle.answers.proofs.number_of.Goals as goal
+
+pub returns-in-Err : goal.returns-in-Err
+returns-in-Err c = rw (c.in-Err.is, c.number.ensures)
+END
 cp tools/edits.py tools/refusals.py "$work/tools/"
 edits=$work/crates/answers/must-fail
 
@@ -27,21 +36,21 @@ says() {
     tell $? "$1" "$status"
 }
 
-only wrong_number 'Answer::Busy => 11,' 'Answer::Busy => 12,'
+only wrong_number 'Refusal::Busy => 11,' 'Refusal::Busy => 12,'
 says 'a wrong answer is refused' 0 '1 passed, 0 failed' 'answers/wrong_number: refused, as it must be'
 says 'and is not tried again' 0 '1 passed, 0 failed' 'answers/wrong_number: refused, as it must be' answers '1 of its 1 must-fail edits were tried by an earlier run'
 only another_comment '// ' '//  '
 says 'a text that stands more than once' 1 '0 passed, 1 failed' 'answers/another_comment: BAD EDIT'
-only same_number 'Answer::Busy => 11,' 'Answer::Busy => 0x0B,'
+only same_number 'Refusal::Busy => 11,' 'Refusal::Busy => 0x0B,'
 says 'an edit that changes no answer' 1 '0 passed, 1 failed' 'answers/same_number: NOT REFUSED'
-only no_text 'Answer::Bussy => 11,' 'Answer::Bussy => 12,'
+only no_text 'Refusal::Bussy => 11,' 'Refusal::Bussy => 12,'
 says 'a text that is not there' 1 '0 passed, 1 failed' 'answers/no_text: BAD EDIT'
-only no_number 'Answer::Busy => 11,' 'Answer::Busy => eleven,'
+only no_number 'Refusal::Busy => 11,' 'Refusal::Busy => eleven,'
 says 'an edit that does not compile' 1 '0 passed, 1 failed' 'answers/no_number: BAD EDIT: it did not reach the prover'
-only no_call 'number_of(a) == 0' 'matches!(a, Answer::Done)'
+only no_call 'Err(refusal) => refusal.number(),' 'Err(refusal) => { let n = refusal.number(); n }'
 says 'an edit that the proof does not fit' 1 '0 passed, 1 failed' 'answers/no_call: SHOWS NOTHING: only a proof that names what is gone fails'
 says 'a crate that is not there' 2 'edits: there is no crate answer' 'there is no crate answer' answer
-sed -i 's/Answer::Busy => 11,/Answer::Busy => 12,/' "$work/crates/answers/src/lib.rt"
-only wrong_number 'Answer::Busy => 12,' 'Answer::Busy => 13,'
+sed -i 's/Refusal::Busy => 11,/Refusal::Busy => 12,/' "$work/crates/answers/src/lib.rt"
+only wrong_number 'Refusal::Busy => 12,' 'Refusal::Busy => 13,'
 says 'a crate that is not proved' 1 '0 passed, 1 failed' 'answers: NOT PROVED as it is'
 counts

@@ -1,38 +1,49 @@
 -- The answers and their numbers: 01, "Numbers returned, in order of checking", Req 04 to 08, Req 11 and Req 12.
-use Rattle.std.specs.Prelude.{Bool, ℕ, eqb}
-use Rattle.answers.specs.declared.Answer.{Answer}
-use Rattle.answers.specs.declared.Answer.TheVariants.{Done, BadRecord, BadArray, BadState, BadFrame, ShortOut, Empty, Settling, Busy, Asleep, NoCommand, BadLength, NotEnabled, Locked, Protected, BadPattern, BadTable, WornOut, NotErased, Withdrawn, NoSignature, BadHeader, BadPointer, BadEntry, InHold}
+use Rattle.std.specs.Prelude.{Bool, ℕ, eqb, Result, Ok, Err, is_ok, ⊤}
+use Rattle.answers.specs.declared.Refusal.{Refusal}
+use Rattle.answers.specs.declared.Refusal.TheVariants.{BadRecord, BadArray, BadState, BadFrame, ShortOut, Empty, Settling, Busy, Asleep, NoCommand, BadLength, NotEnabled, Locked, Protected, BadPattern, BadTable, WornOut, NotErased, BadLine, Withdrawn, NoSignature, BadHeader, BadPointer, BadEntry, InHold}
+
+abbrev pub number : Refusal → ℕ
+number BadRecord = 1
+number BadArray = 2
+number BadState = 3
+number BadFrame = 4
+number ShortOut = 5
+number Empty = 10
+number Busy = 11
+number Asleep = 12
+number NoCommand = 13
+number BadLength = 14
+number NotEnabled = 15
+number Locked = 16
+number Protected = 17
+number Settling = 22
+number BadPattern = 23
+number BadTable = 24
+number WornOut = 25
+number NotErased = 19
+number BadLine = 20
+number Withdrawn = 21
+number NoSignature = 30
+number BadHeader = 31
+number BadPointer = 32
+number BadEntry = 33
+number InHold = 34
+
+-- what a call is answered: that it is done, or the first refusal that applies
+abbrev pub Answer : Type 0
+Answer = Result ⊤ Refusal
+
+abbrev pub Done : Answer
+Done = Ok (record {})
 
 abbrev pub number_of : Answer → ℕ
-number_of Done = 0
-number_of BadRecord = 1
-number_of BadArray = 2
-number_of BadState = 3
-number_of BadFrame = 4
-number_of ShortOut = 5
-number_of Empty = 10
-number_of Busy = 11
-number_of Asleep = 12
-number_of NoCommand = 13
-number_of BadLength = 14
-number_of NotEnabled = 15
-number_of Locked = 16
-number_of Protected = 17
-number_of Settling = 22
-number_of BadPattern = 23
-number_of BadTable = 24
-number_of WornOut = 25
-number_of NotErased = 19
-number_of Withdrawn = 21
-number_of NoSignature = 30
-number_of BadHeader = 31
-number_of BadPointer = 32
-number_of BadEntry = 33
-number_of InHold = 34
+number_of (Ok x) = 0
+number_of (Err r) = number r
 
 -- nothing was refused
 abbrev pub is_done : Answer → Bool
-is_done a = eqb (number_of a) 0
+is_done a = is_ok a
 
 -- the unit is protected
 abbrev pub says_protected : Answer → Bool

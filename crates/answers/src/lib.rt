@@ -2,12 +2,11 @@
 #![tactic(auto)]
 
 ghost use Rattle.std.specs.Prelude.{◌≡◌};
-ghost use Rattle.answers.specs.Answers.{number_of, is_done, says_protected};
+ghost use Rattle.answers.specs.Answers.{number, number_of};
 
-// What a call is answered: 0, or the first refusal that applies.
-#[derive(Clone, Copy)]
-pub enum Answer {
-    Done,
+// Why a call is refused: the rows of the table of refusals.
+#[derive(Clone, Copy, PartialEq, Eq)]
+pub enum Refusal {
     BadRecord,
     BadArray,
     BadState,
@@ -26,6 +25,7 @@ pub enum Answer {
     BadTable,
     WornOut,
     NotErased,
+    BadLine,
     Withdrawn,
     NoSignature,
     BadHeader,
@@ -34,49 +34,50 @@ pub enum Answer {
     InHold,
 }
 
-// The answer's number in the table of refusals.
-pub fn number_of(a: Answer) -> u32
-    ensures { result ≡ number_of a }
-{
-    match a {
-        Answer::Done => 0,
-        Answer::BadRecord => 1,
-        Answer::BadArray => 2,
-        Answer::BadState => 3,
-        Answer::BadFrame => 4,
-        Answer::ShortOut => 5,
-        Answer::Empty => 10,
-        Answer::Busy => 11,
-        Answer::Asleep => 12,
-        Answer::NoCommand => 13,
-        Answer::BadLength => 14,
-        Answer::NotEnabled => 15,
-        Answer::Locked => 16,
-        Answer::Protected => 17,
-        Answer::Settling => 22,
-        Answer::BadPattern => 23,
-        Answer::BadTable => 24,
-        Answer::WornOut => 25,
-        Answer::NotErased => 19,
-        Answer::Withdrawn => 21,
-        Answer::NoSignature => 30,
-        Answer::BadHeader => 31,
-        Answer::BadPointer => 32,
-        Answer::BadEntry => 33,
-        Answer::InHold => 34,
+// What a call is answered: that it is done, or the first refusal that applies.
+pub type Answer = Result<(), Refusal>;
+
+impl Refusal {
+    // Its number in the table.
+    pub fn number(self) -> u32
+        ensures { result ≡ number self }
+    {
+        match self {
+            Refusal::BadRecord => 1,
+            Refusal::BadArray => 2,
+            Refusal::BadState => 3,
+            Refusal::BadFrame => 4,
+            Refusal::ShortOut => 5,
+            Refusal::Empty => 10,
+            Refusal::Busy => 11,
+            Refusal::Asleep => 12,
+            Refusal::NoCommand => 13,
+            Refusal::BadLength => 14,
+            Refusal::NotEnabled => 15,
+            Refusal::Locked => 16,
+            Refusal::Protected => 17,
+            Refusal::Settling => 22,
+            Refusal::BadPattern => 23,
+            Refusal::BadTable => 24,
+            Refusal::WornOut => 25,
+            Refusal::NotErased => 19,
+            Refusal::BadLine => 20,
+            Refusal::Withdrawn => 21,
+            Refusal::NoSignature => 30,
+            Refusal::BadHeader => 31,
+            Refusal::BadPointer => 32,
+            Refusal::BadEntry => 33,
+            Refusal::InHold => 34,
+        }
     }
 }
 
-// Whether the call is not refused.
-pub fn is_done(a: Answer) -> bool
-    ensures { result ≡ is_done a }
+// The answer's number: 0 where nothing was refused.
+pub fn number_of(answer: Answer) -> u32
+    ensures { result ≡ number_of answer }
 {
-    number_of(a) == 0
-}
-
-// Whether the call is refused because its unit is protected.
-pub fn says_protected(a: Answer) -> bool
-    ensures { result ≡ says_protected a }
-{
-    number_of(a) == 17
+    match answer {
+        Ok(()) => 0,
+        Err(refusal) => refusal.number(),
+    }
 }

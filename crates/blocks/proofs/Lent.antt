@@ -1,22 +1,24 @@
 -- From what a feed gives to what the lent bytes hold.
 use mathlib.Core.Path.{◌≡◌, refl, sym, ap, subst, ◌∙◌}
 use mathlib.Core.Bool.{Bool, true, false, cond, ◌&&◌}
-use mathlib.Core.List.{List}
+use mathlib.Core.List.{List, ◌++◌}
 use Prim.Native.Nat.{ℕ, ◌+◌, ◌≤◌}
 use native.Mathlib.Omega.{arith}
 use lib.Dec.{eqb, leb}
-use lib.ListN.{length}
+use lib.ListN.{length, length-append}
+use lib.Seq.{drop_at}
 use borrow.Author.Tests.{eqb-true, eq-eqb, ne_eqb, leb-true}
-use borrow.Rule.Slice.PartMut.{mid_of, put_mid}
 use Rattle.units.proofs.Bools.{both}
 use Rattle.states.specs.declared.Record.{Record}
-use Rattle.packing.specs.Packing.{packed, page_in, is_packing}
+use Rattle.states.specs.declared.State.{State}
+use Rattle.packing.specs.Packing.{packed, page_in, is_packing, unpack_of}
 use Rattle.packing.proofs.Packing.{packing-length}
-use Rattle.fits.proofs.Lent.{packing-small, page-long, page-lent, back-page, back-length}
+use Rattle.fits.proofs.Lent.{packing-small, page-long}
 use Rattle.lines.specs.Cutting.{held_room}
 use Rattle.script_log.specs.Row.{longest_row}
+use Rattle.play.specs.declared.Bench.{Bench}
 use Rattle.feed.specs.declared.Run.{Run}
-use Rattle.feed.specs.Feed.{Start, Stand, standing, feed_of, last_of, Stands}
+use Rattle.feed.specs.Feed.{Start, Stand, feed_of, last_of, Stands}
 use Rattle.feed.proofs.Feeds.{feed-feeds}
 use Rattle.blocks.specs.Blocks.{Lending, lent_run, lent_stand, lent_after, block_refusal, played_from, played_block, played_last, BlockDone, LeavesBlock, LeavesLast}
 use Rattle.blocks.proofs.Lines.{Fitting, feed-fits, last_fits, last-used}
@@ -48,14 +50,20 @@ module _ (x : Lending) (p : is_packing x.state ≡ true) where
   pub fitting : Fitting (lent_stand x)
   fitting = record { small = packing-small x.state p; long = page-long x.state whole }
 
-  -- the stand that the code makes: its run is the lent one, and the page data are a part of the bytes
-  stood : {run : Run} → run ≡ lent_run x.state x.used x.line → standing run x.held (mid_of 16 256 x.state) x.cells x.wear x.log ≡ lent_stand x
-  stood e = rw (e, page-lent x.state whole)
+-- where the bench stands that the code makes of what is lent
+abbrev pub laid : Lending → State → List ℕ → Stand
+laid x st page = record { run = lent_run x.used x.line; state = st; held = x.held; page = page; cells = x.cells; wear = x.wear; log = x.log }
 
-  -- the bytes after: the state packed over the page data that came back
-  packed-back : (t : Stand) {r : Run} {page state : List ℕ} → r ≡ t.run → page ≡ t.page → state ≡ packed r.chip (page_in (put_mid 16 256 x.state page)) → state ≡ (lent_after t).state
-  packed-back t {r} {page} e q k =
-      k ∙ ap (packed r.chip) (back-page x.state whole page) ∙ ap (λ (z : Run). packed z.chip page) e ∙ ap (packed t.run.chip) q
+laid_out : (x : Lending) {st : State} {page : List ℕ} → st ≡ unpack_of x.state → page ≡ page_in x.state → laid x st page ≡ lent_stand x
+laid_out x u p = rw (u, p)
+
+-- the bytes after: the state packed over the page data that came back
+packed-back : {t : Stand} {r : Run} {b : Bench} {held log : List ℕ} (head page : List ℕ) {state : List ℕ} → length head ≡ 16 → page ≡ b.page.now → Stands t r b held log → state ≡ packed b.state (page_in (head ++ page))
+    → state ≡ (lent_after t).state
+packed-back {t} {b = b} head page n e g k = k ∙ ap (packed b.state) (drop_at head page 16 n ∙ e ∙ g.page') ∙ ap (λ (z : State). packed z t.page) g.state'
+
+packs-back : {t : Stand} {r : Run} {b : Bench} {held log : List ℕ} (head page : List ℕ) → length head ≡ 16 → page ≡ b.page.now → Stands t r b held log → Fitting t → (b.state.bp ≤ 15) × (length (head ++ page) ≡ 272)
+packs-back head page n e g f = (rw g.state' f.small.level, length-append head page ∙ omega (arith, n, ap length (e ∙ g.page'), f.long))
 
 -- ---- a call that goes on
 module _ (x : Lending) (t : Stand) where
@@ -90,41 +98,37 @@ module _ (rec : Record) (strict : Bool) (script : List ℕ) (x : Lending) where
     pub block-whole : length x.state ≡ 272
     block-whole = whole x block-packing
 
-    start : Start (lent_run x.state x.used x.line) x.held script x.log
-    start = record { inside = omega arith; hold = shown.hold; used = shown.within; within = omega arith }
+    pub block_start : Start (lent_run x.used x.line) x.held script x.log
+    block_start = record { inside = omega arith; hold = shown.hold; used = shown.within; within = omega arith }
 
-    module _ {run : Run} (f : run ≡ lent_run x.state x.used x.line) where
-      pub block_start : Start run x.held script x.log
-      block_start = subst (λ (r : Run). Start r x.held script x.log) (sym f) start
+    module _ {st : State} {lent : List ℕ} (u : st ≡ unpack_of x.state) (m : lent ≡ page_in x.state) {r : Run} {c : Bench} {held log : List ℕ} (s : Stands (feed_of rec strict script (laid x st lent)) r c held log) where
+      abbrev fed : Stand
+      fed = feed_of rec strict script (lent_stand x)
 
-      module _ {r : Run} {held page cells wear log : List ℕ} (s : Stands (feed_of rec strict script (standing run x.held (mid_of 16 256 x.state) x.cells x.wear x.log)) r held page cells wear log) where
-        abbrev fed : Stand
-        fed = feed_of rec strict script (lent_stand x)
+      stands-fed : Stands fed r c held log
+      stands-fed = subst (λ (q : Stand). Stands (feed_of rec strict script q) r c held log) (laid_out x u m) s
 
-        stands-fed : Stands fed r held page cells wear log
-        stands-fed = subst (λ (q : Stand). Stands (feed_of rec strict script q) r held page cells wear log) (stood x block-packing f) s
+      fits : Fitting fed
+      fits = feed-fits rec strict script (lent_stand x) (fitting x block-packing)
 
-        fits : Fitting fed
-        fits = feed-fits rec strict script (lent_stand x) (fitting x block-packing)
+      pub block-used : r.used ≤ held_room
+      block-used = rw (ap (λ (q : Run). q.used) stands-fed.run') (feed-feeds rec strict script (lent_stand x) block_start).used
 
-        pub block-used : r.used ≤ held_room
-        block-used = rw (ap (λ (q : Run). q.used) stands-fed.run') (feed-feeds rec strict script (lent_stand x) start).used
+      module _ (head page : List ℕ) (l : length head ≡ 16) (p : page ≡ c.page.now) where
+        pub block-packs : (c.state.bp ≤ 15) × (length (head ++ page) ≡ 272)
+        block-packs = packs-back head page l p stands-fed fits
 
-        pub block-packs : (r.chip.bp ≤ 15) × (length (put_mid 16 256 x.state page) ≡ 272)
-        block-packs =
-            (rw stands-fed.run' fits.small.level, back-length x.state block-whole page (ap length stands-fed.page' ∙ fits.long))
-
-        pub block-leaves : {state : List ℕ} → state ≡ packed r.chip (page_in (put_mid 16 256 x.state page))
+        pub block-leaves : {state cells wear : List ℕ} → state ≡ packed c.state (page_in (head ++ page)) → cells ≡ c.array.now → wear ≡ c.wear.now
             → LeavesBlock (played_block rec strict script x) 0 state cells wear held r.used r.number log r.at r.filled
         unfolding played_block
-        block-leaves k =
+        block-leaves h a w =
             let g = stands-fed in
             rw (played-done x fed said (sym e ∙ z))
             (record {
               number_is = refl;
-              state-is = packed-back x block-packing fed g.run' g.page' k;
-              cells_are = g.cells';
-              wear-is = g.wear';
+              state-is = packed-back head page l p g h;
+              cells_are = a ∙ g.cells';
+              wear-is = w ∙ g.wear';
               held-is = g.held';
               used-is = ap (λ (q : Run). q.used) g.run';
               line-is = ap (λ (q : Run). q.number) g.run';
@@ -155,38 +159,37 @@ module _ (rec : Record) (strict : Bool) (x : Lending) where
     pub last-whole : length x.state ≡ 272
     last-whole = whole x last-packing
 
-    module _ {run : Run} (f : run ≡ lent_run x.state x.used x.line) where
-      pub last-start : (length x.held ≡ held_room) × (run.used ≤ held_room) × (run.filled + longest_row ≤ length x.log)
-      last-start = rw f (shown-last.hold, shown-last.within, leb-true longest_row (length x.log) shown-last.space)
+    pub last-start : (length x.held ≡ held_room) × (x.used ≤ held_room) × (0 + longest_row ≤ length x.log)
+    last-start = (shown-last.hold, shown-last.within, omega (arith, leb-true longest_row (length x.log) shown-last.space))
 
-      module _ {r : Run} {held page cells wear log : List ℕ} (s : Stands (last_of rec strict (standing run x.held (mid_of 16 256 x.state) x.cells x.wear x.log)) r held page cells wear log) where
-        abbrev ended : Stand
-        ended = last_of rec strict (lent_stand x)
+    module _ {st : State} {lent : List ℕ} (u : st ≡ unpack_of x.state) (m : lent ≡ page_in x.state) {r : Run} {c : Bench} {log : List ℕ} (s : Stands (last_of rec strict (laid x st lent)) r c x.held log) where
+      abbrev ended : Stand
+      ended = last_of rec strict (lent_stand x)
 
-        stands-ended : Stands ended r held page cells wear log
-        stands-ended = subst (λ (q : Stand). Stands (last_of rec strict q) r held page cells wear log) (stood x last-packing f) s
+      stands-ended : Stands ended r c x.held log
+      stands-ended = subst (λ (q : Stand). Stands (last_of rec strict q) r c x.held log) (laid_out x u m) s
 
-        ended-fits : Fitting ended
-        ended-fits = last_fits rec strict (lent_stand x) (fitting x last-packing)
+      ended-fits : Fitting ended
+      ended-fits = last_fits rec strict (lent_stand x) (fitting x last-packing)
 
-        pub last-used-up : r.used ≤ held_room
-        last-used-up = omega (arith, ap (λ (q : Run). q.used) stands-ended.run', last-used rec strict (lent_stand x))
+      pub last-used-up : r.used ≤ held_room
+      last-used-up = omega (arith, ap (λ (q : Run). q.used) stands-ended.run', last-used rec strict (lent_stand x))
 
-        pub last-packs : (r.chip.bp ≤ 15) × (length (put_mid 16 256 x.state page) ≡ 272)
-        last-packs =
-            (rw stands-ended.run' ended-fits.small.level, back-length x.state last-whole page (ap length stands-ended.page' ∙ ended-fits.long))
+      module _ (head page : List ℕ) (l : length head ≡ 16) (p : page ≡ c.page.now) where
+        pub last-packs : (c.state.bp ≤ 15) × (length (head ++ page) ≡ 272)
+        last-packs = packs-back head page l p stands-ended ended-fits
 
-        pub last-leaves : {state : List ℕ} → state ≡ packed r.chip (page_in (put_mid 16 256 x.state page))
+        pub last-leaves : {state cells wear : List ℕ} → state ≡ packed c.state (page_in (head ++ page)) → cells ≡ c.array.now → wear ≡ c.wear.now
             → LeavesLast (played_last rec strict x) 0 state cells wear r.used r.number log r.filled
         unfolding played_last
-        last-leaves k =
+        last-leaves h a w =
             let g = stands-ended in
             rw (played-done x ended said-last (sym e ∙ z))
             (record {
               number_is = refl;
-              state-is = packed-back x last-packing ended g.run' g.page' k;
-              cells_are = g.cells';
-              wear-is = g.wear';
+              state-is = packed-back head page l p g h;
+              cells_are = a ∙ g.cells';
+              wear-is = w ∙ g.wear';
               used-is = ap (λ (q : Run). q.used) g.run';
               line-is = ap (λ (q : Run). q.number) g.run';
               log_is = g.log';

@@ -6,7 +6,8 @@ use Prim.Native.Nat.{ℕ, zero, suc, ◌+◌}
 use lib.Dec.{eqb, leb, ltb}
 use borrow.Author.Tests.{eqb-true}
 use lib.ListN.{length, take, drop}
-use Rattle.answers.specs.declared.Answer.{Answer}
+use Rattle.std.specs.Prelude.{Option, Some, None}
+use Rattle.answers.specs.Answers.{Answer}
 use Rattle.states.specs.States.{Chip}
 use Rattle.states.specs.declared.Record.{Record}
 use Rattle.states.specs.declared.State.{State}
@@ -15,7 +16,7 @@ use Rattle.packing.proofs.Packing.{Small}
 use Rattle.fits.specs.Fits.{may_move}
 use Rattle.fits.proofs.Fits.{Keeps, frame-keeps, wait-keeps, cycle-keeps}
 use Rattle.script.specs.declared.Line.{Line}
-use Rattle.script.specs.declared.Line.TheVariants.{Frame, Wait, Power, Bad}
+use Rattle.script.specs.declared.Line.TheVariants.{Frame, Wait, Power}
 use Rattle.script.specs.Hex.{hex_bytes}
 use Rattle.script.specs.Reading.{line_of}
 use Rattle.lines.specs.declared.Cut.{Cut}
@@ -31,7 +32,7 @@ pub record Fit272 (s : State) (page : List ℕ) : Type 0 where
   pub long : length page ≡ 256
 
 abbrev pub Fitting : Stand → Type 0
-Fitting s = Fit272 s.run.chip s.page
+Fitting s = Fit272 s.state s.page
 
 -- ---- a call
 after : {rec : Record} {x : Chip} {a : Answer} {next : State} {page : List ℕ} → Keeps rec x a next page → Fit272 x.state x.page → Fit272 next page
@@ -42,13 +43,13 @@ after {x = x} {a = a} {next = next} {page = page} k h = go (may_move a) refl
     go false d = record { small = subst Small (sym (k.same-state d)) h.small; long = ap length (k.same-page d) ∙ h.long }
 
 -- ---- a line
-turn-fits : (rec : Record) (strict : Bool) (x : Chip) (wear shown line : List ℕ) (l : Line) → Fit272 x.state x.page
-    → Fit272 (turn_of rec strict x wear shown line l).played.state (turn_of rec strict x wear shown line l).page
+turn-fits : (rec : Record) (strict : Bool) (x : Chip) (wear shown line : List ℕ) (l : Option Line) → Fit272 x.state x.page
+    → Fit272 (turn_of rec strict x wear shown line l).state (turn_of rec strict x wear shown line l).page
 unfolding turn_of frame_turn
-turn-fits rec strict x wear shown line (Frame wp tail n) h = after (frame-keeps rec x (sent_of (take 300 (hex_bytes (drop 6 line))) tail wp strict wear shown)) h
-turn-fits rec strict x wear shown line (Wait us) h = after (wait-keeps rec x us) h
-turn-fits rec strict x wear shown line Power h = after (cycle-keeps rec x) h
-turn-fits rec strict x wear shown line Bad h = h
+turn-fits rec strict x wear shown line (Some (Frame wp tail n)) h = after (frame-keeps rec x (sent_of (take 300 (hex_bytes (drop 6 line))) tail wp strict wear shown)) h
+turn-fits rec strict x wear shown line (Some (Wait us)) h = after (wait-keeps rec x us) h
+turn-fits rec strict x wear shown line (Some Power) h = after (cycle-keeps rec x) h
+turn-fits rec strict x wear shown line None h = h
 
 line-fits : (rec : Record) (strict : Bool) (s : Stand) (held line : List ℕ) (to : ℕ) → Fitting s → Fitting (line_done rec strict s held line to)
 unfolding line_done

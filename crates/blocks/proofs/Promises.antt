@@ -26,7 +26,7 @@ use Rattle.blocks.proofs.Lent.{Taken, taken, fitting, done, played-done}
 
 -- ---- what the next call finds
 lent-after : (t : Stand) → Fitting t → lent_stand (lent_after t) ≡ begun t
-lent-after t h = rw (unpack-pack t.run.chip t.page h.small h.long, page-packed t.run.chip t.page)
+lent-after t h = rw (unpack-pack t.state t.page h.small h.long, page-packed t.state t.page)
 
 -- an answer of 0 is that of a call that is not refused
 not-refused : (x : Lending) (n : ℕ) (t : Stand) → (played_from x n t).number ≡ 0 → n ≡ 0

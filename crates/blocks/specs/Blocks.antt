@@ -5,7 +5,7 @@ use Rattle.packing.specs.Packing.{packed, page_in, is_packing, unpack_of}
 use Rattle.lines.specs.Cutting.{held_room}
 use Rattle.script_log.specs.Row.{longest_row}
 use Rattle.feed.specs.declared.Run.{Run}
-use Rattle.feed.specs.Feed.{Stand, standing, feed_of, last_of}
+use Rattle.feed.specs.Feed.{Stand, feed_of, last_of}
 
 -- what is lent: the state bytes, the array, the wear table, the buffer for a line that is open and how many of its bytes are in use, the number of the next
 -- line, and the log
@@ -21,16 +21,16 @@ pub record Lending : Type 0 where
 abbrev pub lending : List ℕ → List ℕ → List ℕ → List ℕ → ℕ → ℕ → List ℕ → Lending
 lending state cells wear held used line log = record { state = state; cells = cells; wear = wear; held = held; used = used; line = line; log = log }
 
--- where it stands: the state that the bytes pack, and nothing taken of the block or written into the log
-abbrev pub lent_run : List ℕ → ℕ → ℕ → Run
-lent_run state used line = record { chip = unpack_of state; number = line; used = used; at = 0; filled = 0 }
+-- where it stands: nothing taken of the block or written into the log, and the state that the bytes pack
+abbrev pub lent_run : ℕ → ℕ → Run
+lent_run used line = record { number = line; used = used; at = 0; filled = 0 }
 
 abbrev pub lent_stand : Lending → Stand
-lent_stand x = standing (lent_run x.state x.used x.line) x.held (page_in x.state) x.cells x.wear x.log
+lent_stand x = record { run = lent_run x.used x.line; state = unpack_of x.state; held = x.held; page = page_in x.state; cells = x.cells; wear = x.wear; log = x.log }
 
 -- the same, packed again
 abbrev pub lent_after : Stand → Lending
-lent_after t = lending (packed t.run.chip t.page) t.cells t.wear t.held t.run.used t.run.number t.log
+lent_after t = lending (packed t.state t.page) t.cells t.wear t.held t.run.used t.run.number t.log
 
 -- 3 where the state bytes are no packing; 5 where the buffer for a line has another length than 641, or more of it is in use, or the log has not the room that is asked for; else 0
 unfoldable pub block_refusal : List ℕ → ℕ → ℕ → Bool → ℕ

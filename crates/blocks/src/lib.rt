@@ -3,45 +3,42 @@
 #![tactic(auto)]
 
 ghost use Rattle.std.specs.Prelude.{◌≡◌, true};
-ghost use Rattle.packing.specs.Packing.{is_packing};
-ghost use Rattle.blocks.specs.Blocks.{lending, lent_run, block_refusal, played_block, played_last, LeavesBlock, LeavesLast};
+ghost use Rattle.answers.specs.Answers.{number_of};
+ghost use Rattle.packing.specs.Packing.{is_packing, unpack_of};
+ghost use Rattle.blocks.specs.Blocks.{lending, block_refusal, played_block, played_last, LeavesBlock, LeavesLast};
 
+use answers::{Answer, Refusal};
 use feed::Run;
-use states::Record;
+use play::Bench;
+use states::{Record, State};
 
-// 3 where the lent bytes are no packing; 5 where the buffer for a line has not 641 bytes, or more of them are in use, or the log is not roomy; else 0.
-fn refusal(state: &[u8], room: usize, used: u32, roomy: bool) -> u32
-    ensures { result ≡ block_refusal state.now room used roomy }
+// Whether the lent bytes are a packing, the buffer for a line has 641 bytes, no more of them are in use, and the log is roomy.
+fn refusal(state: &[u8], room: usize, used: u32, roomy: bool) -> Answer
+    ensures { number_of result ≡ block_refusal state.now room used roomy }
 {
     let busy = packing::busy_in(state);
     if !packing::is_packed(state, busy) {
-        return 3;
+        return Err(Refusal::BadState);
     }
     if (room == 641) & ((used <= 641) & roomy) {
-        0
+        Ok(())
     } else {
-        5
+        Err(Refusal::ShortOut)
     }
 }
 
-// Where lent bytes stand: the state that they pack, and nothing taken of the block or written into the log.
-fn lent_run(state: &[u8], used: u32, line: u64) -> Run
+// The state that lent bytes pack.
+fn unpacked(state: &[u8]) -> State
     requires { is_packing state.now ≡ true }
-    ensures { result ≡ lent_run state.now used line }
+    ensures { result ≡ unpack_of state.now }
 {
     let busy = packing::busy_in(state);
-    let chip = packing::unpack(state, busy);
-    Run {
-        chip,
-        number: line,
-        used: used as usize,
-        at: 0,
-        filled: 0,
-    }
+    packing::unpack(state, busy)
 }
 
 // The lines that end in the block, until it is used up or the log lacks room for a row. What is lent stands then as the last line leaves it; taken gets how much
 // of the block is used, and written how much of the log is filled. A refused call changes nothing but these two, which become 0.
+// The parameters are those that C lends one by one.
 pub fn play(
     rec: Record,
     strict: bool,
@@ -60,32 +57,38 @@ pub fn play(
 {
     *taken = 0;
     *written = 0;
-    let refused = refusal(state, held.len(), *used, true);
+    let refused = answers::number_of(refusal(state, held.len(), *used, true));
     if refused != 0 {
         return refused;
     }
-    let first = lent_run(state, *used, *line);
-    let run = feed::feed(
-        first,
+    let first = Run {
+        number: *line,
+        used: *used as usize,
+        at: 0,
+        filled: 0,
+    };
+    let chip = unpacked(state);
+    let (_, page) = state.split_at_mut(16);
+    let mut bench = Bench {
         rec,
         strict,
-        held,
-        script,
-        &mut state[16..272],
+        state: chip,
+        page,
         array,
         wear,
-        log,
-    );
+    };
+    let run = feed::feed(&mut bench, first, held, script, log);
+    let chip = bench.state;
     *used = run.used as u32;
     *line = run.number;
     *taken = run.at as u64;
     *written = run.filled as u64;
-    let chip = run.chip;
     packing::pack(chip, state);
     0
 }
 
 // The text has ended: a line that is held is the last one. Refused as a block is, and with 5 where the log lacks room for a row too.
+// The parameters are those that C lends one by one.
 pub fn last(
     rec: Record,
     strict: bool,
@@ -101,30 +104,32 @@ pub fn last(
     ensures { LeavesLast (played_last rec strict (lending state.old array.old wear.old held.now used.old line.old log.old)) result state.new array.new wear.new used.new line.new log.new written.new }
 {
     *written = 0;
-    let refused = refusal(
-        state,
-        held.len(),
-        *used,
-        script_log::LONGEST_ROW <= log.len(),
-    );
+    let roomy = script_log::LONGEST_ROW <= log.len();
+    let refused = answers::number_of(refusal(state, held.len(), *used, roomy));
     if refused != 0 {
         return refused;
     }
-    let first = lent_run(state, *used, *line);
-    let run = feed::finish(
-        first,
+    let first = Run {
+        number: *line,
+        used: *used as usize,
+        at: 0,
+        filled: 0,
+    };
+    let chip = unpacked(state);
+    let (_, page) = state.split_at_mut(16);
+    let mut bench = Bench {
         rec,
         strict,
-        held,
-        &mut state[16..272],
+        state: chip,
+        page,
         array,
         wear,
-        log,
-    );
+    };
+    let run = feed::finish(&mut bench, first, held, log);
+    let chip = bench.state;
     *used = run.used as u32;
     *line = run.number;
     *written = run.filled as u64;
-    let chip = run.chip;
     packing::pack(chip, state);
     0
 }

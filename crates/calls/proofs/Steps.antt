@@ -1,4 +1,5 @@
 -- Laws of single calls of the model, and how calls compose.
+use Rattle.std.specs.Prelude.{Option, Some, None, Err}
 use mathlib.Core.Path.{◌≡◌, refl, sym, ap, subst, ◌∙◌}
 use mathlib.Core.Bool.{Bool, true, false, ◌&&◌, ◌||◌, and-false, cond}
 use mathlib.Core.List.{List, [], ◌∷◌, ◌++◌, append_assoc}
@@ -14,15 +15,14 @@ use Rattle.units.specs.Kinds.{block_of}
 use Rattle.models.specs.Models.{model_of, address_of, range_of, is_protected}
 use Rattle.models.proofs.Rules.{range_none, half-erase-model}
 use Rattle.parts.proofs.Lay.{lay-none}
-use Rattle.answers.specs.Answers.{is_done}
+use Rattle.answers.specs.Answers.{Answer, Done, is_done}
 use Rattle.commands.specs.Commands.{decode_of, traits_of, length_ok}
 use Rattle.commands.specs.declared.Command.{Command}
 use Rattle.commands.specs.declared.Command.TheVariants.{EraseHalf, Read, Program, WriteStatus}
 use Rattle.commands.proofs.Rows.{between, least_on, one-byte-write}
 use Rattle.states.specs.States.{tb_of, Chip, chip_of}
 use Rattle.states.specs.declared.Record.{Record}
-use Rattle.answers.specs.declared.Answer.{Answer}
-use Rattle.answers.specs.declared.Answer.TheVariants.{Done, Settling, Busy}
+use Rattle.answers.specs.declared.Refusal.TheVariants.{Settling, Busy}
 use Rattle.states.proofs.States.{sound, valid}
 use Rattle.ladder.specs.Ladder.{refusal_of}
 use Rattle.ladder.specs.Stages.{given_of, said_of, data_of}
@@ -74,10 +74,10 @@ module _ (rec : Record) (x : Chip) (b : Bench rec x) (f : Sent) where
 
   -- on a busy chip it is answered 11, unless its command is taken while busy
   busy-refusal : 0 < x.state.busy → 0 < length f.bytes → length f.bytes ≤ 65541 → f.tail ≤ 7 → Roomy f → Tabled rec f
-      → (traits_of (model_of rec.model).register (decode_of rec.model (get_or f.bytes 0 0))).while_busy ≡ false → refusal_of rec x.state h ≡ Busy
+      → (traits_of (model_of rec.model).register (decode_of rec.model (get_or f.bytes 0 0))).while_busy ≡ false → refusal_of rec x.state h ≡ Err Busy
   unfolding said_of head_for
   busy-refusal busy some l t r k w =
-      stopped_by Busy refl l t r k
+      stopped_by (Err Busy) refl l t r k
       (rw (
         ne_eqb (length f.bytes) 0 (λ z. omega arith),
         eq-eqb x.state.settle 0 (busy-settled rec x b busy),
@@ -86,9 +86,9 @@ module _ (rec : Record) (x : Chip) (b : Bench rec x) (f : Sent) where
       ))
 
   -- on a settling chip it is answered 22, whatever its command
-  settling-refusal : 0 < x.state.settle → 0 < length f.bytes → length f.bytes ≤ 65541 → f.tail ≤ 7 → Roomy f → Tabled rec f → refusal_of rec x.state h ≡ Settling
+  settling-refusal : 0 < x.state.settle → 0 < length f.bytes → length f.bytes ≤ 65541 → f.tail ≤ 7 → Roomy f → Tabled rec f → refusal_of rec x.state h ≡ Err Settling
   unfolding said_of head_for
-  settling-refusal settling some l t r k = stopped_by Settling refl l t r k (rw (ne_eqb (length f.bytes) 0 (λ z. omega arith), ne_eqb x.state.settle 0 (λ z. omega arith)))
+  settling-refusal settling some l t r k = stopped_by (Err Settling) refl l t r k (rw (ne_eqb (length f.bytes) 0 (λ z. omega arith), ne_eqb x.state.settle 0 (λ z. omega arith)))
 
 -- a refused frame leaves what a refusal leaves
 pub refused-frame : (rec : Record) (x : Chip) (f : Sent) (a : Answer) → refusal_of rec x.state (head_of rec x f) ≡ a → is_done a ≡ false
@@ -98,18 +98,18 @@ refused-frame rec x f a e d = rw (e, d)
 
 pub while-busy : (rec : Record) (x : Chip) (b : Bench rec x) (bytes : List ℕ) (strict : Bool) (wear out : List ℕ) → 0 < x.state.busy
     → 0 < length bytes → length bytes ≤ 65541 → Roomy (frame bytes strict wear out) → Tabled rec (frame bytes strict wear out) → (traits_of (model_of rec.model).register (decode_of rec.model (get_or bytes 0 0))).while_busy ≡ false
-    → answer ours rec [] (sends (frame bytes strict wear out)) x ≡ Busy
+    → answer ours rec [] (sends (frame bytes strict wear out)) x ≡ Err Busy
 unfolding answer
 while-busy rec x b bytes strict wear out busy some l r k w =
     ap (λ (e : Effect). e.reply.answer)
-    (refused-frame rec x (frame bytes strict wear out) Busy (busy-refusal rec x b (frame bytes strict wear out) busy some l (lit≤ tt) r k w) refl)
+    (refused-frame rec x (frame bytes strict wear out) (Err Busy) (busy-refusal rec x b (frame bytes strict wear out) busy some l (lit≤ tt) r k w) refl)
 
 pub while-settling : (rec : Record) (x : Chip) (b : Bench rec x) (bytes : List ℕ) (strict : Bool) (wear out : List ℕ) → 0 < x.state.settle
-    → 0 < length bytes → length bytes ≤ 65541 → Roomy (frame bytes strict wear out) → Tabled rec (frame bytes strict wear out) → answer ours rec [] (sends (frame bytes strict wear out)) x ≡ Settling
+    → 0 < length bytes → length bytes ≤ 65541 → Roomy (frame bytes strict wear out) → Tabled rec (frame bytes strict wear out) → answer ours rec [] (sends (frame bytes strict wear out)) x ≡ Err Settling
 unfolding answer
 while-settling rec x b bytes strict wear out settling some l r k =
     ap (λ (e : Effect). e.reply.answer)
-    (refused-frame rec x (frame bytes strict wear out) Settling (settling-refusal rec x b (frame bytes strict wear out) settling some l (lit≤ tt) r k) refl)
+    (refused-frame rec x (frame bytes strict wear out) (Err Settling) (settling-refusal rec x b (frame bytes strict wear out) settling some l (lit≤ tt) r k) refl)
 
 -- at BP 0 no block is protected
 pub unprotected : (n : ℕ) (tb : Bool) (b : Block) → is_protected n tb 0 b ≡ false
@@ -173,8 +173,8 @@ module _ (rec : Record) (x : Chip) (b : Bench rec x) (z : x.state.busy ≡ 0) (q
     abbrev pub to : Address
     to = address_of rec.model high middle low
 
-    pub erase-taken : x.state.asleep ≡ false → x.state.wel ≡ true → x.state.bp ≡ 0 → 4 ≤ length out → worn_out ErasesSector to wear ≡ false
-        → frame_of rec x (frame (0x20 ∷ high ∷ middle ∷ low ∷ []) strict wear out) ≡ turned x.page (counted ErasesSector to wear) out (erase_starts rec x.state ErasesSector to (0x20 ∷ high ∷ middle ∷ low ∷ []))
+    pub erase-taken : x.state.asleep ≡ false → x.state.wel ≡ true → x.state.bp ≡ 0 → 4 ≤ length out → worn_out (Some ErasesSector) to wear ≡ false
+        → frame_of rec x (frame (0x20 ∷ high ∷ middle ∷ low ∷ []) strict wear out) ≡ turned x.page (counted (Some ErasesSector) to wear) out (erase_starts rec x.state (Some ErasesSector) to (0x20 ∷ high ∷ middle ∷ low ∷ []))
     unfolding accepted_of decode_of traits_of head_for length_ok tb_of covered worn_out said_of data_of
     erase-taken a w p r n =
         taken rec x b (frame (0x20 ∷ high ∷ middle ∷ low ∷ []) strict wear out) (lit≤ tt) (lit≤ tt) r k
@@ -200,8 +200,8 @@ module _ (rec : Record) (x : Chip) (b : Bench rec x) (z : x.state.busy ≡ 0) (q
         (rw (eqb-suc-zero (suc (suc (suc (length more)))), still, idle, a, least_on (traits_of (model_of rec.model).register Read) (suc (suc (suc (suc (length more))))) 0 (omega arith))) refl
 
     -- the other operations, for a chip that waits too short a time after them
-    pub half-taken : (model_of rec.model).half_erase ≡ true → x.state.asleep ≡ false → x.state.wel ≡ true → x.state.bp ≡ 0 → 4 ≤ length out → worn_out ErasesHalf to wear ≡ false
-        → frame_of rec x (frame (0x52 ∷ high ∷ middle ∷ low ∷ []) strict wear out) ≡ turned x.page (counted ErasesHalf to wear) out (erase_starts rec x.state ErasesHalf to (0x52 ∷ high ∷ middle ∷ low ∷ []))
+    pub half-taken : (model_of rec.model).half_erase ≡ true → x.state.asleep ≡ false → x.state.wel ≡ true → x.state.bp ≡ 0 → 4 ≤ length out → worn_out (Some ErasesHalf) to wear ≡ false
+        → frame_of rec x (frame (0x52 ∷ high ∷ middle ∷ low ∷ []) strict wear out) ≡ turned x.page (counted (Some ErasesHalf) to wear) out (erase_starts rec x.state (Some ErasesHalf) to (0x52 ∷ high ∷ middle ∷ low ∷ []))
     unfolding accepted_of traits_of head_for length_ok tb_of covered worn_out said_of data_of
     half-taken m a w p r n =
         let sent : Sent = frame (0x52 ∷ high ∷ middle ∷ low ∷ []) strict wear out in
@@ -210,15 +210,15 @@ module _ (rec : Record) (x : Chip) (b : Bench rec x) (z : x.state.busy ≡ 0) (q
         (rw (d, still, idle, a, w, p, unprotected rec.model (tb_of x.state) (block_of to))) (rw (d, n))
         ∙ ap (λ (c : Command). accepted_of rec x c to sent.bytes wear out) d
 
-    pub block-taken : x.state.asleep ≡ false → x.state.wel ≡ true → x.state.bp ≡ 0 → 4 ≤ length out → worn_out ErasesBlock to wear ≡ false
-        → frame_of rec x (frame (0xD8 ∷ high ∷ middle ∷ low ∷ []) strict wear out) ≡ turned x.page (counted ErasesBlock to wear) out (erase_starts rec x.state ErasesBlock to (0xD8 ∷ high ∷ middle ∷ low ∷ []))
+    pub block-taken : x.state.asleep ≡ false → x.state.wel ≡ true → x.state.bp ≡ 0 → 4 ≤ length out → worn_out (Some ErasesBlock) to wear ≡ false
+        → frame_of rec x (frame (0xD8 ∷ high ∷ middle ∷ low ∷ []) strict wear out) ≡ turned x.page (counted (Some ErasesBlock) to wear) out (erase_starts rec x.state (Some ErasesBlock) to (0xD8 ∷ high ∷ middle ∷ low ∷ []))
     unfolding accepted_of decode_of traits_of head_for length_ok tb_of covered worn_out said_of data_of
     block-taken a w p r n =
         taken rec x b (frame (0xD8 ∷ high ∷ middle ∷ low ∷ []) strict wear out) (lit≤ tt) (lit≤ tt) r k
         (rw (still, idle, a, w, p, unprotected rec.model (tb_of x.state) (block_of to))) (rw n)
 
-  pub chip-taken : x.state.asleep ≡ false → x.state.wel ≡ true → x.state.bp ≡ 0 → 1 ≤ length out → worn_out ErasesChip nowhere wear ≡ false
-      → frame_of rec x (frame (0xC7 ∷ []) strict wear out) ≡ turned x.page (counted ErasesChip nowhere wear) out (erase_starts rec x.state ErasesChip nowhere (0xC7 ∷ []))
+  pub chip-taken : x.state.asleep ≡ false → x.state.wel ≡ true → x.state.bp ≡ 0 → 1 ≤ length out → worn_out (Some ErasesChip) nowhere wear ≡ false
+      → frame_of rec x (frame (0xC7 ∷ []) strict wear out) ≡ turned x.page (counted (Some ErasesChip) nowhere wear) out (erase_starts rec x.state (Some ErasesChip) nowhere (0xC7 ∷ []))
   unfolding accepted_of decode_of traits_of head_for length_ok covered worn_out said_of data_of
   chip-taken a w p r n =
       taken rec x b (frame (0xC7 ∷ []) strict wear out) (lit≤ tt) (lit≤ tt) r k

@@ -12,6 +12,7 @@ use borrow.Author.Tests.{eqb-true, eq-eqb, ne_eqb, ltb-true}
 use Rattle.units.proofs.Bools.{either}
 use Rattle.models.specs.Models.{model_of}
 use Rattle.answers.specs.Answers.{is_done}
+use Rattle.std.specs.Prelude.{Option}
 use Rattle.commands.specs.declared.Operation.{Operation}
 use Rattle.states.specs.States.{longest_settle, record_ok, operation_time, used_page, page_ok, blank_page, power_on, Chip, chip_of}
 use Rattle.states.specs.declared.Record.{Record}
@@ -115,7 +116,7 @@ module _ (rec : Record) (x : Chip) (p : Fine rec x.state x.page) where
   moved-fine (dozes b t z l) = record { sound = dozing-sound rec x.state p.sound b t z l; page-data = still-idle rec.model x.state (dozing x.state b t) x.page z z p.page-data }
 
   -- an operation starts: the latch is set, and the chip is awake
-  begun-fine : record_ok rec ≡ true → (op : Operation) {t : State} {page : List ℕ} → Begun rec x op t page → Fine rec t page
+  begun-fine : record_ok rec ≡ true → (op : Option Operation) {t : State} {page : List ℕ} → Begun rec x op t page → Fine rec t page
   unfolding starting page_ok used_page
   begun-fine r op {t} {page} b =
       let some = b.takes-time r in

@@ -1,14 +1,13 @@
 -- Calls, pods, and what a list of calls does.
+use Rattle.answers.specs.Answers.{Answer}
 use Rattle.std.specs.Prelude.{◌≡◌, Bool, true, List, [], ◌∷◌, ℕ, ◌≤◌, length}
 use Rattle.models.specs.Models.{model_of}
 use Rattle.states.specs.States.{record_ok, state_ok, page_ok, Chip, chip_of}
 use Rattle.states.specs.declared.Record.{Record}
 use Rattle.states.specs.declared.State.{State}
-use Rattle.answers.specs.declared.Answer.{Answer}
-use Rattle.time.specs.declared.After.{After}
 use Rattle.effects.specs.Effects.{Effect}
 use Rattle.chip.specs.Frames.{Sent, sent_of, frame_of}
-use Rattle.time.specs.Time.{Aftermath, wait_of, power_of, power_cut_of}
+use Rattle.time.specs.Time.{After, Aftermath, wait_of, power_of, power_cut_of}
 
 -- a frame; a wait of so many microseconds; a power cycle; a cut of the power with its pattern
 pub data Call : Type 0 where

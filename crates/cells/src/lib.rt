@@ -9,10 +9,9 @@ pub fn and_into(cells: &mut [u8], bytes: &[u8])
     requires { length cells.old ≡ length bytes.now }
     ensures { cells.new ≡ anded bytes.now cells.old }
 {
-    for k in 0..cells.len() {
-        let old = cells[k];
-        let byte = bytes[k];
-        cells[k] = old & byte;
+    // No `zip`: after one over `iter_mut` a proof would know only the length.
+    for (k, cell) in cells.iter_mut().enumerate() {
+        *cell &= bytes[k];
     }
 }
 
@@ -23,10 +22,8 @@ pub fn holds(cells: &[u8], bytes: &[u8]) -> bool
     ensures { result ≡ all_hold bytes.now cells.now }
 {
     let mut missing: u8 = 0;
-    for k in 0..cells.len() {
-        let old = cells[k];
-        let byte = bytes[k];
-        missing = missing | ((old & byte) ^ byte);
+    for (k, cell) in cells.iter().enumerate() {
+        missing |= (*cell & bytes[k]) ^ bytes[k];
     }
     missing == 0
 }
@@ -44,9 +41,7 @@ pub fn tear_into(cells: &mut [u8], bytes: &[u8], pattern: &[u8])
     requires { (length cells.old ≡ length bytes.now) × (length cells.old ≡ length pattern.now) }
     ensures { cells.new ≡ torn_cells bytes.now pattern.now cells.old }
 {
-    for k in 0..cells.len() {
-        let old = cells[k];
-        let new = old & bytes[k];
-        cells[k] = torn(old, new, pattern[k]);
+    for (k, cell) in cells.iter_mut().enumerate() {
+        *cell = torn(*cell, *cell & bytes[k], pattern[k]);
     }
 }

@@ -4,8 +4,7 @@ use mathlib.Core.Bool.{Bool, true, false, cond}
 use Prim.Native.Nat.{◌+◌, ◌≤◌}
 use native.Mathlib.Omega.{arith}
 use lib.ListN.{length}
-use Rattle.answers.specs.Answers.{is_done}
-use Rattle.answers.specs.declared.Answer.{Answer}
+use Rattle.answers.specs.Answers.{Answer, is_done}
 use Rattle.states.specs.declared.Record.{Record}
 use Rattle.ladder.specs.Ladder.{refusal_of}
 use Rattle.ladder.specs.declared.Head.{Head}

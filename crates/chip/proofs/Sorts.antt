@@ -1,4 +1,5 @@
 -- Each command is of one of three kinds, in one clause of `kind`; what holds of every accepted frame is shown of the kinds.
+use Rattle.std.specs.Prelude.{Option, Some, None}
 use mathlib.Core.Path.{◌≡◌, refl, sym, ap, ◌∙◌}
 use mathlib.Core.Bool.{Bool, true, false, not, ◌&&◌, ◌||◌, cond}
 use mathlib.Core.List.{List, [], ◌∷◌}
@@ -18,15 +19,13 @@ use Rattle.units.proofs.Bools.{both, unless, only_if}
 use Rattle.parts.specs.Parts.{all_are, lay}
 use Rattle.parts.proofs.Lay.{length-lay}
 use Rattle.rings.specs.Ring.{ring}
-use Rattle.answers.specs.Answers.{is_done, says_protected}
+use Rattle.answers.specs.Answers.{Answer, Done, is_done, says_protected}
 use Rattle.commands.specs.Commands.{decode_of, traits_of, most_written, operation_of, started_by}
 use Rattle.commands.specs.declared.Operation.{Operation}
-use Rattle.commands.specs.declared.Operation.TheVariants.{WritesStatus, Programs, ErasesSector, ErasesHalf, ErasesBlock, ErasesChip, Idle}
+use Rattle.commands.specs.declared.Operation.TheVariants.{WritesStatus, Programs, ErasesSector, ErasesHalf, ErasesBlock, ErasesChip}
 use Rattle.states.specs.States.{record_ok, status_of, longest_settle, operation_time, place_ok, used_bytes, no_address, blank_page, Chip}
 use Rattle.states.specs.declared.Record.{Record}
 use Rattle.states.specs.declared.State.{State}
-use Rattle.answers.specs.declared.Answer.{Answer}
-use Rattle.answers.specs.declared.Answer.TheVariants.{Done}
 use Rattle.commands.specs.declared.Command.{Command}
 use Rattle.commands.specs.declared.Command.TheVariants.{WriteEnable, WriteDisable, ReadStatus, ReadConfig, WriteStatus, Read, FastRead, EraseSector, EraseHalf, EraseBlock, EraseChip, Program, ReadId, Wake, ReadMaker, Sleep, Unknown, Withdrawn, ReadSfdp}
 use Rattle.commands.proofs.Rows.{half-only-3}
@@ -55,7 +54,7 @@ pub data Move (rec : Record) (s : State) : State → Type 0 where
   dozes : (b : Bool) (t : ℕ) → s.busy ≡ 0 → t ≤ longest_settle rec → Move rec s (dozing s b t)
 
 -- an operation starts
-pub record Begun (rec : Record) (x : Chip) (op : Operation) (t : State) (page : List ℕ) : Type 0 where
+pub record Begun (rec : Record) (x : Chip) (op : Option Operation) (t : State) (page : List ℕ) : Type 0 where
   pub command : ℕ
   pub place : ℕ
   pub is : t ≡ starting x.state command place (operation_time rec op)
@@ -71,7 +70,7 @@ pub record Begun (rec : Record) (x : Chip) (op : Operation) (t : State) (page : 
 -- one of the two
 pub data Turn (rec : Record) (x : Chip) : State → List ℕ → Type 0 where
   moved : {t : State} → Move rec x.state t → Turn rec x t x.page
-  begun : {t : State} {page : List ℕ} (op : Operation) → Begun rec x op t page → Turn rec x t page
+  begun : {t : State} {page : List ℕ} (op : Option Operation) → Begun rec x op t page → Turn rec x t page
 
 -- a refusal leaves the state as it is, or clears the latch of an idle chip
 pub leaves : (rec : Record) (s : State) (a : Answer) → (says_protected a ≡ true → s.busy ≡ 0) → Move rec s (refusal_leaves rec.model a s)
@@ -88,7 +87,7 @@ pub data Kind (rec : Record) (x : Chip) (c : Command) (at : Address) (bytes wear
   turns : (t : State) → (Asked rec x.state c at bytes → Move rec x.state t) → Kind rec x c at bytes wear out 0 false (state_only Done t x.page wear out)
   drove : (t : State) (from : ℕ) (ys : List ℕ) → (Asked rec x.state c at bytes → Move rec x.state t)
       → Kind rec x c at bytes wear out (length bytes - from) false (record { reply = drives t from (length bytes); page = x.page; wear = wear; out = lay out from ys })
-  begins : (op : Operation) (t : State) (page after : List ℕ) (fold : Bool) → (Asked rec x.state c at bytes → Begun rec x op t page)
+  begins : (op : Option Operation) (t : State) (page after : List ℕ) (fold : Bool) → (Asked rec x.state c at bytes → Begun rec x op t page)
       → Kind rec x c at bytes wear out 0 fold (record { reply = folding t fold; page = page; wear = after; out = out })
 
 -- the test for 11 fails at a command that is not taken while busy: the chip is idle
@@ -117,7 +116,7 @@ module _ (rec : Record) (x : Chip) (at : Address) (bytes : List ℕ) (c : Comman
   not-asleep : (traits_of (model_of rec.model).register c).while_asleep ≡ false → x.state.asleep ≡ false
   not-asleep w = only_if x.state.asleep false (rw w at q.awake) refl
 
-  begin : (op : Operation) (place : ℕ) (page : List ℕ) → operation_of c ≡ op → place_ok rec.model op place ≡ true → (record_ok rec ≡ true → 0 < operation_time rec op)
+  begin : (op : Option Operation) (place : ℕ) (page : List ℕ) → operation_of c ≡ op → place_ok rec.model op place ≡ true → (record_ok rec ≡ true → 0 < operation_time rec op)
       → (traits_of (model_of rec.model).register c).while_busy ≡ false → (traits_of (model_of rec.model).register c).while_asleep ≡ false
       → (x.page ≡ blank_page → (length page ≡ 256) × (all_are 0xFF (drop (used_bytes op place) page) ≡ true))
       → Begun rec x op (starting x.state (get_or bytes 0 0) place (operation_time rec op)) page
@@ -182,7 +181,7 @@ module _ (rec : Record) (x : Chip) (at : Address) (bytes wear out : List ℕ) wh
   s = x.state
 
   -- an erase of the unit that holds the address
-  erases : (op : Operation) (c : Command) → operation_of c ≡ op → (traits_of (model_of rec.model).register c).latch ≡ true
+  erases : (op : Option Operation) (c : Command) → operation_of c ≡ op → (traits_of (model_of rec.model).register c).latch ≡ true
       → (traits_of (model_of rec.model).register c).while_busy ≡ false → (traits_of (model_of rec.model).register c).while_asleep ≡ false
       → place_ok rec.model op at.0 ≡ ltb at.0 (model_of rec.model).length → used_bytes op at.0 ≡ 0
       → (Asked rec s c at bytes → record_ok rec ≡ true → 0 < operation_time rec op)
@@ -199,20 +198,20 @@ module _ (rec : Record) (x : Chip) (at : Address) (bytes wear out : List ℕ) wh
   kind ReadStatus = drove s 1 (replicate (length bytes - 1) (status_of s)) (λ q. stays)
   kind ReadConfig = drove s 1 (replicate (length bytes - 1) s.config) (λ q. stays)
   kind WriteStatus =
-      begins WritesStatus (starting s (get_or bytes 0 0) (length bytes - 1) (operation_time rec WritesStatus)) (lay x.page 0 (drop 1 bytes)) wear false
-      (λ q. begin rec x at bytes WriteStatus refl q WritesStatus (length bytes - 1) (lay x.page 0 (drop 1 bytes)) refl (number-of-bytes (model_of rec.model).register (length bytes) (q.written refl).0 (q.written refl).1) (λ r. (times rec r).status) refl refl (λ z. first-used (model_of rec.model).register bytes x.page z (q.written refl).1))
+      begins (Some WritesStatus) (starting s (get_or bytes 0 0) (length bytes - 1) (operation_time rec (Some WritesStatus))) (lay x.page 0 (drop 1 bytes)) wear false
+      (λ q. begin rec x at bytes WriteStatus refl q (Some WritesStatus) (length bytes - 1) (lay x.page 0 (drop 1 bytes)) refl (number-of-bytes (model_of rec.model).register (length bytes) (q.written refl).0 (q.written refl).1) (λ r. (times rec r).status) refl refl (λ z. first-used (model_of rec.model).register bytes x.page z (q.written refl).1))
   kind Read = drove s 4 (ring x.cells at.0 (length bytes - 4)) (λ q. stays)
   kind FastRead = drove s 5 (ring x.cells at.0 (length bytes - 5)) (λ q. stays)
-  kind EraseSector = erases ErasesSector EraseSector refl refl refl refl refl refl (λ q r. (times rec r).sector)
-  kind EraseHalf = erases ErasesHalf EraseHalf refl refl refl refl refl refl (λ q r. half-some rec r (half-only-3 rec.model (get_or bytes 0 0) q.means))
-  kind EraseBlock = erases ErasesBlock EraseBlock refl refl refl refl refl refl (λ q r. (times rec r).block)
+  kind EraseSector = erases (Some ErasesSector) EraseSector refl refl refl refl refl refl (λ q r. (times rec r).sector)
+  kind EraseHalf = erases (Some ErasesHalf) EraseHalf refl refl refl refl refl refl (λ q r. half-some rec r (half-only-3 rec.model (get_or bytes 0 0) q.means))
+  kind EraseBlock = erases (Some ErasesBlock) EraseBlock refl refl refl refl refl refl (λ q r. (times rec r).block)
   kind EraseChip =
-      begins ErasesChip (starting s (get_or bytes 0 0) no_address (operation_time rec ErasesChip)) x.page (counted ErasesChip nowhere wear) false
-      (λ q. begin rec x at bytes EraseChip refl q ErasesChip no_address x.page refl refl (λ r. (times rec r).chip) refl refl (λ z. blank-stays z))
+      begins (Some ErasesChip) (starting s (get_or bytes 0 0) no_address (operation_time rec (Some ErasesChip))) x.page (counted (Some ErasesChip) nowhere wear) false
+      (λ q. begin rec x at bytes EraseChip refl q (Some ErasesChip) no_address x.page refl refl (λ r. (times rec r).chip) refl refl (λ z. blank-stays z))
   kind Program =
       rw (← (length-drop 4 bytes))
-      (begins Programs (starting s (get_or bytes 0 0) at.0 (operation_time rec Programs)) (page_after (page_offset at) (drop 4 bytes) x.page) wear (folds (page_offset at) (length (drop 4 bytes)))
-      (λ q. begin rec x at bytes Program refl q Programs at.0 (page_after (page_offset at) (drop 4 bytes) x.page) refl (lt-ltb at.0 (model_of rec.model).length q.inside) (λ r. (times rec r).page) refl refl (λ z. all-used (page_offset at) (drop 4 bytes) x.page z)))
+      (begins (Some Programs) (starting s (get_or bytes 0 0) at.0 (operation_time rec (Some Programs))) (page_after (page_offset at) (drop 4 bytes) x.page) wear (folds (page_offset at) (length (drop 4 bytes)))
+      (λ q. begin rec x at bytes Program refl q (Some Programs) at.0 (page_after (page_offset at) (drop 4 bytes) x.page) refl (lt-ltb at.0 (model_of rec.model).length q.inside) (λ r. (times rec r).page) refl refl (λ z. all-used (page_offset at) (drop 4 bytes) x.page z)))
   kind ReadId = drove s 1 (ring (id_bytes (model_of rec.model)) 0 (length bytes - 1)) (λ q. stays)
   kind Wake =
       drove (dozing s false (waking_time rec s (length bytes))) 4 (replicate (length bytes - 4) (model_of rec.model).signature)
@@ -268,27 +267,27 @@ module _ {rec : Record} {x : Chip} {c : Command} {at : Address} {bytes wear out 
 
 -- ---- the wear table of an accepted frame: the counts of the sectors that its operation covers are one more; only an erase covers any
 module _ (rec : Record) (x : Chip) (at : Address) (bytes wear out : List ℕ) where
-  none : (op : Operation) → covered op at (length wear) ≡ sectors (sector_at 0) 0 → wear ≡ counted op at wear
+  none : (op : Option Operation) → covered op at (length wear) ≡ sectors (sector_at 0) 0 → wear ≡ counted op at wear
   none op e = sym (uncounted op at wear e)
 
   pub table-after : (c : Command) → (accepted_of rec x c at bytes wear out).wear ≡ counted (operation_of c) at wear
   unfolding accepted_of covered
-  table-after WriteEnable = none Idle refl
-  table-after WriteDisable = none Idle refl
-  table-after ReadStatus = none Idle refl
-  table-after ReadConfig = none Idle refl
-  table-after WriteStatus = none WritesStatus refl
-  table-after Read = none Idle refl
-  table-after FastRead = none Idle refl
+  table-after WriteEnable = none None refl
+  table-after WriteDisable = none None refl
+  table-after ReadStatus = none None refl
+  table-after ReadConfig = none None refl
+  table-after WriteStatus = none (Some WritesStatus) refl
+  table-after Read = none None refl
+  table-after FastRead = none None refl
   table-after EraseSector = refl
   table-after EraseHalf = refl
   table-after EraseBlock = refl
   table-after EraseChip = all-counted nowhere at wear
-  table-after Program = none Programs refl
-  table-after ReadId = none Idle refl
-  table-after Wake = none Idle refl
-  table-after ReadMaker = none Idle refl
-  table-after Sleep = none Idle refl
-  table-after Unknown = none Idle refl
-  table-after Withdrawn = none Idle refl
-  table-after ReadSfdp = none Idle refl
+  table-after Program = none (Some Programs) refl
+  table-after ReadId = none None refl
+  table-after Wake = none None refl
+  table-after ReadMaker = none None refl
+  table-after Sleep = none None refl
+  table-after Unknown = none None refl
+  table-after Withdrawn = none None refl
+  table-after ReadSfdp = none None refl

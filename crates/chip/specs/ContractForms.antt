@@ -1,18 +1,15 @@
 -- The forms of contracts inside the crate: what the code of the commands gives, and what is known of a frame before it.
-use Rattle.std.specs.Prelude.{true, List, ◌≡◌, ℕ, ◌≤◌, ◌<◌, length}
+use Rattle.std.specs.Prelude.{List, ◌≡◌, ℕ, ◌≤◌, ◌<◌, length}
 use Rattle.units.specs.declared.Address.{Address}
 use Rattle.models.specs.Models.{model_of}
-use Rattle.answers.specs.Answers.{is_done}
 use Rattle.commands.specs.Commands.{traits_of, fewest, most_written}
 use Rattle.commands.specs.declared.Command.{Command}
 use Rattle.commands.specs.declared.Command.TheVariants.{WriteStatus}
-use Rattle.states.specs.States.{page_ok, Chip}
+use Rattle.states.specs.States.{Chip}
 use Rattle.states.specs.declared.Record.{Record}
-use Rattle.ladder.specs.Stages.{given_of}
 use Rattle.effects.specs.declared.Reply.{Reply}
 use Rattle.effects.specs.Effects.{Effect}
 use Rattle.effects.specs.ContractForms.{Room}
-use Rattle.chip.specs.Frames.{Sent, head_of}
 
 -- the reply, the page data and the output of an effect: what the code of the commands gives; the wear table is not lent to it
 pub record Does (e : Effect) (r : Reply) (page os : List ℕ) : Type 0 where
@@ -28,8 +25,3 @@ pub record Ready (rec : Record) (x : Chip) (c : Command) (at : Address) (bytes o
   pub page-data : length x.page ≡ 256
   pub written : c ≡ WriteStatus → length bytes ≤ most_written (model_of rec.model).register
   pub fits : Room (fewest (traits_of (model_of rec.model).register c)) bytes out
-
--- the first six rows of the table have let the frame pass
-pub record Heard (rec : Record) (x : Chip) (f : Sent) : Type 0 where
-  pub given : is_done (given_of rec x.state (head_of rec x f)) ≡ true
-  pub fits : page_ok rec.model x.state x.page ≡ true

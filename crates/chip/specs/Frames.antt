@@ -1,16 +1,15 @@
 -- Any frame: its head, the refusals, and what its command does.
-use Rattle.std.specs.Prelude.{Bool, cond, List, ℕ, length, get_or}
+use Rattle.std.specs.Prelude.{Bool, cond, List, ℕ, length, get_or, Option, Some, None, Err}
 use Rattle.units.specs.declared.Address.{Address}
 use Rattle.models.specs.Models.{address_of}
-use Rattle.answers.specs.Answers.{is_done}
+use Rattle.answers.specs.Answers.{Answer, Done, is_done}
 use Rattle.commands.specs.Commands.{decode_of, operation_of, started_by}
 use Rattle.states.specs.States.{page_ok, Chip}
 use Rattle.commands.specs.declared.Operation.TheVariants.{ErasesSector, ErasesHalf, ErasesBlock, ErasesChip}
 use Rattle.states.specs.declared.Record.{Record}
 use Rattle.commands.specs.declared.Command.{Command}
 use Rattle.commands.specs.declared.Command.TheVariants.{WriteEnable, WriteDisable, ReadStatus, ReadConfig, WriteStatus, Read, FastRead, EraseSector, EraseHalf, EraseBlock, EraseChip, Program, ReadId, Wake, ReadMaker, Sleep, Unknown, Withdrawn, ReadSfdp}
-use Rattle.answers.specs.declared.Answer.{Answer}
-use Rattle.answers.specs.declared.Answer.TheVariants.{Done, WornOut, NotErased}
+use Rattle.answers.specs.declared.Refusal.TheVariants.{WornOut, NotErased}
 use Rattle.ladder.specs.Ladder.{refusal_of}
 use Rattle.ladder.specs.declared.Head.{Head}
 use Rattle.counts.specs.Counts.{worn_out, counted}
@@ -45,6 +44,10 @@ head_for model cells sectors page bytes tail wp room over worn =
       worn = worn;
     }
 
+-- the same, of a head that was not read yet
+abbrev pub head_read : ℕ → Head → List ℕ → Head
+head_read model h bytes = record h { command = decode_of model (get_or bytes 0 0); address = address_of model (get_or bytes 1 0) (get_or bytes 2 0) (get_or bytes 3 0) }
+
 -- whether the frame programs over old data under the strict setting (Req 08)
 abbrev pub over_by : ℕ → List ℕ → Sent → Bool
 over_by model cells f =
@@ -68,10 +71,10 @@ accepted_of rec x ReadConfig at bytes wear out = shown x.page wear (read_config 
 accepted_of rec x WriteStatus at bytes wear out = started wear out (write_status rec x.state x.page bytes)
 accepted_of rec x Read at bytes wear out = shown x.page wear (read_from 4 x.state x.cells at bytes out)
 accepted_of rec x FastRead at bytes wear out = shown x.page wear (read_from 5 x.state x.cells at bytes out)
-accepted_of rec x EraseSector at bytes wear out = turned x.page (counted ErasesSector at wear) out (erase_starts rec x.state ErasesSector at bytes)
-accepted_of rec x EraseHalf at bytes wear out = turned x.page (counted ErasesHalf at wear) out (erase_starts rec x.state ErasesHalf at bytes)
-accepted_of rec x EraseBlock at bytes wear out = turned x.page (counted ErasesBlock at wear) out (erase_starts rec x.state ErasesBlock at bytes)
-accepted_of rec x EraseChip at bytes wear out = turned x.page (counted ErasesChip nowhere wear) out (erase_starts rec x.state ErasesChip nowhere bytes)
+accepted_of rec x EraseSector at bytes wear out = turned x.page (counted (Some ErasesSector) at wear) out (erase_starts rec x.state (Some ErasesSector) at bytes)
+accepted_of rec x EraseHalf at bytes wear out = turned x.page (counted (Some ErasesHalf) at wear) out (erase_starts rec x.state (Some ErasesHalf) at bytes)
+accepted_of rec x EraseBlock at bytes wear out = turned x.page (counted (Some ErasesBlock) at wear) out (erase_starts rec x.state (Some ErasesBlock) at bytes)
+accepted_of rec x EraseChip at bytes wear out = turned x.page (counted (Some ErasesChip) nowhere wear) out (erase_starts rec x.state (Some ErasesChip) nowhere bytes)
 accepted_of rec x Program at bytes wear out = started wear out (program_page rec x.state x.page at bytes)
 accepted_of rec x ReadId at bytes wear out = shown x.page wear (read_id rec x.state bytes out)
 accepted_of rec x Wake at bytes wear out = shown x.page wear (wake rec x.state bytes out)
@@ -95,5 +98,5 @@ frame_of rec x f =
 -- a frame that every row but the last two lets pass: it is accepted, unless it programs over old data or erases a sector whose count is at its top
 abbrev pub taken_of : Record → Chip → Command → Address → Bool → List ℕ → List ℕ → List ℕ → Effect
 taken_of rec x c at strict bytes wear out =
-    cond (goes_over (operation_of c) strict at x.cells bytes) (state_only NotErased x.state x.page wear out)
-    (cond (worn_out (operation_of c) at wear) (state_only WornOut x.state x.page wear out) (accepted_of rec x c at bytes wear out))
+    cond (goes_over (operation_of c) strict at x.cells bytes) (state_only (Err NotErased) x.state x.page wear out)
+    (cond (worn_out (operation_of c) at wear) (state_only (Err WornOut) x.state x.page wear out) (accepted_of rec x c at bytes wear out))

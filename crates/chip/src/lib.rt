@@ -1,31 +1,22 @@
 // The chip: any frame, on values and slices.
 #![tactic(auto)]
 
-ghost use Rattle.std.specs.Prelude.{◌≡◌, false, []};
+ghost use Rattle.std.specs.Prelude.{◌≡◌, []};
 ghost use Rattle.states.specs.States.{chip_of};
 ghost use Rattle.effects.specs.ContractForms.{Gives};
-ghost use Rattle.chip.specs.Frames.{sent_of, head_for, accepted_of, frame_of};
-ghost use Rattle.chip.specs.ContractForms.{Does, Ready, Heard};
+ghost use Rattle.chip.specs.Frames.{sent_of, head_read, accepted_of, frame_of};
+ghost use Rattle.chip.specs.ContractForms.{Does, Ready};
 
-use answers::Answer;
+use answers::Refusal;
 use commands::{Command, Operation};
 use effects::Reply;
 use ladder::Head;
 use states::{Record, State};
 use units::Address;
 
-// What the refusals look at but for the cells and the wear table's counts.
-fn head(
-    model: u32,
-    cells: usize,
-    sectors: usize,
-    page: bool,
-    bytes: &[u8],
-    tail: u32,
-    wp: bool,
-    room: usize,
-) -> Head
-    ensures { result ≡ head_for model cells sectors page bytes.now tail wp room false false }
+// What the frame says: its command and its address, beside what the call is given.
+fn read(model: u32, unread: Head, bytes: &[u8]) -> Head
+    ensures { result ≡ head_read model unread bytes.now }
 {
     let address = models::address_of(
         model,
@@ -33,23 +24,16 @@ fn head(
         parts::byte_at(bytes, 2),
         parts::byte_at(bytes, 3),
     );
+    // The command last: its table and that of what it asks for become one.
     let command = commands::decode(model, parts::byte_at(bytes, 0));
     Head {
-        cells,
-        sectors,
-        page,
-        count: bytes.len(),
-        tail,
-        wp,
-        room,
         command,
         address,
-        over: false,
-        worn: false,
+        ..unread
     }
 }
 
-// An accepted frame, by its command. What it counts was counted before.
+// An accepted frame, by its command. What it counts was counted before. It has all that a frame is given and says, since each command takes another part of it.
 fn accepted(
     rec: Record,
     st: State,
@@ -71,13 +55,13 @@ fn accepted(
         Command::WriteStatus => starts::write_status(rec, st, page, bytes),
         Command::Read => shows::read_from(4, st, array, at, bytes, out),
         Command::FastRead => shows::read_from(5, st, array, at, bytes, out),
-        Command::EraseSector => effects::erase(rec, st, Operation::ErasesSector, at, bytes),
-        Command::EraseHalf => effects::erase(rec, st, Operation::ErasesHalf, at, bytes),
-        Command::EraseBlock => effects::erase(rec, st, Operation::ErasesBlock, at, bytes),
+        Command::EraseSector => effects::erase(rec, st, Some(Operation::ErasesSector), at, bytes),
+        Command::EraseHalf => effects::erase(rec, st, Some(Operation::ErasesHalf), at, bytes),
+        Command::EraseBlock => effects::erase(rec, st, Some(Operation::ErasesBlock), at, bytes),
         Command::EraseChip => effects::erase(
             rec,
             st,
-            Operation::ErasesChip,
+            Some(Operation::ErasesChip),
             Address(0xFFFFFF),
             bytes,
         ),
@@ -86,56 +70,14 @@ fn accepted(
         Command::Wake => shows::wake(rec, st, bytes, out),
         Command::ReadMaker => shows::read_maker(rec, st, bytes, out),
         Command::Sleep => effects::sleep(rec, st),
-        Command::Unknown => effects::quiet(Answer::Done, st),
-        Command::Withdrawn => effects::quiet(Answer::Done, st),
+        Command::Unknown => effects::quiet(Ok(()), st),
+        Command::Withdrawn => effects::quiet(Ok(()), st),
         Command::ReadSfdp => shows::read_sfdp(st, bytes, out),
     }
 }
 
-// A frame that the refusals 1 to 5 and 24 let pass; so the page data fit.
-fn spoken(
-    rec: Record,
-    st: State,
-    page: &mut [u8],
-    array: &[u8],
-    wear: &mut [u32],
-    bytes: &[u8],
-    tail: u32,
-    wp: bool,
-    strict: bool,
-    out: &mut [u8],
-) -> Reply
-    requires { Heard rec (chip_of st page.old array.now) (sent_of bytes.now tail wp strict wear.old out.old) }
-    ensures { Gives (frame_of rec (chip_of st page.old array.now) (sent_of bytes.now tail wp strict wear.old out.old)) result page.new wear.new out.new }
-{
-    let h = head(
-        rec.model,
-        array.len(),
-        wear.len(),
-        true,
-        bytes,
-        tail,
-        wp,
-        out.len(),
-    );
-    let answer = ladder::said(rec, st, h);
-    if answers::is_done(answer) {
-        let c = h.command;
-        let at = h.address;
-        let op = commands::operation_of(c);
-        if starts::is_over(op, strict, array, at, bytes) {
-            return effects::quiet(Answer::NotErased, st);
-        }
-        if !counts::count(wear, op, at) {
-            return effects::quiet(Answer::WornOut, st);
-        }
-        accepted(rec, st, c, page, array, at, bytes, out)
-    } else {
-        effects::refuse(rec.model, answer, st)
-    }
-}
-
-// Any frame, of any record, state, page data, array, wear table, tail and output. What the call is given is looked at before a byte is read. The array is not written.
+// Any frame, of any record, state, page data, array, wear table, tail and output. What the call is given is looked at before what the frame says. The array is not written.
+// The ten one by one: each of the two callers has them so, and would write a struct out for one call.
 pub fn frame(
     rec: Record,
     st: State,
@@ -163,10 +105,19 @@ pub fn frame(
         over: false,
         worn: false,
     };
-    let first = ladder::given(rec, st, unread);
-    if answers::is_done(first) {
-        spoken(rec, st, page, array, wear, bytes, tail, wp, strict, out)
-    } else {
-        effects::quiet(first, st)
+    if let Err(refusal) = ladder::given(rec, st, unread) {
+        return effects::quiet(Err(refusal), st);
     }
+    let h = read(rec.model, unread, bytes);
+    if let Err(refusal) = ladder::said(rec, st, h) {
+        return effects::refuse(rec.model, Err(refusal), st);
+    }
+    let op = commands::operation_of(h.command);
+    if starts::is_over(op, strict, array, h.address, bytes) {
+        return effects::quiet(Err(Refusal::NotErased), st);
+    }
+    if !counts::count(wear, op, h.address) {
+        return effects::quiet(Err(Refusal::WornOut), st);
+    }
+    accepted(rec, st, h.command, page, array, h.address, bytes, out)
 }

@@ -6,8 +6,9 @@ use Prim.Native.Nat.{ℕ, ◌≤◌, ◌<◌}
 use native.Mathlib.Omega.{arith}
 use lib.Dec.{eqb, leb, lit≤}
 use borrow.Author.Tests.{eqb-true, eqb-false, ne_eqb, leb-true, leb-false, le-leb, lt-leb, not-true}
+use Rattle.std.specs.Prelude.{Option, Some, None}
 use Rattle.commands.specs.declared.Operation.{Operation}
-use Rattle.commands.specs.declared.Operation.TheVariants.{Idle, WritesStatus, Programs, ErasesSector, ErasesHalf, ErasesBlock, ErasesChip}
+use Rattle.commands.specs.declared.Operation.TheVariants.{WritesStatus, Programs, ErasesSector, ErasesHalf, ErasesBlock, ErasesChip}
 use Rattle.commands.specs.declared.Traits.{Traits}
 use Rattle.commands.specs.declared.Command.{Command}
 use Rattle.commands.specs.declared.Command.TheVariants.{WriteEnable, WriteDisable, ReadStatus, ReadConfig, WriteStatus, Read, FastRead, EraseSector, EraseHalf, EraseBlock, EraseChip, Program, ReadId, Wake, ReadMaker, Sleep, Unknown, Withdrawn, ReadSfdp}
@@ -96,11 +97,11 @@ latch-waits r c e =
     rw e at (not-true (k.latch && k.while_busy) t)
 
 -- FF starts no operation
-pub none-started : (n : ℕ) → started_by n 0xFF ≡ Idle
+pub none-started : (n : ℕ) → started_by n 0xFF ≡ None
 unfolding decode_of
 none-started n = go (eqb n 3) refl
   where
-    go : (b : Bool) → eqb n 3 ≡ b → started_by n 0xFF ≡ Idle
+    go : (b : Bool) → eqb n 3 ≡ b → started_by n 0xFF ≡ None
     go true e = rw e
     go false e = rw e
 
@@ -117,14 +118,14 @@ write-length r n tail s e = go (leb 65542 n) refl
         (leb-true 2 n q.0, leb-true n (most_written r) q.1)
 
 -- ---- a program has at least five bytes
-is_program : Operation → Bool
-is_program Idle = false
-is_program WritesStatus = false
-is_program Programs = true
-is_program ErasesSector = false
-is_program ErasesHalf = false
-is_program ErasesBlock = false
-is_program ErasesChip = false
+is_program : Option Operation → Bool
+is_program None = false
+is_program (Some WritesStatus) = false
+is_program (Some Programs) = true
+is_program (Some ErasesSector) = false
+is_program (Some ErasesHalf) = false
+is_program (Some ErasesBlock) = false
+is_program (Some ErasesChip) = false
 
 program-row : (r : Bool) (c : Command) → is_program (operation_of c) ≡ true → 5 ≤ fewest (traits_of r c)
 unfolding is_program traits_of
@@ -148,7 +149,7 @@ program-row r Unknown e = absurd (false≢true e)
 program-row r Withdrawn e = absurd (false≢true e)
 program-row r ReadSfdp e = absurd (false≢true e)
 
-pub program-length : (r : Bool) (c : Command) → operation_of c ≡ Programs → 5 ≤ fewest (traits_of r c)
+pub program-length : (r : Bool) (c : Command) → operation_of c ≡ Some Programs → 5 ≤ fewest (traits_of r c)
 unfolding is_program
 program-length r c e = program-row r c (ap is_program e)
 

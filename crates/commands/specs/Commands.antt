@@ -1,9 +1,9 @@
 -- The commands: 01, "Commands" (000 L158-187, 002 L304-340, 003 L467-571).
-use Rattle.std.specs.Prelude.{Bool, true, false, ◌&&◌, ◌||◌, cond, List, [], ◌∷◌, ◌++◌, ℕ, min, eqb, leb}
+use Rattle.std.specs.Prelude.{Bool, true, false, ◌&&◌, ◌||◌, cond, List, [], ◌∷◌, ◌++◌, ℕ, min, eqb, leb, Option, Some, None}
 use Rattle.commands.specs.declared.Traits.{Traits}
 use Rattle.commands.specs.declared.Command.{Command}
 use Rattle.commands.specs.declared.Operation.{Operation}
-use Rattle.commands.specs.declared.Operation.TheVariants.{Idle, WritesStatus, Programs, ErasesSector, ErasesHalf, ErasesBlock, ErasesChip}
+use Rattle.commands.specs.declared.Operation.TheVariants.{WritesStatus, Programs, ErasesSector, ErasesHalf, ErasesBlock, ErasesChip}
 use Rattle.commands.specs.declared.Command.TheVariants.{WriteEnable, WriteDisable, ReadStatus, ReadConfig, WriteStatus, Read, FastRead, EraseSector, EraseHalf, EraseBlock, EraseChip, Program, ReadId, Wake, ReadMaker, Sleep, Unknown, Withdrawn, ReadSfdp}
 
 -- the command bytes
@@ -51,30 +51,30 @@ look_up b (r ∷ rs) = cond (eqb b r.byte) r.means (look_up b rs)
 unfoldable pub decode_of : ℕ → ℕ → Command
 decode_of n b = look_up b (common ++ ((0x5A is sfdp_read n) ∷ own n))
 
--- the operation that a command starts, which keeps the chip busy; Idle where it starts none
-abbrev pub operation_of : Command → Operation
-operation_of WriteEnable = Idle
-operation_of WriteDisable = Idle
-operation_of ReadStatus = Idle
-operation_of ReadConfig = Idle
-operation_of WriteStatus = WritesStatus
-operation_of Read = Idle
-operation_of FastRead = Idle
-operation_of EraseSector = ErasesSector
-operation_of EraseHalf = ErasesHalf
-operation_of EraseBlock = ErasesBlock
-operation_of EraseChip = ErasesChip
-operation_of Program = Programs
-operation_of ReadId = Idle
-operation_of Wake = Idle
-operation_of ReadMaker = Idle
-operation_of Sleep = Idle
-operation_of Unknown = Idle
-operation_of Withdrawn = Idle
-operation_of ReadSfdp = Idle
+-- the operation that a command starts, which keeps the chip busy, or none
+abbrev pub operation_of : Command → Option Operation
+operation_of WriteEnable = None
+operation_of WriteDisable = None
+operation_of ReadStatus = None
+operation_of ReadConfig = None
+operation_of WriteStatus = Some WritesStatus
+operation_of Read = None
+operation_of FastRead = None
+operation_of EraseSector = Some ErasesSector
+operation_of EraseHalf = Some ErasesHalf
+operation_of EraseBlock = Some ErasesBlock
+operation_of EraseChip = Some ErasesChip
+operation_of Program = Some Programs
+operation_of ReadId = None
+operation_of Wake = None
+operation_of ReadMaker = None
+operation_of Sleep = None
+operation_of Unknown = None
+operation_of Withdrawn = None
+operation_of ReadSfdp = None
 
 -- and the one of a command byte on the model of a number
-abbrev pub started_by : ℕ → ℕ → Operation
+abbrev pub started_by : ℕ → ℕ → Option Operation
 started_by n b = operation_of (decode_of n b)
 
 abbrev pub ■ : Bool

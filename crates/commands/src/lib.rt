@@ -2,8 +2,10 @@
 #![tactic(auto)]
 
 ghost use Rattle.std.specs.Prelude.{◌≡◌};
-ghost use Rattle.commands.specs.Commands.{look_up, sfdp_read, own as Commands·own, decode_of, row as Commands·row, unknown as Commands·unknown, withdrawn as Commands·withdrawn, most_written, traits_of, length_ok, operation_of, started_by};
+ghost use Rattle.commands.specs.Commands.{look_up, sfdp_read, own as Commands·own, decode_of, row as Commands·row, most_written, traits_of, length_ok, operation_of, started_by};
 
+// A byte that is none and a withdrawn one are variants too: each has a row of the table and an answer of its own, so an Option
+// would hold two kinds of nothing.
 #[derive(Clone, Copy)]
 pub enum Command {
     WriteEnable,
@@ -56,6 +58,7 @@ fn own(model: u32, byte: u8) -> Command
 }
 
 // The command of a frame's first byte on the model of that number.
+#[tactic(auto, unfolding(crate::specs::Commands::decode_of))]
 pub fn decode(model: u32, byte: u8) -> Command
     ensures { result ≡ decode_of model byte }
 {
@@ -80,10 +83,9 @@ pub fn decode(model: u32, byte: u8) -> Command
     }
 }
 
-// What keeps a chip busy; Idle where nothing does.
-#[derive(Clone, Copy)]
+// What keeps a chip busy.
+#[derive(Clone, Copy, PartialEq, Eq)]
 pub enum Operation {
-    Idle,
     WritesStatus,
     Programs,
     ErasesSector,
@@ -92,35 +94,23 @@ pub enum Operation {
     ErasesChip,
 }
 
-// The operation that a command starts.
-pub fn operation_of(c: Command) -> Operation
+// The operation that a command starts, if it starts one.
+pub fn operation_of(c: Command) -> Option<Operation>
     ensures { result ≡ operation_of c }
 {
     match c {
-        Command::WriteEnable => Operation::Idle,
-        Command::WriteDisable => Operation::Idle,
-        Command::ReadStatus => Operation::Idle,
-        Command::ReadConfig => Operation::Idle,
-        Command::WriteStatus => Operation::WritesStatus,
-        Command::Read => Operation::Idle,
-        Command::FastRead => Operation::Idle,
-        Command::EraseSector => Operation::ErasesSector,
-        Command::EraseHalf => Operation::ErasesHalf,
-        Command::EraseBlock => Operation::ErasesBlock,
-        Command::EraseChip => Operation::ErasesChip,
-        Command::Program => Operation::Programs,
-        Command::ReadId => Operation::Idle,
-        Command::Wake => Operation::Idle,
-        Command::ReadMaker => Operation::Idle,
-        Command::Sleep => Operation::Idle,
-        Command::Unknown => Operation::Idle,
-        Command::Withdrawn => Operation::Idle,
-        Command::ReadSfdp => Operation::Idle,
+        Command::WriteStatus => Some(Operation::WritesStatus),
+        Command::EraseSector => Some(Operation::ErasesSector),
+        Command::EraseHalf => Some(Operation::ErasesHalf),
+        Command::EraseBlock => Some(Operation::ErasesBlock),
+        Command::EraseChip => Some(Operation::ErasesChip),
+        Command::Program => Some(Operation::Programs),
+        _ => None,
     }
 }
 
 // The operation that a command byte starts on the model of that number.
-pub fn started_by(model: u32, byte: u8) -> Operation
+pub fn started_by(model: u32, byte: u8) -> Option<Operation>
     ensures { result ≡ started_by model byte }
 {
     operation_of(decode(model, byte))
@@ -154,6 +144,7 @@ const Y: bool = true;
 
 const N: bool = false;
 
+// A row by its columns: as a struct with named fields each of the sixteen rows would be ten lines.
 fn row(
     while_busy: bool,
     while_asleep: bool,
@@ -182,41 +173,27 @@ fn row(
     }
 }
 
-fn unknown() -> Traits
-    ensures { result ≡ Commands·unknown }
-{
-    Traits {
-        known: false,
-        withdrawn: false,
-        while_busy: false,
-        while_asleep: false,
-        latch: false,
-        lock: false,
-        unit: false,
-        whole: false,
-        low: 0,
-        high: 0,
-        least: 0,
-    }
-}
+// A byte that is no command.
+const UNKNOWN: Traits = Traits {
+    known: false,
+    withdrawn: false,
+    while_busy: false,
+    while_asleep: false,
+    latch: false,
+    lock: false,
+    unit: false,
+    whole: false,
+    low: 0,
+    high: 0,
+    least: 0,
+};
 
-fn withdrawn() -> Traits
-    ensures { result ≡ Commands·withdrawn }
-{
-    Traits {
-        known: true,
-        withdrawn: true,
-        while_busy: false,
-        while_asleep: false,
-        latch: false,
-        lock: false,
-        unit: false,
-        whole: false,
-        low: 0,
-        high: 0,
-        least: 0,
-    }
-}
+// A command that was withdrawn: of any length.
+const WITHDRAWN: Traits = Traits {
+    known: true,
+    withdrawn: true,
+    ..UNKNOWN
+};
 
 // The longest status write.
 fn most_written(register: bool) -> usize
@@ -265,14 +242,15 @@ pub fn traits_of(register: bool, c: Command) -> Traits
             row(N, N, N, N, N, N, 4, 4, 4),
         Command::Sleep => // B9
             row(N, N, N, N, N, N, 1, 1, NEVER),
-        Command::Unknown => unknown(),
-        Command::Withdrawn => withdrawn(), // 52 of models 1 and 2
+        Command::Unknown => UNKNOWN,
+        Command::Withdrawn => WITHDRAWN, // 52 of models 1 and 2
         Command::ReadSfdp => // 5A of model 2
             row(N, N, N, N, N, N, 5, 5, 5),
     }
 }
 
 // Whether the command takes a frame of n bytes and that tail.
+#[tactic(auto, unfolding(crate::specs::Commands::length_ok))]
 pub fn length_ok(t: Traits, n: usize, tail: u32) -> bool
     ensures { result ≡ length_ok t n tail }
 {

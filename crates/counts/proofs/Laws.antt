@@ -1,4 +1,5 @@
 -- Laws of counts and of the report.
+use Rattle.std.specs.Prelude.{Option, Some, None}
 use mathlib.Core.Path.{◌≡◌, refl, sym, ap, ◌∙◌}
 use mathlib.Core.Bool.{Bool, true, false, ◌||◌, false≢true}
 use mathlib.Core.List.{List, [], ◌∷◌, ◌++◌}
@@ -15,7 +16,7 @@ use Rattle.units.proofs.Bools.{neither, either}
 use Rattle.models.specs.Models.{is_sectors, model_of}
 use Rattle.counts.specs.Counts.{sector_at, count_of, top_count, at_top, first_with, covered, InTable, counted, sectors, worn_out, OneMore, raised, total_of}
 use Rattle.commands.specs.declared.Operation.{Operation}
-use Rattle.commands.specs.declared.Operation.TheVariants.{Idle, WritesStatus, Programs, ErasesSector, ErasesHalf, ErasesBlock, ErasesChip}
+use Rattle.commands.specs.declared.Operation.TheVariants.{WritesStatus, Programs, ErasesSector, ErasesHalf, ErasesBlock, ErasesChip}
 use Rattle.models.proofs.Rules.{row-rules}
 use Rattle.parts.proofs.Lay.{lay-none, lay-before, lay-inside, lay-after, length-lay, length_part, lay-part}
 use lib.Seq.{drop-cons, ext_get_or}
@@ -48,23 +49,23 @@ sectors-range n e =
     (either (eqb n 16) (eqb n 64 || (eqb n 4096 || false)) e)
 
 -- ---- the covered sectors lie in the table of the chip
-pub in_table : (n : ℕ) (op : Operation) (at : Address) (wear : List ℕ) → length wear ≡ (model_of n).sectors → at.0 < (model_of n).length → InTable op at wear
+pub in_table : (n : ℕ) (op : Option Operation) (at : Address) (wear : List ℕ) → length wear ≡ (model_of n).sectors → at.0 < (model_of n).length → InTable op at wear
 unfolding covered
-in_table n Idle at wear e l = omega arith
-in_table n WritesStatus at wear e l = omega arith
-in_table n Programs at wear e l = omega arith
-in_table n ErasesSector at wear e l = omega (arith, (row-rules n).sectors)
-in_table n ErasesHalf at wear e l = omega (arith, (row-rules n).sectors, (row-rules n).half-blocks)
-in_table n ErasesBlock at wear e l = omega (arith, (row-rules n).sectors, (row-rules n).blocks)
-in_table n ErasesChip at wear e l = omega arith
+in_table n None at wear e l = omega arith
+in_table n (Some WritesStatus) at wear e l = omega arith
+in_table n (Some Programs) at wear e l = omega arith
+in_table n (Some ErasesSector) at wear e l = omega (arith, (row-rules n).sectors)
+in_table n (Some ErasesHalf) at wear e l = omega (arith, (row-rules n).sectors, (row-rules n).half-blocks)
+in_table n (Some ErasesBlock) at wear e l = omega (arith, (row-rules n).sectors, (row-rules n).blocks)
+in_table n (Some ErasesChip) at wear e l = omega arith
 
 -- an erase of the chip lies in every table
-pub chip-in-table : (at : Address) (wear : List ℕ) → InTable ErasesChip at wear
+pub chip-in-table : (at : Address) (wear : List ℕ) → InTable (Some ErasesChip) at wear
 unfolding covered
 chip-in-table at wear = omega arith
 
 -- an operation that covers no sector counts nothing
-pub uncounted : (op : Operation) (at : Address) (wear : List ℕ) → covered op at (length wear) ≡ sectors (sector_at 0) 0 → counted op at wear ≡ wear
+pub uncounted : (op : Option Operation) (at : Address) (wear : List ℕ) → covered op at (length wear) ≡ sectors (sector_at 0) 0 → counted op at wear ≡ wear
 unfolding counted
 uncounted op at wear e = rw e (lay-none wear 0)
 
@@ -80,7 +81,7 @@ none_dropped zero xs e = e
 none_dropped (suc n) [] e = refl
 none_dropped (suc n) (x ∷ xs) e = none_dropped n xs (neither (leb top_count x) (at_top xs) e).1
 
-pub none-worn : (op : Operation) (at : Address) (wear : List ℕ) → at_top wear ≡ false → worn_out op at wear ≡ false
+pub none-worn : (op : Option Operation) (at : Address) (wear : List ℕ) → at_top wear ≡ false → worn_out op at wear ≡ false
 unfolding worn_out
 none-worn op at wear e = let s = covered op at (length wear) in none-taken s.count (drop s.first.0 wear) (none_dropped s.first.0 wear e)
 
@@ -93,7 +94,7 @@ new-table (suc n) = new-table n
 one-count : (k : ℕ) (wear : List ℕ) → k < length wear → part wear k 1 ≡ get_or wear k 0 ∷ []
 one-count k wear l = rw (drop-cons wear k 0 l)
 
-pub sector-spared : (at : Address) (wear : List ℕ) → (sector_of at).0 < length wear → count_of wear (sector_of at) < top_count → worn_out ErasesSector at wear ≡ false
+pub sector-spared : (at : Address) (wear : List ℕ) → (sector_of at).0 < length wear → count_of wear (sector_of at) < top_count → worn_out (Some ErasesSector) at wear ≡ false
 unfolding worn_out covered
 sector-spared at wear l b = ap at_top (one-count (sector_of at).0 wear l) ∙ rw (lt-leb top_count (count_of wear (sector_of at)) b)
 
@@ -118,7 +119,7 @@ one_more k wear after l h = ext_get_or 0 (lay wear k ys) after (length-lay wear 
         let z : i ≡ k → ⊥ = eqb-false i k f in
         lay-after wear k ys i (omega arith) (omega (arith, ltb-false i k e)) ∙ sym (h.others (sector_at i) (λ y. z (ap (λ (s : Sector). s.0) y)))
 
-pub sector-counted : (at : Address) (wear after : List ℕ) → (sector_of at).0 < length wear → OneMore (sector_of at) wear after → counted ErasesSector at wear ≡ after
+pub sector-counted : (at : Address) (wear after : List ℕ) → (sector_of at).0 < length wear → OneMore (sector_of at) wear after → counted (Some ErasesSector) at wear ≡ after
 unfolding counted covered
 sector-counted at wear after l h = ap (λ (ys : List ℕ). lay wear (sector_of at).0 (raised ys)) (one-count (sector_of at).0 wear l) ∙ one_more (sector_of at).0 wear after l h
 
@@ -136,7 +137,7 @@ unfolding lay
 total-lay xs at ys = total-join (take at xs) (ys ++ drop (at + length ys) xs) ∙ ap (λ (n : ℕ). total_of (take at xs) + n) (total-join ys (drop (at + length ys) xs))
 
 -- a counted operation adds as many as it covers sectors
-pub total-counted : (op : Operation) (at : Address) (wear : List ℕ) → InTable op at wear
+pub total-counted : (op : Option Operation) (at : Address) (wear : List ℕ) → InTable op at wear
     → total_of (counted op at wear) ≡ total_of wear + (covered op at (length wear)).count
 unfolding counted
 total-counted op at wear l =
@@ -152,6 +153,6 @@ total-counted op at wear l =
     omega (arith, raise, was, back, more, n)
 
 -- an erase of the chip has no address
-pub all-counted : (p q : Address) (wear : List ℕ) → counted ErasesChip p wear ≡ counted ErasesChip q wear
+pub all-counted : (p q : Address) (wear : List ℕ) → counted (Some ErasesChip) p wear ≡ counted (Some ErasesChip) q wear
 unfolding counted covered
 all-counted p q wear = refl

@@ -104,19 +104,20 @@ unfolding report_of
 report-tells wear e =
     let some : 0 < length wear = omega (arith, sectors-range (length wear) e) in
     let top = largest-has wear some in
-    let f = first-has (largest_of wear) wear top.0 top.1.0 top.1.1 in
-    rw e
-    (record {
-      total = refl;
-      mean = whole (total_of wear) (length wear);
-      remainder = mod-lt (total_of wear) some;
-      smallest = smallest-has wear some;
-      none-smaller = smallest-all wear;
-      largest = f.1.0;
-      none-larger = largest-all wear;
-      within = f.0;
-      first = λ k m. below k (f.1.1 k m) (largest-all wear k (omega (arith, f.0)));
-    })
+    let f = first-has (largest_of wear) wear top.0 top.1.0 top.1.1 in (
+      rw e,
+      record {
+        total = refl;
+        mean = whole (total_of wear) (length wear);
+        remainder = mod-lt (total_of wear) some;
+        smallest = smallest-has wear some;
+        none-smaller = smallest-all wear;
+        largest = f.1.0;
+        none-larger = largest-all wear;
+        within = f.0;
+        first = λ k m. below k (f.1.1 k m) (largest-all wear k (omega (arith, f.0)));
+      },
+    )
   where
     whole : (t n : ℕ) → t / n * n + t % n ≡ t
     whole t n = ap (λ (a : ℕ). a + t % n) (mul_comm (t / n) n) ∙ div-add-mod t n

@@ -1,13 +1,14 @@
 -- Erase counts, one 32-bit number a sector: which of them an erase raises, and what the report says of a table (Req 06).
-use Rattle.std.specs.Prelude.{Bool, false, ◌||◌, cond, List, [], ◌∷◌, ◌≡◌, ℕ, suc, ◌+◌, ◌/◌, ◌%◌, ◌≤◌, min, max, eqb, leb, ltb, length, get_or}
+use Rattle.std.specs.Prelude.{Result, Ok, Err, Bool, false, ◌||◌, cond, List, [], ◌∷◌, ◌≡◌, ℕ, suc, ◌+◌, ◌/◌, ◌%◌, ◌≤◌, min, max, eqb, leb, ltb, length, get_or, Option, Some, None}
 use Rattle.units.specs.declared.Address.{Address}
 use Rattle.units.specs.declared.Sector.{Sector}
 use Rattle.units.specs.Kinds.{sector_of, half_block_of, block_of, first_of_half, first_of_block}
 use Rattle.models.specs.Models.{is_sectors}
 use Rattle.parts.specs.Parts.{part, lay, by_index}
 use Rattle.commands.specs.declared.Operation.{Operation}
-use Rattle.commands.specs.declared.Operation.TheVariants.{Idle, WritesStatus, Programs, ErasesSector, ErasesHalf, ErasesBlock, ErasesChip}
-use Rattle.answers.specs.declared.Answer.TheVariants.{Done, BadTable}
+use Rattle.commands.specs.declared.Operation.TheVariants.{WritesStatus, Programs, ErasesSector, ErasesHalf, ErasesBlock, ErasesChip}
+use Rattle.answers.specs.declared.Refusal.{Refusal}
+use Rattle.answers.specs.declared.Refusal.TheVariants.{BadTable}
 use Rattle.counts.specs.declared.Sectors.{Sectors}
 use Rattle.counts.specs.declared.Figures.{Figures}
 use Rattle.counts.specs.declared.Sums.{Sums}
@@ -23,17 +24,17 @@ count_of wear sector = get_or wear sector.0 0
 abbrev pub sectors : Sector → ℕ → Sectors
 sectors first count = record { first = first; count = count }
 
-unfoldable pub covered : Operation → Address → ℕ → Sectors
-covered Idle at n = sectors (sector_at 0) 0
-covered WritesStatus at n = sectors (sector_at 0) 0
-covered Programs at n = sectors (sector_at 0) 0
-covered ErasesSector at n = sectors (sector_of at) 1
-covered ErasesHalf at n = sectors (first_of_half (half_block_of at)) 8
-covered ErasesBlock at n = sectors (first_of_block (block_of at)) 16
-covered ErasesChip at n = sectors (sector_at 0) n
+unfoldable pub covered : Option Operation → Address → ℕ → Sectors
+covered None at n = sectors (sector_at 0) 0
+covered (Some WritesStatus) at n = sectors (sector_at 0) 0
+covered (Some Programs) at n = sectors (sector_at 0) 0
+covered (Some ErasesSector) at n = sectors (sector_of at) 1
+covered (Some ErasesHalf) at n = sectors (first_of_half (half_block_of at)) 8
+covered (Some ErasesBlock) at n = sectors (first_of_block (block_of at)) 16
+covered (Some ErasesChip) at n = sectors (sector_at 0) n
 
 -- their counts in a table
-abbrev pub covered_counts : Operation → Address → List ℕ → List ℕ
+abbrev pub covered_counts : Option Operation → Address → List ℕ → List ℕ
 covered_counts op at wear = part wear (covered op at (length wear)).first.0 (covered op at (length wear)).count
 
 -- ---- an erase
@@ -46,7 +47,7 @@ abbrev pub at_top : List ℕ → Bool
 at_top [] = false
 at_top (x ∷ xs) = leb top_count x || at_top xs
 
-unfoldable pub worn_out : Operation → Address → List ℕ → Bool
+unfoldable pub worn_out : Option Operation → Address → List ℕ → Bool
 worn_out op at wear = at_top (covered_counts op at wear)
 
 -- each count of a run is one more
@@ -54,11 +55,11 @@ abbrev pub raised : List ℕ → List ℕ
 raised counts = by_index (λ (k old : ℕ). old + 1) counts
 
 -- the table after: the counts of the covered sectors are raised, the others are as they were
-unfoldable pub counted : Operation → Address → List ℕ → List ℕ
+unfoldable pub counted : Option Operation → Address → List ℕ → List ℕ
 counted op at wear = lay wear (covered op at (length wear)).first.0 (raised (covered_counts op at wear))
 
 -- the covered sectors lie in the table
-abbrev pub InTable : Operation → Address → List ℕ → Type 0
+abbrev pub InTable : Option Operation → Address → List ℕ → Type 0
 InTable op at wear = (covered op at (length wear)).first.0 + (covered op at (length wear)).count ≤ length wear
 
 -- a table after it, where the count of one sector is one more and no other has moved
@@ -114,17 +115,18 @@ sums_of wear =
       sector = sector_at (first_with (largest_of wear) wear);
     }
 
--- 24 where the length is no chip's, and then no figure
-unfoldable pub report_of : List ℕ → Figures
-report_of wear =
-    cond (is_sectors (length wear))
-    (record {
-      answer = Done;
+-- what the report says of a table that some chip has
+abbrev pub figures_of : List ℕ → Figures
+figures_of wear =
+    record {
       total = total_of wear;
       smallest = smallest_of wear;
       largest = largest_of wear;
       sector = sector_at (first_with (largest_of wear) wear);
       mean = total_of wear / length wear;
       remainder = total_of wear % length wear;
-    })
-    (record { answer = BadTable; total = 0; smallest = 0; largest = 0; sector = sector_at 0; mean = 0; remainder = 0 })
+    }
+
+-- 24 where the length is no chip's, and then no figure
+unfoldable pub report_of : List ℕ → Result Figures Refusal
+report_of wear = cond (is_sectors (length wear)) (Ok (figures_of wear)) (Err BadTable)

@@ -1,8 +1,8 @@
 -- What the figures of a report are, in the words of the one who reads the sheet (Req 06).
-use Rattle.std.specs.Prelude.{◌≡◌, true, List, ℕ, ◌+◌, ◌*◌, ◌≤◌, ◌<◌, length, get_or}
+use Rattle.std.specs.Prelude.{Ok, ◌≡◌, true, List, ℕ, ◌+◌, ◌*◌, ◌≤◌, ◌<◌, length, get_or}
 use Rattle.models.specs.Models.{is_sectors}
 use Rattle.counts.specs.declared.Figures.{Figures}
-use Rattle.counts.specs.Counts.{count_of, total_of, report_of}
+use Rattle.counts.specs.Counts.{count_of, total_of, figures_of, report_of}
 
 -- some sector has that count
 abbrev pub Has : List ℕ → ℕ → Type 0
@@ -22,5 +22,6 @@ pub record Tells (wear : List ℕ) (r : Figures) : Type 0 where
   pub within : r.sector.0 < length wear
   pub first : (k : ℕ) → k < r.sector.0 → get_or wear k 0 < r.largest
 
+-- of a table that some chip has there is a report, and its figures are these
 abbrev pub ReportTells : Type 0
-ReportTells = (wear : List ℕ) → is_sectors (length wear) ≡ true → Tells wear (report_of wear)
+ReportTells = (wear : List ℕ) → is_sectors (length wear) ≡ true → (report_of wear ≡ Ok (figures_of wear)) × Tells wear (figures_of wear)

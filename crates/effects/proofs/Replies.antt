@@ -11,9 +11,7 @@ use Rattle.parts.specs.Parts.{lay}
 use Rattle.parts.proofs.Lay.{lay-none}
 use Rattle.states.specs.declared.State.{State}
 use Rattle.models.specs.Models.{model_of}
-use Rattle.answers.specs.Answers.{says_protected}
-use Rattle.answers.specs.declared.Answer.{Answer}
-use Rattle.answers.specs.declared.Answer.TheVariants.{Done}
+use Rattle.answers.specs.Answers.{Answer, Done, says_protected}
 use Rattle.effects.specs.Effects.{drives, quiet, refusal_leaves, latched}
 
 -- a frame that ends before its first data position drives nothing

@@ -1,5 +1,5 @@
 -- What each command does once it is accepted, one definition a command in the order of 01's list.
-use Rattle.std.specs.Prelude.{Bool, true, false, ◌&&◌, cond, List, [], ◌∷◌, ℕ, ◌-◌, ◌%◌, eqb, ltb, length, get_or, drop, replicate}
+use Rattle.std.specs.Prelude.{Bool, true, false, ◌&&◌, cond, List, [], ◌∷◌, ℕ, ◌-◌, ◌%◌, eqb, ltb, length, get_or, drop, replicate, Option, Some, None}
 use Rattle.units.specs.declared.Address.{Address}
 use Rattle.models.specs.declared.Model.{Model}
 use Rattle.units.specs.Kinds.{page_offset, page_start, sfdp_address}
@@ -10,13 +10,11 @@ use Rattle.rings.specs.Ring.{ring}
 use Rattle.fold.specs.Fold.{folds, page_after}
 use Rattle.fold.specs.Strict.{over_old}
 use Rattle.commands.specs.declared.Operation.{Operation}
-use Rattle.commands.specs.declared.Operation.TheVariants.{Idle, WritesStatus, Programs, ErasesSector, ErasesHalf, ErasesBlock, ErasesChip}
+use Rattle.commands.specs.declared.Operation.TheVariants.{WritesStatus, Programs, ErasesSector, ErasesHalf, ErasesBlock, ErasesChip}
 use Rattle.states.specs.States.{status_of, operation_time, no_address}
 use Rattle.states.specs.declared.Record.{Record}
 use Rattle.states.specs.declared.State.{State}
-use Rattle.answers.specs.Answers.{says_protected}
-use Rattle.answers.specs.declared.Answer.{Answer}
-use Rattle.answers.specs.declared.Answer.TheVariants.{Done}
+use Rattle.answers.specs.Answers.{Answer, Done, says_protected}
 use Rattle.effects.specs.declared.Reply.{Reply}
 
 -- a whole frame: the reply, and the page data, the wear table and the output after. A frame changes no cell
@@ -102,7 +100,7 @@ read_config s bytes out =
 unfoldable pub write_status : Record → State → List ℕ → List ℕ → Started
 write_status rec s page bytes =
     record {
-      reply = quiet Done (starting s (get_or bytes 0 0) (length bytes - 1) (operation_time rec WritesStatus));
+      reply = quiet Done (starting s (get_or bytes 0 0) (length bytes - 1) (operation_time rec (Some WritesStatus)));
       page = lay page 0 (drop 1 bytes);
     }
 
@@ -112,7 +110,7 @@ read_from first s cells at bytes out =
     record { reply = drives s first (length bytes); out = lay out first (ring cells at.0 (length bytes - first)) }
 
 -- 20, 52, D8, 60 and C7: the erase starts; the cells change when its time has run out (000 L315, L327, L335, 003 L1233)
-unfoldable pub erase_starts : Record → State → Operation → Address → List ℕ → Reply
+unfoldable pub erase_starts : Record → State → Option Operation → Address → List ℕ → Reply
 erase_starts rec s op at bytes = quiet Done (starting s (get_or bytes 0 0) at.0 (operation_time rec op))
 
 -- an erase of the chip has no address
@@ -123,7 +121,7 @@ nowhere = record { 0 = no_address }
 unfoldable pub program_page : Record → State → List ℕ → Address → List ℕ → Started
 program_page rec s page at bytes =
     record {
-      reply = folding (starting s (get_or bytes 0 0) at.0 (operation_time rec Programs)) (folds (page_offset at) (length (drop 4 bytes)));
+      reply = folding (starting s (get_or bytes 0 0) at.0 (operation_time rec (Some Programs))) (folds (page_offset at) (length (drop 4 bytes)));
       page = page_after (page_offset at) (drop 4 bytes) page;
     }
 
@@ -132,14 +130,14 @@ unfoldable pub programs_over : Bool → Address → List ℕ → List ℕ → Bo
 programs_over strict at cells bytes = strict && over_old (page_offset at) (drop 4 bytes) (part cells (page_start at) 256)
 
 -- whether an operation is refused so: only a program can be
-abbrev pub goes_over : Operation → Bool → Address → List ℕ → List ℕ → Bool
-goes_over Idle strict at cells bytes = false
-goes_over WritesStatus strict at cells bytes = false
-goes_over Programs strict at cells bytes = programs_over strict at cells bytes
-goes_over ErasesSector strict at cells bytes = false
-goes_over ErasesHalf strict at cells bytes = false
-goes_over ErasesBlock strict at cells bytes = false
-goes_over ErasesChip strict at cells bytes = false
+abbrev pub goes_over : Option Operation → Bool → Address → List ℕ → List ℕ → Bool
+goes_over None strict at cells bytes = false
+goes_over (Some WritesStatus) strict at cells bytes = false
+goes_over (Some Programs) strict at cells bytes = programs_over strict at cells bytes
+goes_over (Some ErasesSector) strict at cells bytes = false
+goes_over (Some ErasesHalf) strict at cells bytes = false
+goes_over (Some ErasesBlock) strict at cells bytes = false
+goes_over (Some ErasesChip) strict at cells bytes = false
 
 -- 9F: from position 1 the three identification bytes, repeated (000 L383-391, 002 L522-526)
 abbrev pub id_bytes : Model → List ℕ

@@ -1,13 +1,14 @@
 -- A caller's loops: a block fed again and again until it is used up, and block after block.
-use Rattle.std.proofs.Common.{◌≡◌, ℕ, zero, suc, ◌+◌, ◌<◌, ◌≤◌, Bool, List, [], ◌∷◌, ◌++◌, length, sym, refl, ap, ◌∙◌, subst, arith, le-ltb, lt-ltb}
+use Rattle.std.proofs.Common.{◌≡◌, ℕ, zero, suc, ◌+◌, ◌<◌, ◌≤◌, Bool, List, [], ◌∷◌, ◌++◌, length, sym, refl, ◌∙◌, subst, arith, le-ltb, lt-ltb}
 use Rattle.states.specs.declared.Record.{Record}
+use Rattle.play.specs.declared.Bench.{Bench}
 use Rattle.lines.specs.Cutting.{held_room}
 use Rattle.script_log.specs.Row.{longest_row}
 use Rattle.feed.specs.declared.Run.{Run}
 use Rattle.feed.specs.Feed.{Start, Stand, standing, feed_of, Stands}
 use Rattle.feed.specs.Fed.{Fed}
 use Rattle.feed.specs.Script.{emptied_run, emptied, begun, block_for, whole_block, passed_blocks}
-use Rattle.feed.proofs.Turns.{stands}
+use Rattle.feed.proofs.Turns.{stands, stood}
 use Rattle.feed.proofs.Feeds.{feed-feeds, stands-fed}
 
 -- ---- a block: `left` feeds more give what the whole block gives, each with an empty log
@@ -46,32 +47,23 @@ passing-feed {rec} {strict} {block} {start} {s} g l = go g.left g.enough g.same
         }
 
 -- of what a feed gave, and the run emptied after it
-pub passing-on : {rec : Record} {strict : Bool} {block : List ℕ} {start s : Stand} {r e : Run} {held page cells wear log : List ℕ} → Passing rec strict block start s → s.run.at < length block
-    → Stands (feed_of rec strict block s) r held page cells wear log → e ≡ emptied_run r → Passing rec strict block start (standing e held page cells wear log)
-passing-on {rec} {strict} {block} {start} {held = held} {page = page} {cells = cells} {wear = wear} {log = log} g l f e =
-    subst (λ (z : Run). Passing rec strict block start (standing z held page cells wear log)) (sym e)
+pub passing-on : {rec : Record} {strict : Bool} {block : List ℕ} {start s : Stand} {r e : Run} {b : Bench} {held log : List ℕ} → Passing rec strict block start s → s.run.at < length block
+    → Stands (feed_of rec strict block s) r b held log → e ≡ emptied_run r → Passing rec strict block start (standing e b held log)
+passing-on {rec} {strict} {block} {start} {b = b} {held = held} {log = log} g l f e =
+    subst (λ (z : Run). Passing rec strict block start (standing z b held log)) (sym e)
     (subst (λ (z : Stand). Passing rec strict block start (emptied z)) (sym (stands f)) (passing-feed g l))
 
-pub passing-less : {rec : Record} {strict : Bool} {block : List ℕ} {start s : Stand} {r : Run} {held page cells wear log : List ℕ} → Passing rec strict block start s → s.run.at < length block
-    → Stands (feed_of rec strict block s) r held page cells wear log → s.run.at < r.at
+pub passing-less : {rec : Record} {strict : Bool} {block : List ℕ} {start s : Stand} {r : Run} {b : Bench} {held log : List ℕ} → Passing rec strict block start s → s.run.at < length block
+    → Stands (feed_of rec strict block s) r b held log → s.run.at < r.at
 passing-less g l f = (stands-fed f g.ready).on l (omega (arith, g.empty, g.room))
 
 used-up : (rec : Record) (strict : Bool) (block : List ℕ) (n : ℕ) (s : Stand) → length block ≤ s.run.at → (block_for rec strict block n s).stand ≡ s
 used-up rec strict block zero s l = refl
 used-up rec strict block (suc n) s l = rw (le-ltb s.run.at (length block) l)
 
-pub passing-all : {rec : Record} {strict : Bool} {block : List ℕ} {start s : Stand} → Passing rec strict block start s → length block ≤ s.run.at
-    → Stands (whole_block rec strict block start).stand s.run s.held s.page s.cells s.wear s.log
-passing-all {rec} {strict} {block} {start} {s} g l =
-    let q : s ≡ (whole_block rec strict block start).stand = sym (g.same ∙ used-up rec strict block g.left s l) in
-    record {
-      run' = ap (λ (t : Stand). t.run) q;
-      held' = ap (λ (t : Stand). t.held) q;
-      page' = ap (λ (t : Stand). t.page) q;
-      cells' = ap (λ (t : Stand). t.cells) q;
-      wear' = ap (λ (t : Stand). t.wear) q;
-      log' = ap (λ (t : Stand). t.log) q;
-    }
+pub passing-all : {rec : Record} {strict : Bool} {block : List ℕ} {start : Stand} (r : Run) (b : Bench) (held log : List ℕ) → Passing rec strict block start (standing r b held log) → length block ≤ r.at
+    → Stands (whole_block rec strict block start).stand r b held log
+passing-all {rec} {strict} {block} r b held log g l = stood r b held log (sym (g.same ∙ used-up rec strict block g.left (standing r b held log) l))
 
 -- ---- one block more
 pub passed-more : (rec : Record) (strict : Bool) (s : Stand) (blocks : List (List ℕ)) (block : List ℕ) → passed_blocks rec strict s (blocks ++ (block ∷ [])) ≡ (whole_block rec strict block (passed_blocks rec strict s blocks)).stand

@@ -7,14 +7,15 @@ use Rattle.text.specs.Put.{Put}
 use Rattle.text.proofs.PutLaws.{put-none, put_as, put_then}
 use Rattle.lines.specs.Lines.{lines_from, last_line}
 use Rattle.lines.specs.Cutting.{Holds, held_room}
-use Rattle.play.specs.Play.{Turn}
+use Rattle.play.specs.declared.Bench.{Bench}
+use Rattle.play.specs.Play.{Turn, StaysLent}
 use Rattle.stepper.specs.Rows.{line_turn, row_text, chip_after, log_from, device_from}
 use Rattle.stepper.proofs.Rows.{row-short}
 use Rattle.script_log.specs.Row.{longest_row}
 use Rattle.feed.specs.declared.Run.{Run}
 use Rattle.feed.specs.Feed.{Start, TurnStart, Stand, standing, chip_now, device_now, line_done, feed_turn, feed_for, feed_of, last_of, Stands, OneStands}
 use Rattle.feed.specs.Fed.{Did, Fed, Finished, FeedFeeds, LastFinishes}
-use Rattle.feed.proofs.Turns.{Same, same-clip, stands, line_kept, Turned, turned}
+use Rattle.feed.proofs.Turns.{Same, same-clip, stands, stood, line_kept, Turned, turned}
 
 -- ---- one after the other
 did_none : (rec : Record) (strict : Bool) (block : List ℕ) (s : Stand) (line : List ℕ) → s.run.filled ≤ length s.log → Holds line s.held s.run.used → Did rec strict block s s line
@@ -102,8 +103,8 @@ unfolding feed_of
 feed-feeds rec strict block s p = fed-for rec strict block s (length block) s (going-none rec strict block s p) (omega arith)
 
 -- of what a call gave
-pub stands-fed : {rec : Record} {strict : Bool} {block : List ℕ} {s : Stand} {r : Run} {held page cells wear log : List ℕ} → Stands (feed_of rec strict block s) r held page cells wear log
-    → Start s.run s.held block s.log → Fed rec strict block s (standing r held page cells wear log)
+pub stands-fed : {rec : Record} {strict : Bool} {block : List ℕ} {s : Stand} {r : Run} {b : Bench} {held log : List ℕ} → Stands (feed_of rec strict block s) r b held log
+    → Start s.run s.held block s.log → Fed rec strict block s (standing r b held log)
 stands-fed {rec} {strict} {block} {s} e p = subst (Fed rec strict block s) (sym (stands e)) (feed-feeds rec strict block s p)
 
 -- ---- the loop: `left` turns more give what the whole feed gives
@@ -142,12 +143,17 @@ feeding-turn {rec} {strict} {block} {start} {s} g p = go g.left g.enough g.same
           same = e ∙ one_more rec strict block n s p.inside p.room;
         }
 
-pub feeding-on : {rec : Record} {strict : Bool} {block : List ℕ} {start s : Stand} {r : Run} {held page cells wear log : List ℕ} → Feeding rec strict block start s → TurnStart s.run s.held block s.log
-    → Stands (feed_turn rec strict block s) r held page cells wear log → Feeding rec strict block start (standing r held page cells wear log)
+pub feeding-on : {rec : Record} {strict : Bool} {block : List ℕ} {start s : Stand} {r : Run} {b : Bench} {held log : List ℕ} → Feeding rec strict block start s → TurnStart s.run s.held block s.log
+    → Stands (feed_turn rec strict block s) r b held log → Feeding rec strict block start (standing r b held log)
 feeding-on {rec} {strict} {block} {start} g p e = subst (Feeding rec strict block start) (sym (stands e)) (feeding-turn g p)
 
+-- the loop's bench has the record and the setting that it began with
+pub feeding-turned : {a b c : Bench} {block : List ℕ} {start : Stand} {r r' : Run} {held held' log log' : List ℕ} → StaysLent a b → Feeding a.rec a.strict block start (standing r b held log) → r.at < length block
+    → longest_row ≤ length log - r.filled → Stands (feed_turn b.rec b.strict block (standing r b held log)) r' c held' log' → Feeding a.rec a.strict block start (standing r' c held' log')
+feeding-turned k g l m e = feeding-on g (feeding-ready g l m) (rw (k.same_record, k.same_setting) at e)
+
 -- it goes on in the block
-pub turn_on : (rec : Record) (strict : Bool) (block : List ℕ) (s : Stand) {r : Run} {held page cells wear log : List ℕ} → TurnStart s.run s.held block s.log → Stands (feed_turn rec strict block s) r held page cells wear log → s.run.at < r.at
+pub turn_on : (rec : Record) (strict : Bool) (block : List ℕ) (s : Stand) {r : Run} {b : Bench} {held log : List ℕ} → TurnStart s.run s.held block s.log → Stands (feed_turn rec strict block s) r b held log → s.run.at < r.at
 turn_on rec strict block s {r} p e =
     let d = turned rec strict block s p in
     let a : r.at ≡ (feed_turn rec strict block s).run.at = ap (λ (z : Run). z.at) e.run' in
@@ -163,20 +169,18 @@ stopped rec strict block (suc n) s (inr l) = go (ltb s.run.at (length block)) re
     go true p = rw (p, lt-leb (s.run.filled + longest_row) (length s.log) (omega arith))
     go false p = rw p
 
-pub feeding-fed : {rec : Record} {strict : Bool} {block : List ℕ} {start s : Stand} → Feeding rec strict block start s → (length block ≤ s.run.at) ⊎ (length s.log - s.run.filled < longest_row)
-    → Stands (feed_of rec strict block start) s.run s.held s.page s.cells s.wear s.log
-feeding-fed {rec} {strict} {block} {start} {s} g e =
-    let q : s ≡ feed_of rec strict block start = sym (g.same ∙ stopped rec strict block g.left s e) in
-    record { run' = ap (λ (t : Stand). t.run) q; held' = ap (λ (t : Stand). t.held) q; page' = ap (λ (t : Stand). t.page) q; cells' = ap (λ (t : Stand). t.cells) q; wear' = ap (λ (t : Stand). t.wear) q; log' = ap (λ (t : Stand). t.log) q }
+pub feeding-fed : {rec : Record} {strict : Bool} {block : List ℕ} {start : Stand} (r : Run) (b : Bench) (held log : List ℕ) → Feeding rec strict block start (standing r b held log) → (length block ≤ r.at) ⊎ (length log - r.filled < longest_row)
+    → Stands (feed_of rec strict block start) r b held log
+feeding-fed {rec} {strict} {block} {start} r b held log g e = stood r b held log (sym (g.same ∙ stopped rec strict block g.left (standing r b held log) e))
 
 -- ---- the input's end
-pub finishes-none : (rec : Record) (strict : Bool) (s : Stand) → s.run.used ≡ 0 → Stands (last_of rec strict s) s.run s.held s.page s.cells s.wear s.log
+pub finishes-none : (rec : Record) (strict : Bool) (r : Run) (b : Bench) (held log : List ℕ) → r.used ≡ 0 → Stands (last_of rec strict (standing r b held log)) r b held log
 unfolding last_of
-finishes-none rec strict s u = rw (eq-eqb s.run.used 0 u) (record { run' = refl; held' = refl; page' = refl; cells' = refl; wear' = refl; log' = refl })
+finishes-none rec strict r b held log u = rw (eq-eqb r.used 0 u) (stood r b held log refl)
 
-pub finishes-line : (rec : Record) (strict : Bool) (s : Stand) {handed held page' cells' wear' log' : List ℕ} {r : Run} → (s.run.used ≡ 0 → ⊥) → handed ≡ take s.run.used s.held
-    → Stands (line_done rec strict (standing s.run held s.page s.cells s.wear s.log) held handed s.run.at) r held page' cells' wear' log'
-    → Stands (last_of rec strict s) r s.held page' cells' wear' log'
+pub finishes-line : (rec : Record) (strict : Bool) (s : Stand) {handed held log' : List ℕ} {r : Run} {b : Bench} → (s.run.used ≡ 0 → ⊥) → handed ≡ take s.run.used s.held
+    → Stands (line_done rec strict (record s { held = held }) held handed s.run.at) r b held log'
+    → Stands (last_of rec strict s) r b s.held log'
 unfolding last_of
 finishes-line rec strict s u m d = rw (ne_eqb s.run.used 0 u) (line_kept rec strict s s.run.at {held' = s.held} m refl d)
 
@@ -242,5 +246,5 @@ last-finishes rec strict s l room = go (eqb s.run.used 0) refl
 
 -- ---- no second answer
 pub one-stands : OneStands
-one-stands t r r₂ held held₂ page page₂ cells cells₂ wear wear₂ log log₂ p q =
-    (p.run' ∙ sym q.run', p.held' ∙ sym q.held', p.page' ∙ sym q.page', p.cells' ∙ sym q.cells', p.wear' ∙ sym q.wear', p.log' ∙ sym q.log')
+one-stands t r r₂ b b₂ held held₂ log log₂ p q =
+    (p.run' ∙ sym q.run', p.state' ∙ sym q.state', p.held' ∙ sym q.held', p.page' ∙ sym q.page', p.cells' ∙ sym q.cells', p.wear' ∙ sym q.wear', p.log' ∙ sym q.log')

@@ -1,10 +1,9 @@
 -- One turn of a feed: a line that lies in the block, one that began before it, or none that ends.
-use Rattle.std.proofs.Common.{◌≡◌, ℕ, ◌+◌, ◌-◌, ◌<◌, ◌≤◌, Bool, true, false, leb, List, [], ◌∷◌, ◌++◌, length, take, drop, replicate, sym, refl, ap, ◌∙◌, subst, arith, lit<, length-take-le, take_all, leb-false, leb-true}
+use Rattle.std.proofs.Common.{◌≡◌, ℕ, ◌+◌, ◌-◌, ◌<◌, ◌≤◌, Bool, true, false, leb, List, [], ◌∷◌, ◌++◌, length, take, drop, replicate, sym, refl, ap, ◌∙◌, subst, arith, lit<, None, length-take-le, take_all, leb-false, leb-true}
 use lib.Seq.{drop-length}
 use Rattle.states.specs.declared.Record.{Record}
 use Rattle.states.specs.declared.State.{State}
 use Rattle.states.specs.States.{Chip}
-use Rattle.script.specs.declared.Line.TheVariants.{Bad}
 use Rattle.script.specs.Reading.{line_of}
 use Rattle.script.proofs.Agree.{clipped}
 use Rattle.script.proofs.ReadLaws.{too_long}
@@ -15,8 +14,8 @@ use Rattle.lines.specs.declared.Cut.TheVariants.{Here, Joined, Open}
 use Rattle.lines.specs.Lines.{lines_from}
 use Rattle.lines.specs.Cutting.{first_line, cut_of, held_of, Cuts, Holds, held_room}
 use Rattle.lines.proofs.Says.{holds-none, length-held, here_in, joined_in, open_in, says_here, says-joined, says-open}
-use Rattle.play.specs.Play.{Turn, turn_of, play_of}
-use Rattle.stepper.specs.declared.Logged.{Logged}
+use Rattle.play.specs.declared.Bench.{Bench}
+use Rattle.play.specs.Play.{Turn, turn_of, play_of, StaysLent}
 use Rattle.stepper.specs.Rows.{line_turn, row_text, Logs, chip_after, next, log_from, device_from}
 use Rattle.stepper.proofs.Rows.{row-short}
 use Rattle.script_log.specs.Row.{longest_row}
@@ -33,7 +32,7 @@ clip-turn rec strict x wear shown m line l = go (leb (length line) m) refl
     go : (b : Bool) → leb (length line) m ≡ b → play_of rec strict x wear shown (take m line) ≡ play_of rec strict x wear shown line
     go true e = ap (play_of rec strict x wear shown) (take_all m line (leb-true (length line) m e))
     go false e =
-        let bad : line_of line ≡ Bad = sym (too_long line (omega (arith, leb-false (length line) m e))) in
+        let bad : line_of line ≡ None = sym (too_long line (omega (arith, leb-false (length line) m e))) in
         ap (turn_of rec strict x wear shown (take m line)) (clipped m line l ∙ bad) ∙ ap (turn_of rec strict x wear shown line) (sym bad)
 
 pub clip-row : (rec : Record) (strict : Bool) (x : Chip) (wear : List ℕ) (number m : ℕ) (line : List ℕ) → longest_line < m → row_text rec strict x wear number (take m line) ≡ row_text rec strict x wear number line
@@ -41,12 +40,6 @@ unfolding row_text
 clip-row rec strict x wear number m line l = rw (clip-turn rec strict x wear (replicate 300 0) m line l)
 
 -- ---- the line in hand
--- the first n bytes, as a part of a slice
-pub front : (n : ℕ) (xs : List ℕ) → take (n - 0) (drop 0 xs) ≡ take n xs
-front n xs =
-    let e : n - 0 ≡ n = omega arith in
-    ap (λ (k : ℕ). take k xs) e
-
 -- the line handed over is the line `whole`, or as much of it as tells what it says
 pub record Same (rec : Record) (strict : Bool) (x : Chip) (wear : List ℕ) (number : ℕ) (handed whole : List ℕ) : Type 0 where
   pub row : row_text rec strict x wear number handed ≡ row_text rec strict x wear number whole
@@ -60,24 +53,51 @@ same-clip rec strict x wear number m {handed} whole l e =
     subst (λ (z : List ℕ). Same rec strict x wear number z whole) (sym e)
     (record { row = clip-row rec strict x wear number m whole l; turn = clip-turn rec strict x wear (replicate 300 0) m whole l })
 
+-- ---- what is lent stays lent
+pub stays-none : (b : Bench) → StaysLent b b
+stays-none b = record { same_record = refl; same_setting = refl; same_page = refl; same_array = refl; same_wear = refl }
+
+pub stays-then : {a b c : Bench} → StaysLent a b → StaysLent b c → StaysLent a c
+stays-then p q =
+    record {
+      same_record = q.same_record ∙ p.same_record;
+      same_setting = q.same_setting ∙ p.same_setting;
+      same_page = q.same_page ∙ p.same_page;
+      same_array = q.same_array ∙ p.same_array;
+      same_wear = q.same_wear ∙ p.same_wear;
+    }
+
 -- ---- what the code does is the turn
-pub stands : {t : Stand} {r : Run} {held page cells wear log : List ℕ} → Stands t r held page cells wear log → standing r held page cells wear log ≡ t
-stands {t} {r} {held} {page} {cells} {wear} {log} e =
-    ap (λ (z : Run). standing z held page cells wear log) e.run' ∙ ap (λ (z : List ℕ). standing t.run z page cells wear log) e.held'
-    ∙ ap (λ (z : List ℕ). standing t.run t.held z cells wear log) e.page' ∙ ap (λ (z : List ℕ). standing t.run t.held t.page z wear log) e.cells'
-    ∙ ap (λ (z : List ℕ). standing t.run t.held t.page t.cells z log) e.wear'
-    ∙ ap (λ (z : List ℕ). standing t.run t.held t.page t.cells t.wear z) e.log'
+pub stands : {t : Stand} {r : Run} {b : Bench} {held log : List ℕ} → Stands t r b held log → standing r b held log ≡ t
+stands {t} {r} {b} {held} {log} e =
+    ap (λ (z : Run). record (standing r b held log) { run = z }) e.run' ∙ ap (λ (z : State). record (standing t.run b held log) { state = z }) e.state'
+    ∙ ap (λ (z : List ℕ). record t { held = z; page = b.page.now; cells = b.array.now; wear = b.wear.now; log = log }) e.held'
+    ∙ ap (λ (z : List ℕ). record t { page = z; cells = b.array.now; wear = b.wear.now; log = log }) e.page'
+    ∙ ap (λ (z : List ℕ). record t { cells = z; wear = b.wear.now; log = log }) e.cells'
+    ∙ ap (λ (z : List ℕ). record t { wear = z; log = log }) e.wear'
+    ∙ ap (λ (z : List ℕ). record t { log = z }) e.log'
+
+pub stood : {t : Stand} (r : Run) (b : Bench) (held log : List ℕ) → standing r b held log ≡ t → Stands t r b held log
+stood r b held log q =
+    record {
+      run' = ap (λ (s : Stand). s.run) q;
+      state' = ap (λ (s : Stand). s.state) q;
+      held' = ap (λ (s : Stand). s.held) q;
+      page' = ap (λ (s : Stand). s.page) q;
+      cells' = ap (λ (s : Stand). s.cells) q;
+      wear' = ap (λ (s : Stand). s.wear) q;
+      log' = ap (λ (s : Stand). s.log) q;
+    }
 
 -- a line was logged
-pub line-done : (rec : Record) (strict : Bool) (s : Stand) {line : List ℕ} {to : ℕ} {done : Logged} {r : Run} {page' cells' wear' log' : List ℕ}
-    → Logs rec strict (chip_now s) s.wear s.run.number line s.log s.run.filled done page' cells' wear' log' → r ≡ goes_on done s.run.number to
-    → Stands (line_done rec strict s s.held line to) r s.held page' cells' wear' log'
+pub line-done : (rec : Record) (strict : Bool) (s : Stand) {line : List ℕ} {to filled : ℕ} {r : Run} {b : Bench} {log' : List ℕ}
+    → Logs rec strict (chip_now s) s.wear s.run.number line s.log s.run.filled filled b log' → r ≡ goes_on filled s.run.number to
+    → Stands (line_done rec strict s s.held line to) r b s.held log'
 unfolding line_done
-line-done rec strict s {line} {to} {done} l g =
+line-done rec strict s {line} {to} {filled} l g =
     record {
-      run' =
-          g ∙ ap (λ (z : State). goes_on (record { next = done.next; state = z }) s.run.number to) l.state
-          ∙ ap (λ (z : ℕ). goes_on (record { next = z; state = (line_turn rec strict (chip_now s) s.wear line).played.state }) s.run.number to) l.row.next;
+      run' = g ∙ ap (λ (z : ℕ). goes_on z s.run.number to) l.row.next;
+      state' = l.state;
       held' = refl;
       page' = l.page';
       cells' = l.cells';
@@ -86,21 +106,28 @@ line-done rec strict s {line} {to} {done} l g =
     }
 
 -- it goes on with what is kept for the next line
-pub line_kept : (rec : Record) (strict : Bool) (s : Stand) (to : ℕ) {handed line held held' kept : List ℕ} {r : Run} {page' cells' wear' log' : List ℕ} → handed ≡ line → held' ≡ kept
-    → Stands (line_done rec strict (standing s.run held s.page s.cells s.wear s.log) held handed to) r held page' cells' wear' log'
-    → Stands (line_done rec strict s kept line to) r held' page' cells' wear' log'
+pub line_kept : (rec : Record) (strict : Bool) (s : Stand) (to : ℕ) {handed line held held' kept : List ℕ} {r : Run} {b : Bench} {log' : List ℕ} → handed ≡ line → held' ≡ kept
+    → Stands (line_done rec strict (record s { held = held }) held handed to) r b held log'
+    → Stands (line_done rec strict s kept line to) r b held' log'
 unfolding line_done
-line_kept rec strict s to {held = held} {r = r} {page' = page'} {cells' = cells'} {wear' = wear'} {log' = log'} e k d =
-    let w = subst (λ (z : List ℕ). Stands (line_done rec strict (standing s.run held s.page s.cells s.wear s.log) held z to) r held page' cells' wear' log') e d in
-    record { run' = w.run'; held' = k; page' = w.page'; cells' = w.cells'; wear' = w.wear'; log' = w.log' }
+line_kept rec strict s to {held = held} {r = r} {b = b} {log' = log'} e k d =
+    let w = subst (λ (z : List ℕ). Stands (line_done rec strict (record s { held = held }) held z to) r b held log') e d in
+    record { run' = w.run'; state' = w.state'; held' = k; page' = w.page'; cells' = w.cells'; wear' = w.wear'; log' = w.log' }
+
+-- where a line ends, and how much of it is held
+pub cut-here : {held held' block : List ℕ} {used at e : ℕ} {cut : Cut} → Cuts held used block at cut held' → cut ≡ Here e → (at ≤ e) × (e < length block)
+cut-here {held} {held'} {block} {used} {at} {e} c q = here_in held used block at e (sym c.is ∙ q)
+
+pub cut-joined : {held held' block : List ℕ} {used at n e : ℕ} {cut : Cut} → Cuts held used block at cut held' → cut ≡ Joined n e → (at ≤ e) × (e < length block) × (used ≤ length held → n ≤ length held)
+cut-joined {held} {held'} {block} {used} {at} {n} {e} c q = joined_in held used block at n e (sym c.is ∙ q)
 
 -- the cut in hand
-pub at_cut : (rec : Record) (strict : Bool) (block : List ℕ) (s : Stand) {cut k : Cut} {held' page' cells' wear' log' : List ℕ} {r : Run} → Cuts s.held s.run.used block s.run.at cut held' → cut ≡ k
-    → Stands (cut_turn rec strict block s (held_of s.held s.run.used block s.run.at) k) r held' page' cells' wear' log'
-    → Stands (feed_turn rec strict block s) r held' page' cells' wear' log'
+pub at_cut : (rec : Record) (strict : Bool) (block : List ℕ) (s : Stand) {cut k : Cut} {b : Bench} {held' log' : List ℕ} {r : Run} → Cuts s.held s.run.used block s.run.at cut held' → cut ≡ k
+    → Stands (cut_turn rec strict block s (held_of s.held s.run.used block s.run.at) k) r b held' log'
+    → Stands (feed_turn rec strict block s) r b held' log'
 unfolding feed_turn
-at_cut rec strict block s {cut} {k} {held'} {page'} {cells'} {wear'} {log'} {r} c q e =
-    subst (λ (z : Cut). Stands (cut_turn rec strict block s (held_of s.held s.run.used block s.run.at) z) r held' page' cells' wear' log') (sym q ∙ c.is) e
+at_cut rec strict block s {cut} {k} {b} {held'} {log'} {r} c q e =
+    subst (λ (z : Cut). Stands (cut_turn rec strict block s (held_of s.held s.run.used block s.run.at) z) r b held' log') (sym q ∙ c.is) e
 
 -- ---- what follows from a turn
 -- one turn goes on in the block, by a row at most

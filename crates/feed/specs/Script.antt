@@ -6,21 +6,21 @@ use Rattle.lines.specs.Cutting.{Holds, held_room}
 use Rattle.stepper.specs.Rows.{log_from, device_from}
 use Rattle.script_log.specs.Row.{longest_row}
 use Rattle.feed.specs.declared.Run.{Run}
-use Rattle.feed.specs.Feed.{Stand, standing, chip_now, device_now, feed_of, last_of}
+use Rattle.feed.specs.Feed.{Stand, chip_now, device_now, feed_of, last_of}
 
 -- the log was written out, and is empty again
 abbrev pub emptied_run : Run → Run
-emptied_run run = record { chip = run.chip; number = run.number; used = run.used; at = run.at; filled = 0 }
+emptied_run run = record { number = run.number; used = run.used; at = run.at; filled = 0 }
 
 abbrev pub emptied : Stand → Stand
-emptied s = standing (emptied_run s.run) s.held s.page s.cells s.wear s.log
+emptied s = record s { run = emptied_run s.run }
 
 -- the start of a block, with an empty log
 abbrev pub begun_run : Run → Run
-begun_run run = record { chip = run.chip; number = run.number; used = run.used; at = 0; filled = 0 }
+begun_run run = record { number = run.number; used = run.used; at = 0; filled = 0 }
 
 abbrev pub begun : Stand → Stand
-begun s = standing (begun_run s.run) s.held s.page s.cells s.wear s.log
+begun s = record s { run = begun_run s.run }
 
 -- what is written out of the log
 abbrev pub filled_part : Stand → List ℕ

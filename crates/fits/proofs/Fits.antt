@@ -1,4 +1,5 @@
 -- What a call that may move the state shows of it, and that the state and the page data after fit their bytes.
+use Rattle.std.specs.Prelude.{Option, Some, None}
 use mathlib.Core.Path.{◌≡◌, refl, sym, ◌∙◌}
 use mathlib.Core.Bool.{Bool, true, false, ◌||◌, cond, or-false, true≢false}
 use mathlib.Core.List.{List, ◌++◌}
@@ -8,10 +9,9 @@ use lib.Dec.{eqb, ltb}
 use lib.ListN.{length}
 use Rattle.units.proofs.Bools.{neither}
 use Rattle.models.proofs.Rules.{highest-bp}
-use Rattle.answers.specs.Answers.{is_done, says_protected}
-use Rattle.answers.specs.declared.Answer.{Answer}
+use Rattle.answers.specs.Answers.{Answer, is_done, says_protected}
 use Rattle.commands.specs.declared.Operation.{Operation}
-use Rattle.commands.specs.declared.Operation.TheVariants.{Idle, WritesStatus, Programs, ErasesSector, ErasesHalf, ErasesBlock, ErasesChip}
+use Rattle.commands.specs.declared.Operation.TheVariants.{WritesStatus, Programs, ErasesSector, ErasesHalf, ErasesBlock, ErasesChip}
 use Rattle.states.specs.States.{record_ok, longest_settle, operation_time, state_ok, page_ok, Chip, chip_of}
 use Rattle.states.specs.declared.Record.{Record}
 use Rattle.states.specs.declared.State.{State}
@@ -42,7 +42,7 @@ pub record Keeps (rec : Record) (x : Chip) (a : Answer) (next : State) (page : L
 -- ---- frames
 -- however one moves the state, it fits its bytes
 module _ (rec : Record) (x : Chip) (ok : record_ok rec ≡ true) (h : Small x.state) (fit : page_ok rec.model x.state x.page ≡ true) where
-  busy-for : (op : Operation) → operation_time rec op < 2 ^ 32
+  busy-for : (op : Option Operation) → operation_time rec op < 2 ^ 32
   busy-for op = omega (arith, operation-le rec op, busy-le-all rec, (longest-in-range rec ok).short)
 
   settles-for : (us : ℕ) → us ≤ longest_settle rec → us < 2 ^ 32
@@ -54,7 +54,7 @@ module _ (rec : Record) (x : Chip) (ok : record_ok rec ≡ true) (h : Small x.st
   move-small (latches b z) = record { level = h.level; short = h.short; brief = h.brief; near = h.near }
   move-small (dozes b us z l) = record { level = h.level; short = h.short; brief = settles-for us l; near = h.near }
 
-  begun-small : {op : Operation} {t : State} {page : List ℕ} → Begun rec x op t page → Small t
+  begun-small : {op : Option Operation} {t : State} {page : List ℕ} → Begun rec x op t page → Small t
   unfolding starting
   begun-small {op} b =
       rw b.is (record { level = h.level; short = busy-for op; brief = h.brief; near = place-near rec.model op b.place b.placed })
@@ -129,15 +129,15 @@ unfolding cycled
 cycled-small s l = record { level = l; short = omega arith; brief = omega arith; near = omega arith }
 
 module _ (rec : Record) (x : Chip) (h : Small x.state) where
-  finished-bits : (op : Operation) → ((finished_bits rec.model op x.state x.page).bp ≤ 15) × ((finished_bits rec.model op x.state x.page).settle < 2 ^ 32)
+  finished-bits : (op : Option Operation) → ((finished_bits rec.model op x.state x.page).bp ≤ 15) × ((finished_bits rec.model op x.state x.page).settle < 2 ^ 32)
   unfolding written
-  finished-bits Idle = (h.level, h.brief)
-  finished-bits WritesStatus = (omega (arith, written-level rec.model x.state x.page, highest-bp rec.model), h.brief)
-  finished-bits Programs = (h.level, h.brief)
-  finished-bits ErasesSector = (h.level, h.brief)
-  finished-bits ErasesHalf = (h.level, h.brief)
-  finished-bits ErasesBlock = (h.level, h.brief)
-  finished-bits ErasesChip = (h.level, h.brief)
+  finished-bits None = (h.level, h.brief)
+  finished-bits (Some WritesStatus) = (omega (arith, written-level rec.model x.state x.page, highest-bp rec.model), h.brief)
+  finished-bits (Some Programs) = (h.level, h.brief)
+  finished-bits (Some ErasesSector) = (h.level, h.brief)
+  finished-bits (Some ErasesHalf) = (h.level, h.brief)
+  finished-bits (Some ErasesBlock) = (h.level, h.brief)
+  finished-bits (Some ErasesChip) = (h.level, h.brief)
 
   finished-small : Small (finished rec.model x).state
   unfolding finished forgotten
@@ -153,14 +153,14 @@ module _ (rec : Record) (x : Chip) (h : Small x.state) where
       go true = (record { level = h.level; short = omega (arith, h.short); brief = omega (arith, h.brief); near = h.near }, n)
       go false = (finished-small, refl)
 
-  cut-bits : (op : Operation) (pattern : List ℕ) → (cut_bits rec.model op x.state x.page pattern).bp ≤ 15
-  cut-bits Idle pattern = h.level
-  cut-bits WritesStatus pattern = omega (arith, torn-level rec.model x.state x.page pattern, highest-bp rec.model)
-  cut-bits Programs pattern = h.level
-  cut-bits ErasesSector pattern = h.level
-  cut-bits ErasesHalf pattern = h.level
-  cut-bits ErasesBlock pattern = h.level
-  cut-bits ErasesChip pattern = h.level
+  cut-bits : (op : Option Operation) (pattern : List ℕ) → (cut_bits rec.model op x.state x.page pattern).bp ≤ 15
+  cut-bits None pattern = h.level
+  cut-bits (Some WritesStatus) pattern = omega (arith, torn-level rec.model x.state x.page pattern, highest-bp rec.model)
+  cut-bits (Some Programs) pattern = h.level
+  cut-bits (Some ErasesSector) pattern = h.level
+  cut-bits (Some ErasesHalf) pattern = h.level
+  cut-bits (Some ErasesBlock) pattern = h.level
+  cut-bits (Some ErasesChip) pattern = h.level
 
   cut_fits : (pattern : List ℕ) → Small (cut_off rec.model x pattern).state × (length (cut_off rec.model x pattern).page ≡ 256)
   unfolding cut_off torn_chip

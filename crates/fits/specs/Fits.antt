@@ -1,7 +1,6 @@
 -- After which answers the state may differ.
 use Rattle.std.specs.Prelude.{Bool, ◌||◌}
-use Rattle.answers.specs.Answers.{is_done, says_protected}
-use Rattle.answers.specs.declared.Answer.{Answer}
+use Rattle.answers.specs.Answers.{Answer, is_done, says_protected}
 
 -- the answers after which the state may differ: 0, and 17 where it clears WEL
 abbrev pub may_move : Answer → Bool

@@ -2,128 +2,70 @@
 use mathlib.Core.Path.{◌≡◌, refl, sym, ap, subst, ◌∙◌}
 use mathlib.Core.Bool.{Bool, true, false, false≢true}
 use mathlib.Core.List.{List, [], ◌∷◌, ◌++◌}
-use Prim.Native.Nat.{ℕ, ◌≤◌}
+use Prim.Native.Nat.{ℕ, ◌<◌, ◌≤◌}
 use native.Mathlib.Omega.{arith}
 use lib.Dec.{eqb}
 use lib.ListN.{length, take}
 use borrow.Author.Tests.{eqb-true, eqb-false}
-use Rattle.std.specs.Prelude.{Option, Some, None, IsSome, IsNone, is_some}
+use Rattle.std.specs.Prelude.{Option, is_some}
+use Rattle.std.specs.declared.ops.ControlFlow.{ControlFlow}
+use Rattle.std.specs.declared.ops.ControlFlow.TheVariants.{Continue, Break}
 use Rattle.states.specs.declared.Record.{Record}
-use Rattle.lines.specs.Lines.{joined_up}
+use Rattle.states.specs.declared.State.{State}
+use Rattle.states.specs.States.{power_on, chip_of}
+use Rattle.lines.specs.Lines.{lines_from, joined_up}
 use Rattle.lines.specs.Cutting.{held_room}
 use Rattle.lines.proofs.Says.{holds-none}
 use Rattle.script_log.specs.Row.{longest_row}
-use Rattle.stepper.specs.Rows.{Device}
+use Rattle.play.specs.declared.Bench.{Bench}
+use Rattle.play.specs.Play.{StaysLent}
+use Rattle.stepper.specs.Rows.{Device, device_from}
 use Rattle.feed.specs.declared.Run.{Run}
-use Rattle.feed.specs.Feed.{Stand, standing, last_of, Stands}
-use Rattle.feed.specs.Script.{begun, begun_run, whole_block, passed_blocks}
+use Rattle.feed.specs.Feed.{Stand, standing, device_now, feed_of, last_of, Stands}
+use Rattle.feed.specs.Script.{begun, emptied_run, stand_after, whole_block, passed_blocks}
 use Rattle.feed.proofs.Turns.{stands}
 use Rattle.feed.proofs.Script.{whole-device}
-use Rattle.feed.proofs.Blocks.{Passing, passing-none, passed-more}
-use Rattle.input.specs.declared.blocks.Next.{Next}
-use Rattle.input.specs.Input.{Flushed, first_run, ended_at, brought, BlockPlayed, Kept, LastPlayed, BlockTaken, ScriptPlayed}
+use Rattle.feed.proofs.Blocks.{Passing, passing-on, passing-less, passed-more}
+use Rattle.input.specs.Input.{first_run, brought, BlockPlayed, Kept, BlockTaken, BlockRead, ScriptPlayed}
 
 -- ---- one block
+-- a feed more, of the bench with the record and the setting that it began with
+pub passing-fed : {a b c : Bench} {block : List ℕ} {start : Stand} {r r' : Run} {held held' log log' : List ℕ} → StaysLent a b → Passing a.rec a.strict block start (standing r b held log) → r.at < length block
+    → Stands (feed_of b.rec b.strict block (standing r b held log)) r' c held' log' → Passing a.rec a.strict block start (standing (emptied_run r') c held' log')
+passing-fed k g l f = passing-on g l (rw (k.same_record, k.same_setting) at f) refl
 
--- its rows were to be written, and were not
-pub block-broken : {rec : Record} {strict written b : Bool} {block : List ℕ} {s : Stand} {r : Next} {run : Run} {filled : ℕ} {text held page cells wear log : List ℕ} → r ≡ ended_at run false → run.used ≤ held_room
-    → Flushed text filled written b → b ≡ false → BlockPlayed rec strict written block s r held page cells wear log
-block-broken {rec} {strict} {written} {block = block} {s = s} {held = held} {page = page} {cells = cells} {wear = wear} {log = log} e u f n =
-    subst (λ (z : Next). BlockPlayed rec strict written block s z held page cells wear log) (sym e)
-    (record { used = u; whole = λ p. absurd (false≢true p); quiet = λ q. sym n ∙ f.quiet q; well' = refl })
-
--- `run₀` is `first` at the start of the block
-pub block-whole : {rec : Record} {strict written : Bool} {block block' : List ℕ} {first run₀ run : Run} {held₀ page₀ cells₀ wear₀ log₀ held page cells wear log : List ℕ} → block ≡ block' → run₀ ≡ begun_run first
-    → run.used ≤ held_room → Stands (whole_block rec strict block (standing run₀ held₀ page₀ cells₀ wear₀ log₀)).stand run held page cells wear log
-    → BlockPlayed rec strict written block' (standing first held₀ page₀ cells₀ wear₀ log₀) (record { run = run; on = true; well = true }) held page cells wear log
-block-whole {rec} {strict} {block = block} {block' = block'} {first = first} {run₀ = run₀} {run = run} {held₀ = held₀} {page₀ = page₀} {cells₀ = cells₀} {wear₀ = wear₀} {log₀ = log₀} {held = held} {page = page} {cells = cells} {wear = wear} {log = log} b f u w =
-    record {
-      used = u;
-      whole = λ p.
-          subst (λ (z : List ℕ). Stands (whole_block rec strict z (standing first held₀ page₀ cells₀ wear₀ log₀)).stand run held page cells wear log) b
-          (subst (λ (z : Run). Stands (whole_block rec strict block (standing z held₀ page₀ cells₀ wear₀ log₀)).stand run held page cells wear log) f w);
-      quiet = λ q. refl;
-      well' = refl;
-    }
-
-pub block-first : (rec : Record) (strict : Bool) (block : List ℕ) (first : Run) {run : Run} {held page cells wear log : List ℕ} → run ≡ begun_run first → length held ≡ held_room → first.used ≤ held_room → longest_row ≤ length log
-    → Passing rec strict block (standing run held page cells wear log) (standing run held page cells wear log)
-block-first rec strict block first {held = held} {page = page} {cells = cells} {wear = wear} {log = log} e h u r =
-    subst (λ (z : Run). Passing rec strict block (standing z held page cells wear log) (standing z held page cells wear log)) (sym e)
-    (passing-none rec strict block (standing (begun_run first) held page cells wear log) h u r)
-
--- the last line, and its row written
-pub last-played : (rec : Record) (strict : Bool) (run : Run) {written b : Bool} {first : Run} (held₀ page₀ cells₀ wear₀ log₀ : List ℕ) {last : Run} {filled : ℕ} {text page cells wear log : List ℕ} → first ≡ begun_run run
-    → Stands (last_of rec strict (standing first held₀ page₀ cells₀ wear₀ log₀)) last held₀ page cells wear log → Flushed text filled written b
-    → LastPlayed (last_of rec strict (begun (standing run held₀ page₀ cells₀ wear₀ log₀))) written b page cells wear log
-last-played rec strict run held₀ page₀ cells₀ wear₀ log₀ {last} {page = page} {cells = cells} {wear = wear} {log = log} e d w =
-    let f = subst (λ (z : Run). Stands (last_of rec strict (standing z held₀ page₀ cells₀ wear₀ log₀)) last held₀ page cells wear log) e d in
-    record { kept = record { page' = f.page'; cells' = f.cells'; wear' = f.wear' }; log' = f.log'; quiet = w.quiet }
+pub passing-further : {a b c : Bench} {block : List ℕ} {start : Stand} {r r' : Run} {held held' log log' : List ℕ} → StaysLent a b → Passing a.rec a.strict block start (standing r b held log) → r.at < length block
+    → Stands (feed_of b.rec b.strict block (standing r b held log)) r' c held' log' → r.at < r'.at
+passing-further k g l f = passing-less g l (rw (k.same_record, k.same_setting) at f)
 
 -- ---- what a read answered
-none-of-failed : (got : Option ℕ) (most : ℕ) → IsNone got → brought got most ≡ 0
-none-of-failed None most h = refl
-none-of-failed (Some n) most h = absurd (false≢true (sym h))
-
--- the same answer
-pub taken_at : {rec : Record} {strict written : Bool} {x got : Option ℕ} {block : List ℕ} {s : Stand} {r : Next} {held page cells wear log : List ℕ} → x ≡ got → BlockTaken rec strict written x block s r held page cells wear log
-    → BlockTaken rec strict written got block s r held page cells wear log
-taken_at {rec} {strict} {written} {block = block} {s = s} {r = r} {held = held} {page = page} {cells = cells} {wear = wear} {log = log} e t =
-    subst (λ (z : Option ℕ). BlockTaken rec strict written z block s r held page cells wear log) e t
-
-module _ {rec : Record} {strict written : Bool} {got : Option ℕ} {block : List ℕ} {s : Stand} {r : Next} {held page cells wear log : List ℕ} where
-  pub taken-failed : IsNone got → r ≡ ended_at s.run false → Kept s page cells wear → BlockTaken rec strict written got block s r held page cells wear log
-  taken-failed h e k = record { failed = λ g. (e, k); last = λ g z. absurd (false≢true (sym h ∙ g)); some = λ z. absurd (omega (arith, none-of-failed got (length block) h)) }
-
-  pub taken-last : {n : ℕ} {well : Bool} → IsSome got → n ≡ brought got (length block) → n ≡ 0 → r ≡ ended_at s.run well
-      → LastPlayed (last_of rec strict (begun s)) written well page cells wear log → BlockTaken rec strict written got block s r held page cells wear log
-  taken-last {well = well} g c z e p =
-      let w : r.well ≡ well = ap (λ (x : Next). x.well) e in
-      record {
-        failed = λ h. absurd (false≢true (sym h ∙ g));
-        last = λ h q. (e ∙ ap (ended_at s.run) (sym w), subst (λ (x : Bool). LastPlayed (last_of rec strict (begun s)) written x page cells wear log) (sym w) p);
-        some = λ q. absurd (omega (arith, c, z, q));
-      }
-
-  pub taken-some : {n : ℕ} → IsSome got → n ≡ brought got (length block) → (n ≡ 0 → ⊥) → BlockPlayed rec strict written (take n block) s r held page cells wear log
-      → BlockTaken rec strict written got block s r held page cells wear log
-  taken-some g c z p =
-      record {
-        failed = λ h. absurd (false≢true (sym h ∙ g));
-        last = λ h q. absurd (z (c ∙ q));
-        some = λ q. subst (λ (x : ℕ). BlockPlayed rec strict written (take x block) s r held page cells wear log) c p;
-      }
-
 -- some block brought it from s to t
 pub record SomeBlock (rec : Record) (strict : Bool) (s t : Stand) : Type 0 where
   pub block : List ℕ
   pub is : t ≡ (whole_block rec strict block s).stand
 
 -- one read from s on: where it goes on, some block was played; where it has ended well, the last line was
-pub record Went (rec : Record) (strict : Bool) (s : Stand) (r : Next) (held page cells wear log : List ℕ) : Type 0 where
-  pub used : r.run.used ≤ held_room
-  pub more : r.on ≡ true → SomeBlock rec strict s (standing r.run held page cells wear log)
-  pub last : r.on ≡ false → r.well ≡ true → Kept (last_of rec strict (begun s)) page cells wear
+abbrev pub Went : Record → Bool → Stand → ControlFlow Bool Run → Bench → List ℕ → List ℕ → Type 0
+Went rec strict s (Continue run) b held log = (run.used ≤ held_room) × SomeBlock rec strict s (standing run b held log)
+Went rec strict s (Break well) b held log = well ≡ true → Kept (last_of rec strict (begun s)) b
 
-went-ended : {rec : Record} {strict well : Bool} {s : Stand} {r : Next} {held page cells wear log : List ℕ} → s.run.used ≤ held_room → r ≡ ended_at s.run well
-    → (well ≡ true → Kept (last_of rec strict (begun s)) page cells wear) → Went rec strict s r held page cells wear log
-went-ended {rec} {strict} {s = s} {held = held} {page = page} {cells = cells} {wear = wear} {log = log} u e k =
-    subst (λ (z : Next). Went rec strict s z held page cells wear log) (sym e)
-    (record { used = u; more = λ p. absurd (false≢true p); last = λ p q. k q })
+went_on : (rec : Record) (strict written : Bool) (block : List ℕ) (s : Stand) (r : ControlFlow Bool Run) (b : Bench) (held log : List ℕ) → BlockPlayed rec strict written block s r b held log → Went rec strict s r b held log
+went_on rec strict written block s (Continue run) b held log p = (p.0, record { block = block; is = stands p.1 })
+went_on rec strict written block s (Break well) b held log p = λ q. absurd (false≢true (sym p.0 ∙ q))
 
-went_on : {rec : Record} {strict written : Bool} {block : List ℕ} {s : Stand} {r : Next} {held page cells wear log : List ℕ} → BlockPlayed rec strict written block s r held page cells wear log → Went rec strict s r held page cells wear log
-went_on {block = block} p = record { used = p.used; more = λ q. record { block = block; is = stands (p.whole q) }; last = λ q w. absurd (false≢true (sym q ∙ sym p.well' ∙ w)) }
-
-pub went : {rec : Record} {strict written : Bool} {block : List ℕ} {s : Stand} {r : Next} {held page cells wear log : List ℕ} → s.run.used ≤ held_room → (got : Option ℕ)
-    → BlockTaken rec strict written got block s r held page cells wear log → Went rec strict s r held page cells wear log
-went {rec} {strict} {block = block} {s = s} {r = r} {held = held} {page = page} {cells = cells} {wear = wear} {log = log} u got t = go (is_some got) refl (eqb (brought got (length block)) 0) refl
+went : {rec : Record} {strict written : Bool} {block : List ℕ} {s : Stand} {r : ControlFlow Bool Run} {b : Bench} {held log : List ℕ} (got : Option ℕ) → BlockTaken rec strict written got block s r b held log
+    → Went rec strict s r b held log
+went {rec} {strict} {written} {block} {s} {r} {b} {held} {log} got t = go (is_some got) refl (eqb (brought got (length block)) 0) refl
   where
-    go : (a : Bool) → is_some got ≡ a → (b : Bool) → eqb (brought got (length block)) 0 ≡ b → Went rec strict s r held page cells wear log
-    go false h b e = went-ended u (t.failed h).0 (λ q. absurd (false≢true q))
+    ended : {well : Bool} → r ≡ Break well → (well ≡ true → Kept (last_of rec strict (begun s)) b) → Went rec strict s r b held log
+    ended e k = subst (λ (z : ControlFlow Bool Run). Went rec strict s z b held log) (sym e) k
+
+    go : (a : Bool) → is_some got ≡ a → (z : Bool) → eqb (brought got (length block)) 0 ≡ z → Went rec strict s r b held log
+    go false h z e = ended (t.failed h).0 (λ q. absurd (false≢true q))
     go true h true e =
         let l = t.last h (eqb-true (brought got (length block)) 0 e) in
-        went-ended u l.0 (λ q. l.1.kept)
-    go true h false e = went_on (t.some (omega (arith, eqb-false (brought got (length block)) 0 e)))
+        ended l.ends (λ q. l.played.kept)
+    go true h false e = went_on rec strict written (take (brought got (length block)) block) s r b held log (t.some (omega (arith, eqb-false (brought got (length block)) 0 e)))
 
 -- ---- read after read: some blocks brought it from `start` to `now`
 pub record Came (rec : Record) (strict : Bool) (start now : Stand) : Type 0 where
@@ -141,16 +83,29 @@ came-more {rec} {strict} {start} c b =
     }
 
 -- at the input's end chip and table are as the lines of all blocks leave them
-pub came-last : (rec : Record) (strict : Bool) {first : Run} {s : Stand} {held page cells wear log page' cells' wear' : List ℕ} → first ≡ first_run → length held ≡ held_room → longest_row ≤ length log
-    → Came rec strict (standing first held page cells wear log) s → Kept (last_of rec strict (begun s)) page' cells' wear' → ScriptPlayed rec strict page cells wear page' cells' wear'
-came-last rec strict {first} {s} {held} {page} {cells} {wear} {log} {page'} {cells'} {wear'} f l r c k = from_first (subst (λ (z : Run). Came rec strict (standing z held page cells wear log) s) f c)
+came-last : {rec : Record} {strict : Bool} (b : Bench) {c : Bench} {s : Stand} {held log : List ℕ} → b.state ≡ power_on → length held ≡ held_room → longest_row ≤ length log
+    → Came rec strict (standing first_run b held log) s → Kept (last_of rec strict (begun s)) c → ScriptPlayed rec strict b.page.now b.array.now b.wear.now c.page.now c.array.now c.wear.now
+came-last {rec} {strict} b {c} {s} {held} {log} o l r d k =
+    record {
+      script = joined_up d.blocks;
+      page-is = k.page' ∙ ap (λ (z : Stand). (last_of rec strict (begun z)).page) d.is ∙ ap (λ (z : Device). z.chip.page) whole;
+      cells_are = k.cells' ∙ ap (λ (z : Stand). (last_of rec strict (begun z)).cells) d.is ∙ ap (λ (z : Device). z.chip.cells) whole;
+      wear-is = k.wear' ∙ ap (λ (z : Stand). (last_of rec strict (begun z)).wear) d.is ∙ ap (λ (z : Device). z.wear) whole;
+    }
   where
-    from_first : Came rec strict (standing first_run held page cells wear log) s → ScriptPlayed rec strict page cells wear page' cells' wear'
-    from_first d =
-        let whole = whole-device rec strict (standing first_run held page cells wear log) [] d.blocks l r (holds-none held) in
-        record {
-          script = joined_up d.blocks;
-          page-is = k.page' ∙ ap (λ (z : Stand). (last_of rec strict (begun z)).page) d.is ∙ ap (λ (z : Device). z.chip.page) whole;
-          cells_are = k.cells' ∙ ap (λ (z : Stand). (last_of rec strict (begun z)).cells) d.is ∙ ap (λ (z : Device). z.chip.cells) whole;
-          wear-is = k.wear' ∙ ap (λ (z : Stand). (last_of rec strict (begun z)).wear) d.is ∙ ap (λ (z : Device). z.wear) whole;
-        }
+    whole : device_now (stand_after rec strict (standing first_run b held log) d.blocks) ≡ device_from rec strict (chip_of power_on b.page.now b.array.now) b.wear.now (lines_from [] (joined_up d.blocks))
+    whole =
+        whole-device rec strict (standing first_run b held log) [] d.blocks l r (holds-none held)
+        ∙ ap (λ (z : State). device_from rec strict (chip_of z b.page.now b.array.now) b.wear.now (lines_from [] (joined_up d.blocks))) o
+
+-- of the bench with the record and the setting that it began with: it goes on, or it has ended
+pub came-on : {a b c : Bench} {start : Stand} {run next : Run} {written : Bool} {block held held' log log' : List ℕ} → StaysLent a b → Came a.rec a.strict start (standing run b held log)
+    → BlockRead b.rec b.strict written block (standing run b held log) (Continue next) c held' log' → (next.used ≤ held_room) × Came a.rec a.strict start (standing next c held' log')
+came-on k d t =
+    let w = rw (k.same_record, k.same_setting) at (went t.got t.taken) in
+    (w.0, came-more d w.1)
+
+pub came-ended : (a : Bench) {b c : Bench} {run : Run} {written well : Bool} {block held₀ held held' log₀ log log' : List ℕ} → StaysLent a b → a.state ≡ power_on → length held₀ ≡ held_room → longest_row ≤ length log₀
+    → Came a.rec a.strict (standing first_run a held₀ log₀) (standing run b held log) → BlockRead b.rec b.strict written block (standing run b held log) (Break well) c held' log' → well ≡ true
+    → ScriptPlayed a.rec a.strict a.page.now a.array.now a.wear.now c.page.now c.array.now c.wear.now
+came-ended a k o l r d t e = came-last a o l r d (rw (k.same_record, k.same_setting) at (went t.got t.taken e))

@@ -3,71 +3,67 @@
 
 mod blocks;
 mod output;
-mod runs;
 
 ghost use Rattle.std.specs.Prelude.{◌≡◌, true, ◌≤◌, length};
 ghost use Rattle.script_log.specs.Row.{longest_row};
+ghost use Rattle.play.specs.Play.{StaysLent};
 ghost use Rattle.feed.specs.Feed.{standing};
 ghost use Rattle.input.specs.Input.{BlockStart, BlockRead, ScriptPlayed};
 
-use blocks::{Next, take_block};
+use blocks::take_block;
 use feed::Run;
 pub use output::write_first;
 use output::{flush, put_head};
-use runs::first_run;
-use states::Record;
+use play::Bench;
 use std::io::Read;
+use std::ops::ControlFlow;
 
 // Reads a block and takes it.
 fn read_block(
     rt: &(impl Print + Eprint + Alloc),
     input: &mut impl Read,
+    bench: &mut Bench<'_>,
     run: Run,
-    rec: Record,
-    strict: bool,
     held: &mut [u8],
     block: &mut [u8],
-    page: &mut [u8],
-    array: &mut [u8],
-    wear: &mut [u32],
     log: &mut [u8],
     written: bool,
-) -> Next
+) -> ControlFlow<bool, Run>
     requires { BlockStart run held.old log.old }
-    ensures { BlockRead rec strict written block.new (standing run held.old page.old array.old wear.old log.old) result held.new page.new array.new wear.new log.new }
+    ensures read { BlockRead bench.old.rec bench.old.strict written block.new (standing run bench.old held.old log.old) result bench.new held.new log.new }
+    ensures same { StaysLent bench.old bench.new }
 {
     let got = input.read(block);
-    take_block(
-        rt, got, run, rec, strict, held, block, page, array, wear, log, written,
-    )
+    take_block(rt, got, bench, run, held, block, log, written)
 }
 
-// Block after block, from power-on.
+// Block after block, from power-on. The first line has the number 1.
 fn play_blocks(
     rt: &(impl Input + Print + Eprint + Alloc),
-    rec: Record,
-    strict: bool,
-    page: &mut [u8],
-    array: &mut [u8],
-    wear: &mut [u32],
+    bench: &mut Bench<'_>,
     log: &mut [u8],
     written: bool,
 ) -> bool
     requires { longest_row ≤ length log.old }
-    ensures { result ≡ true → ScriptPlayed rec strict page.old array.old wear.old page.new array.new wear.new }
+    ensures played { result ≡ true → ScriptPlayed bench.old.rec bench.old.strict bench.old.page.now bench.old.array.now bench.old.wear.now bench.new.page.now bench.new.array.now bench.new.wear.now }
+    ensures same { StaysLent bench.old bench.new }
 {
+    bench.state = states::power_on();
     let mut held = [0u8; 641];
     let mut block = [0u8; 65536];
     let mut input = rt.reader();
-    let mut run = first_run();
+    let mut run = Run {
+        number: 1,
+        used: 0,
+        at: 0,
+        filled: 0,
+    };
     for _ in 0..u64::MAX {
-        let next = read_block(
-            rt, &mut input, run, rec, strict, &mut held, &mut block, page, array, wear, log,
-            written,
-        );
-        run = next.run;
-        if !next.on {
-            return next.well;
+        match read_block(
+            rt, &mut input, bench, run, &mut held, &mut block, log, written,
+        ) {
+            ControlFlow::Continue(next) => run = next,
+            ControlFlow::Break(well) => return well,
         }
     }
     false
@@ -78,19 +74,16 @@ fn play_blocks(
 // wear table are then those that some script leaves. Which bytes were read, and that header and rows were written, no contract can say.
 pub fn play_input(
     rt: &(impl Input + Print + Eprint + Alloc),
-    rec: Record,
-    strict: bool,
-    page: &mut [u8],
-    array: &mut [u8],
-    wear: &mut [u32],
+    bench: &mut Bench<'_>,
     written: bool,
 ) -> bool
-    ensures { result ≡ true → ScriptPlayed rec strict page.old array.old wear.old page.new array.new wear.new }
+    ensures played { result ≡ true → ScriptPlayed bench.old.rec bench.old.strict bench.old.page.now bench.old.array.now bench.old.wear.now bench.new.page.now bench.new.array.now bench.new.wear.now }
+    ensures same { StaysLent bench.old bench.new }
 {
     let mut log = [0u8; 65536];
     let headed = put_head(&mut log);
     if !flush(rt, &log, headed, written) {
         return false;
     }
-    play_blocks(rt, rec, strict, page, array, wear, &mut log, written)
+    play_blocks(rt, bench, &mut log, written)
 }

@@ -4,17 +4,18 @@ use mathlib.Core.Bool.{Bool, true, false, not, ◌&&◌, cond, false≢true}
 use Prim.Native.Nat.{◌≤◌, ◌<◌}
 use native.Mathlib.Nat.{pos_of_ne-zero}
 use lib.Dec.{eqb}
+use Rattle.std.specs.Prelude.{Err}
 use borrow.Author.Tests.{eqb-true, eqb-false, ltb-false, not-false}
 use Rattle.units.proofs.Bools.{both, neither, only_if}
 use Rattle.models.specs.Models.{model_of}
-use Rattle.answers.specs.Answers.{number_of, is_done, says_protected}
+use Rattle.answers.specs.Answers.{Answer, Done, number_of, is_done, says_protected}
 use Rattle.commands.specs.Commands.{length_ok}
 use Rattle.commands.proofs.Rows.{no-latch, latch-waits}
 use Rattle.states.specs.States.{record_ok, state_ok}
 use Rattle.states.specs.declared.Record.{Record}
 use Rattle.states.specs.declared.State.{State}
-use Rattle.answers.specs.declared.Answer.{Answer}
-use Rattle.answers.specs.declared.Answer.TheVariants.{Done, BadRecord, BadArray, BadTable, BadState, BadFrame, ShortOut, Empty, Settling, Busy, Asleep, NoCommand, Withdrawn, BadLength, NotEnabled, Locked, Protected, NotErased, WornOut}
+use Rattle.answers.specs.declared.Refusal.{Refusal}
+use Rattle.answers.specs.declared.Refusal.TheVariants.{BadRecord, BadArray, BadTable, BadState, BadFrame, ShortOut, Empty, Settling, Busy, Asleep, NoCommand, Withdrawn, BadLength, NotEnabled, Locked, Protected, NotErased, WornOut}
 use Rattle.answers.proofs.Tables.{test_of, before, row-clear, spared, earlier-clear, row-holds}
 use Rattle.ladder.specs.declared.Head.{Head}
 use Rattle.ladder.specs.Ladder.{given_rows, said_rows, ladder, asks, guarded, refusal_of}
@@ -48,7 +49,7 @@ pub passed : (rec : Record) (s : State) (h : Head) → is_done (refusal_of rec s
 unfolding refusal_of
 passed rec s h e =
     let rows = ladder rec s h (asks rec h) in
-    let clear : (a : Answer) → test_of a rows ≡ false = row-clear rows refl e in
+    let clear : (a : Refusal) → test_of a rows ≡ false = row-clear rows e in
     let long = neither _ _ (clear BadFrame) in
     let ok = both (state_ok rec s) h.page (not-false _ (clear BadState)) in
     record {
@@ -77,7 +78,7 @@ passed rec s h e =
 -- the first rows have shown that the page data fit
 pub given-page : (rec : Record) (s : State) (h : Head) → is_done (given_of rec s h) ≡ true → h.page ≡ true
 unfolding given_of
-given-page rec s h e = (both (state_ok rec s) h.page (not-false _ (row-clear (given_rows rec s h) refl e BadState))).1
+given-page rec s h e = (both (state_ok rec s) h.page (not-false _ (row-clear (given_rows rec s h) e BadState))).1
 
 -- and do not answer 17
 pub given-spares : (rec : Record) (s : State) (h : Head) → says_protected (given_of rec s h) ≡ false
@@ -104,8 +105,8 @@ pub stopped : (rec : Record) (s : State) (h : Head) → says_protected (refusal_
 unfolding refusal_of
 stopped rec s h e =
     let rows = ladder rec s h (asks rec h) in
-    let clear : (a : Answer) → test_of a (before Protected rows) ≡ false = earlier-clear Protected refl rows e in
-    let g : guarded rec s (asks rec h) h ≡ true = row-holds Protected refl rows refl e in
+    let clear : (a : Refusal) → test_of a (before Protected rows) ≡ false = earlier-clear Protected rows e in
+    let g : guarded rec s (asks rec h) h ≡ true = row-holds Protected rows refl e in
     let ok = both (state_ok rec s) h.page (not-false _ (clear BadState)) in
     record {
       right = not-false _ (clear BadRecord);
@@ -124,7 +125,7 @@ pub erased-spares : (rec : Record) (s : State) (h : Head) → h.over ≡ false �
 unfolding given_of said_of
 erased-spares rec s h o e = eqb-false _ _ (ap says_not_erased (one_table rec s h) ∙ go (is_done (given_of rec s h)) (is_done (said_of rec s h))) e
   where
-    last : (w : Bool) → says_not_erased (cond w WornOut Done) ≡ false
+    last : (w : Bool) → says_not_erased (cond w (Err WornOut) Done) ≡ false
     last true = refl
     last false = refl
 

@@ -2,13 +2,13 @@
 use mathlib.Core.Path.{◌≡◌, refl, sym, ap, ◌∙◌}
 use mathlib.Core.Bool.{Bool, true, false, cond, true≢false}
 use mathlib.Core.List.{◌++◌}
-use Rattle.answers.specs.Answers.{is_done}
+use Rattle.std.specs.Prelude.{Err}
+use Rattle.answers.specs.Answers.{Answer, Done, is_done}
 use Rattle.states.specs.declared.Record.{Record}
 use Rattle.states.specs.declared.State.{State}
 use Rattle.commands.specs.declared.Traits.{Traits}
 use Rattle.commands.proofs.Rows.{no-latch}
-use Rattle.answers.specs.declared.Answer.{Answer}
-use Rattle.answers.specs.declared.Answer.TheVariants.{Done, WornOut, NotErased}
+use Rattle.answers.specs.declared.Refusal.TheVariants.{WornOut, NotErased}
 use Rattle.ladder.specs.declared.Head.{Head}
 use Rattle.answers.specs.Tables.{first_of}
 use Rattle.answers.proofs.Tables.{joined}
@@ -21,14 +21,14 @@ pub one_table : (rec : Record) (s : State) (h : Head)
 unfolding refusal_of given_of said_of data_of
 one_table rec s h =
     let said = said_rows rec s h (asks rec h) in
-    joined (given_rows rec s h) (said ++ data_rows h) refl
-    ∙ ap (λ (a : Answer). cond (is_done (first_of (given_rows rec s h))) a (first_of (given_rows rec s h))) (joined said (data_rows h) refl)
+    joined (given_rows rec s h) (said ++ data_rows h)
+    ∙ ap (λ (a : Answer). cond (is_done (first_of (given_rows rec s h))) a (first_of (given_rows rec s h))) (joined said (data_rows h))
 
 pub two-stages : (rec : Record) (s : State) (h : Head)
     → (let k : Traits = asks rec h in
     said_of rec s h ≡ cond (is_done (heard_of rec s h k)) (allowed_of rec s h k) (heard_of rec s h k))
 unfolding said_of heard_of allowed_of
-two-stages rec s h = let k : Traits = asks rec h in joined (heard_rows s h k) (write_rows rec s h k) refl
+two-stages rec s h = let k : Traits = asks rec h in joined (heard_rows s h k) (write_rows rec s h k)
 
 -- ---- where the code stops
 module _ (rec : Record) (s : State) (h : Head) where
@@ -54,7 +54,7 @@ module _ (rec : Record) (s : State) (h : Head) where
       go false p b q = absurd (true≢false (sym e ∙ ap is_done (stops-given p) ∙ p))
 
   -- the last group looks at nothing but what the cells and the wear table say
-  pub data_is : data_of rec s h ≡ cond h.over NotErased (cond h.worn WornOut Done)
+  pub data_is : data_of rec s h ≡ cond h.over (Err NotErased) (cond h.worn (Err WornOut) Done)
   unfolding data_of
   data_is = refl
 

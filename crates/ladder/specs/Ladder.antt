@@ -7,8 +7,8 @@ use Rattle.states.specs.States.{record_ok, state_ok, tb_of}
 use Rattle.states.specs.declared.Record.{Record}
 use Rattle.states.specs.declared.State.{State}
 use Rattle.commands.specs.declared.Traits.{Traits}
-use Rattle.answers.specs.declared.Answer.{Answer}
-use Rattle.answers.specs.declared.Answer.TheVariants.{BadRecord, BadArray, BadState, BadFrame, ShortOut, Empty, Settling, Busy, Asleep, NoCommand, Withdrawn, BadLength, NotEnabled, Locked, Protected, BadTable, WornOut, NotErased}
+use Rattle.answers.specs.Answers.{Answer}
+use Rattle.answers.specs.declared.Refusal.TheVariants.{BadRecord, BadArray, BadState, BadFrame, ShortOut, Empty, Settling, Busy, Asleep, NoCommand, Withdrawn, BadLength, NotEnabled, Locked, Protected, BadTable, WornOut, NotErased}
 use Rattle.answers.specs.Tables.{Rung, ◌gives◌, first_of}
 use Rattle.ladder.specs.declared.Head.{Head}
 

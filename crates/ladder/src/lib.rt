@@ -4,7 +4,7 @@
 ghost use Rattle.std.specs.Prelude.{◌≡◌};
 ghost use Rattle.ladder.specs.Stages.{given_of, said_of, heard_of, allowed_of};
 
-use answers::Answer;
+use answers::{Answer, Refusal};
 use commands::{Command, Traits};
 use states::{Record, State};
 use units::Address;
@@ -28,95 +28,95 @@ pub struct Head {
 }
 
 // 1 to 5 and 24: what the call is given at all. The command and the address are not looked at.
+#[tactic(auto, unfolding(crate::specs::Stages::given_of))]
 pub fn given(rec: Record, st: State, head: Head) -> Answer
     ensures { result ≡ given_of rec st head }
 {
     if !states::record_ok(rec) {
-        return Answer::BadRecord;
+        return Err(Refusal::BadRecord);
     }
     let row = models::model_of(rec.model);
     if head.cells != row.length as usize {
-        return Answer::BadArray;
+        return Err(Refusal::BadArray);
     }
     if head.sectors != row.sectors as usize {
-        return Answer::BadTable;
+        return Err(Refusal::BadTable);
     }
     if !(states::state_ok(rec, st) & head.page) {
-        return Answer::BadState;
+        return Err(Refusal::BadState);
     }
     let n = head.count;
     if (65541 < n) | (7 < head.tail) {
-        return Answer::BadFrame;
+        return Err(Refusal::BadFrame);
     }
     if head.room < n {
-        return Answer::ShortOut;
+        return Err(Refusal::ShortOut);
     }
-    Answer::Done
+    Ok(())
 }
 
 // 10, 22, 11 to 13, 21 and 14: whether the chip hears a frame of that command and length.
+#[tactic(auto, unfolding(crate::specs::Stages::heard_of))]
 fn heard(rec: Record, st: State, head: Head, t: Traits) -> Answer
     ensures { result ≡ heard_of rec st head t }
 {
     let n = head.count;
     let tail = head.tail;
     if n == 0 {
-        return Answer::Empty;
+        return Err(Refusal::Empty);
     }
     if st.settle != 0 {
-        return Answer::Settling;
+        return Err(Refusal::Settling);
     }
     if (st.busy != 0) & !t.while_busy {
-        return Answer::Busy;
+        return Err(Refusal::Busy);
     }
     if st.asleep & !t.while_asleep {
-        return Answer::Asleep;
+        return Err(Refusal::Asleep);
     }
     if !t.known {
-        return Answer::NoCommand;
+        return Err(Refusal::NoCommand);
     }
     if t.withdrawn {
-        return Answer::Withdrawn;
+        return Err(Refusal::Withdrawn);
     }
     if !commands::length_ok(t, n, tail) {
-        return Answer::BadLength;
+        return Err(Refusal::BadLength);
     }
-    Answer::Done
+    Ok(())
 }
 
 // 15 to 17: whether the chip may do it.
+#[tactic(auto, unfolding(crate::specs::Stages::allowed_of))]
 fn allowed(rec: Record, st: State, head: Head, t: Traits) -> Answer
     ensures { result ≡ allowed_of rec st head t }
 {
     if t.latch & !st.wel {
-        return Answer::NotEnabled;
+        return Err(Refusal::NotEnabled);
     }
     if t.lock & (st.srwd & !head.wp) {
-        return Answer::Locked;
+        return Err(Refusal::Locked);
     }
     let model = rec.model;
     let bp = st.bp;
     let at = head.address;
     let tb = states::tb(st);
     if (t.unit & models::is_protected(model, tb, bp, at.in_block())) | (t.whole & (bp != 0)) {
-        return Answer::Protected;
+        return Err(Refusal::Protected);
     }
-    Answer::Done
+    Ok(())
 }
 
-// 10, 22, 11 to 13, 21 and 14 to 17: the first refusal that applies to a frame that 1 to 5 and 24 let pass, and Done where none does.
+// 10, 22, 11 to 13, 21 and 14 to 17: the first refusal that applies to a frame that 1 to 5 and 24 let pass, and Ok where none does.
 pub fn said(rec: Record, st: State, head: Head) -> Answer
     ensures { result ≡ said_of rec st head }
 {
     let command = head.command;
     let row = models::model_of(rec.model);
     let t = commands::traits_of(row.register, command);
-    let first = heard(rec, st, head, t);
-    if !answers::is_done(first) {
-        return first;
-    }
+    heard(rec, st, head, t)?;
     if t.latch {
         return allowed(rec, st, head, t);
     }
-    Answer::Done
+    Ok(())
 }

@@ -1,31 +1,47 @@
 -- The laws of a cut: what it says of the lines of the input, whatever line is held and whatever comes after the block.
-use mathlib.Core.Path.{◌≡◌, refl, sym, ap, ◌∙◌}
+use mathlib.Core.Path.{◌≡◌, refl, sym, ap, ◌∙◌, subst}
 use mathlib.Core.Bool.{Bool, true, false, ◌&&◌}
 use mathlib.Core.List.{List, [], ◌∷◌}
 use Prim.Native.Nat.{ℕ, ◌+◌, ◌-◌, ◌≤◌, ◌<◌, min}
 use native.Mathlib.Nat.{add-zero}
-use native.Mathlib.Numerals.{add-one}
 use native.Mathlib.Omega.{arith}
 use lib.Dec.{eqb, leb, ltb}
-use lib.ListN.{length, get_or, drop, take, length-drop, drop_of_length-le}
-use lib.Seq.{drop-cons, take-nil, take_all}
-use borrow.Author.Tests.{ne_eqb, leb-true, leb-false, lt-ltb, le-ltb}
+use lib.ListN.{length, drop, take, length-drop, drop_of_length-le}
+use lib.Seq.{length-take-le, take-nil, take_all}
+use borrow.Author.Tests.{leb-true, leb-false, lt-ltb, le-ltb, ltb-false}
 use Rattle.script.proofs.HexLaws.{and_left, and_right}
+use Rattle.std.specs.Prelude.{Some, None, position, nat_lt}
+use Rattle.std.specs.List.{position_or_len}
 use Rattle.parts.specs.Parts.{lay}
 use Rattle.parts.proofs.Lay.{lay-none}
+use borrow.Rule.Slice.PartMut.{put_mid}
 use Rattle.text.specs.Put.{Put}
+use Rattle.text.proofs.PutLaws.{put_part}
 use Rattle.lines.specs.declared.Cut.TheVariants.{Here, Joined, Open}
 use Rattle.lines.specs.Cutting.{first_line, end_of, fitting, held_with, used_of, cut_of, held_of, Cuts, OneCuts}
 
 -- ---- the place of the newline
-pub end_on : (s : List ℕ) (i : ℕ) → i < length s → (get_or s i 0 ≡ 10 → ⊥) → end_of s i ≡ end_of s (i + 1)
-end_on s i l e = rw (add-one, drop-cons s i 0, ne_eqb (get_or s i 0) 10 e) (omega arith)
+-- the bytes before the first newline, as the library counts them
+before : (s : List ℕ) → position_or_len (λ b. eqb b 10) s ≡ length (first_line s)
+before [] = refl
+before (b ∷ s) = go (eqb b 10) refl (before s)
+  where
+    go : (t : Bool) → eqb b 10 ≡ t → position_or_len (λ b. eqb b 10) s ≡ length (first_line s) → position_or_len (λ b. eqb b 10) (b ∷ s) ≡ length (first_line (b ∷ s))
+    go true p h = rw p
+    go false p h = rw p (omega arith)
 
-pub end-here : (s : List ℕ) (i : ℕ) → i < length s → get_or s i 0 ≡ 10 → i ≡ end_of s i
-end-here s i l e = rw (drop-cons s i 0, e) (sym (add-zero i))
+pub end_found : (s : List ℕ) (at n : ℕ) → Some n ≡ position (λ b. eqb b 10) (drop at s) → at + n ≡ end_of s at
+end_found s at n e = go (nat_lt (position_or_len (λ b. eqb b 10) (drop at s)) (length (drop at s))) refl
+  where
+    go : (t : Bool) → nat_lt (position_or_len (λ b. eqb b 10) (drop at s)) (length (drop at s)) ≡ t → at + n ≡ end_of s at
+    go true p =
+        let k : Some n ≡ Some (position_or_len (λ b. eqb b 10) (drop at s)) = rw p at e in
+        let m : n ≡ position_or_len (λ b. eqb b 10) (drop at s) = cc in
+        ap (λ (z : ℕ). at + z) (m ∙ before (drop at s))
+    go false p = let k : Some n ≡ None = rw p at e in absurd cc
 
-pub end-out : (s : List ℕ) (i : ℕ) → length s ≤ i → i ≡ end_of s i
-end-out s i l = rw (drop_of_length-le s l) (sym (add-zero i))
+pub end_out : (s : List ℕ) (i : ℕ) → length s ≤ i → i ≡ end_of s i
+end_out s i l = rw (drop_of_length-le s l) (sym (add-zero i))
 
 -- ---- what is kept
 -- nothing, where there is no room or nothing to keep
@@ -49,6 +65,13 @@ kept_put held part after used n r e p =
     let same : take n part ≡ fitting held used part = as_fits (length held - used) part n e in
     (p.next ∙ ap (λ (z : List ℕ). used + length z) same, p.is ∙ ap (lay held used) same)
 
+-- the part that is copied behind them
+pub kept_copied : (held part e : List ℕ) (used n : ℕ) → n ≡ min (length held - used) (length part) → used < length held → e ≡ take n part
+    → (used + n ≡ used_of held used part) × (put_mid used (used + n - used) held e ≡ held_with held used part)
+kept_copied held part e used n h l c =
+    let m : length (take n part) ≡ n = length-take-le n part (omega arith) in
+    kept_put held part (put_mid used (used + n - used) held e) used n (used + n) h (subst (λ (k : ℕ). Put (take n part) held used (put_mid used (used + k - used) held e) (used + k)) m (put_part (take n part) held e used (omega arith) c))
+
 -- ---- the bytes before a newline
 pub first_short : (s : List ℕ) → length (first_line s) ≤ length s
 first_short [] = omega arith
@@ -57,6 +80,16 @@ first_short (b ∷ s) = go (eqb b 10) refl (first_short s)
     go : (t : Bool) → eqb b 10 ≡ t → length (first_line s) ≤ length s → length (first_line (b ∷ s)) ≤ length (b ∷ s)
     go true p h = rw p (omega arith)
     go false p h = rw p (omega arith)
+
+pub end_none : (s : List ℕ) (at : ℕ) → at ≤ length s → None ≡ position (λ b. eqb b 10) (drop at s) → length s ≡ end_of s at
+end_none s at l e = go (nat_lt (position_or_len (λ b. eqb b 10) (drop at s)) (length (drop at s))) refl
+  where
+    go : (t : Bool) → nat_lt (position_or_len (λ b. eqb b 10) (drop at s)) (length (drop at s)) ≡ t → length s ≡ end_of s at
+    go true p = let k : None ≡ Some (position_or_len (λ b. eqb b 10) (drop at s)) = rw p at e in absurd cc
+    go false p =
+        let n : length (drop at s) ≡ length s - at = length-drop at s in
+        let h : length (drop at s) ≤ position_or_len (λ b. eqb b 10) (drop at s) = ltb-false _ _ p in
+        omega (arith, before (drop at s), first_short (drop at s))
 
 pub take-first : (s : List ℕ) → take (length (first_line s)) s ≡ first_line s
 take-first [] = refl

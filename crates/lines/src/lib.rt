@@ -3,7 +3,8 @@
 // however long it is.
 #![tactic(auto)]
 
-ghost use Rattle.std.specs.Prelude.{◌≡◌};
+ghost use Rattle.std.specs.Prelude.{◌≡◌, ◌==◌, position};
+ghost use Rattle.text.specs.Text.{newline};
 ghost use Rattle.lines.specs.Cutting.{end_of, held_with, used_of, Cuts};
 
 // What stands in a block from a place on.
@@ -17,18 +18,25 @@ pub enum Cut {
     Open { used: usize },
 }
 
+// The place of the first newline.
+fn newline_in(part: &[u8]) -> Option<usize>
+    ensures { result ≡ position (λ b. b == newline) part.now }
+{
+    part.iter().position(|b| *b == b'\n')
+}
+
 // The place of the first newline from `at` on, or the block's length.
+#[tactic(auto, using(crate::proofs::Laws::end_out))]
 pub fn line_end(block: &[u8], at: usize) -> usize
     ensures { result ≡ end_of block.now at }
 {
-    let mut i = at;
-    while i < block.len() {
-        if block[i] == b'\n' {
-            return i;
-        }
-        i += 1;
+    if block.len() <= at {
+        return at;
     }
-    i
+    match newline_in(&block[at..]) {
+        Some(n) => at + n,
+        None => block.len(),
+    }
 }
 
 // Holds part behind the first `used` bytes of held, as far as there is room; and how many bytes are held then.
@@ -38,8 +46,9 @@ fn keep(held: &mut [u8], used: usize, part: &[u8]) -> usize
     if held.len() <= used {
         return used;
     }
-    let n = parts::least(held.len() - used, part.len());
-    text::put_all(&part[0..n], held, used)
+    let n = (held.len() - used).min(part.len());
+    held[used..used + n].copy_from_slice(&part[..n]);
+    used + n
 }
 
 // Cuts the line that goes on at `at`; `used` bytes of it are held from the blocks before.

@@ -4,12 +4,11 @@
 ghost use Rattle.std.specs.Prelude.{◌≡◌};
 ghost use Rattle.models.specs.Models.{is_model, is_length, is_sectors, model_of, address_of, range_of, is_protected};
 
-use parts::wide;
 use units::{Address, Block};
 
 // A model's row: the array's length in bytes, sectors, half blocks and blocks; the highest BP; whether it has the configuration register and the
 // erase of a half block, and whether WEL falls when a unit is protected; the three identification bytes and the signature.
-#[derive(Clone, Copy)]
+#[derive(Clone, Copy, PartialEq, Eq)]
 pub struct Model {
     pub length: u32,
     pub sectors: u32,
@@ -26,7 +25,7 @@ pub struct Model {
 }
 
 // Protected blocks: the first, and how many.
-#[derive(Clone, Copy)]
+#[derive(Clone, Copy, PartialEq, Eq)]
 pub struct Range(pub Block, pub u32);
 
 // The models' rows.
@@ -100,10 +99,11 @@ pub fn is_sectors(n: usize) -> bool
 pub fn model_of(number: u32) -> Model
     ensures { result ≡ model_of number }
 {
-    if number == 2 {
-        return KH25L2006E;
+    match number {
+        2 => KH25L2006E,
+        3 => KH25L12845G,
+        _ => KH25L512,
     }
-    if number == 3 { KH25L12845G } else { KH25L512 }
 }
 
 // The address of three bytes, high byte first, modulo the array's length.
@@ -111,7 +111,7 @@ pub fn address_of(number: u32, high: u8, middle: u8, low: u8) -> Address
     ensures { result ≡ address_of number high middle low }
 {
     let row = model_of(number);
-    Address((wide(high) * 65536 + (wide(middle) * 256 + wide(low))) % row.length)
+    Address((u32::from(high) * 65536 + (u32::from(middle) * 256 + u32::from(low))) % row.length)
 }
 
 // The protected range of a model at a BP, at the top of the array or at its bottom; of a BP that it does not have, and at the bottom of a model without

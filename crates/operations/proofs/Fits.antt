@@ -1,4 +1,5 @@
 -- The units of an address of the array lie in it.
+use Rattle.std.specs.Prelude.{Option}
 use mathlib.Core.Path.{◌≡◌, sym, ap, ◌∙◌}
 use mathlib.Core.Bool.{true}
 use lib.Dec.{ltb}
@@ -15,10 +16,10 @@ use Rattle.models.specs.Models.{model_of}
 use Rattle.models.proofs.Rules.{row-rules, units-inside}
 
 -- what a fitting address of such an operation shows
-pub inside : (n : ℕ) (op : Operation) (place : ℕ) (cells : List ℕ) {known : Operation} → known ≡ op → place_ok n known place ≡ true → length cells ≡ (model_of n).length
+pub inside : (n : ℕ) (op : Option Operation) (place : ℕ) (cells : List ℕ) {known : Option Operation} → known ≡ op → place_ok n known place ≡ true → length cells ≡ (model_of n).length
     → place_ok n op place ≡ ltb place (model_of n).length → place < length cells
 inside n op place cells e p l f =
-    let t : ltb place (model_of n).length ≡ true = sym f ∙ sym (ap (λ (o : Operation). place_ok n o place) e) ∙ p in
+    let t : ltb place (model_of n).length ≡ true = sym f ∙ sym (ap (λ (o : Option Operation). place_ok n o place) e) ∙ p in
     omega (arith, ltb-true place (model_of n).length t)
 
 module _ (n : ℕ) (cells : List ℕ) (at : Address) (h : at.0 < length cells) (e : length cells ≡ (model_of n).length) where
@@ -28,11 +29,11 @@ module _ (n : ℕ) (cells : List ℕ) (at : Address) (h : at.0 < length cells) (
   pub page-fits : page_start at + 256 ≤ length cells
   page-fits = omega (arith, (units-inside n at below).page)
 
-  pub sector-fits : ((sector_of at).0 < 1048576) × (sector_start (sector_of at) + 4096 ≤ length cells)
+  pub sector-fits : (sector_start (sector_of at) < 4294967296) × (sector_start (sector_of at) + 4096 ≤ length cells)
   sector-fits = (omega (arith, (row-rules n).reach), omega (arith, (units-inside n at below).sector))
 
-  pub half-block-fits : ((half_block_of at).0 < 131072) × (half_block_start (half_block_of at) + 32768 ≤ length cells)
+  pub half-block-fits : (half_block_start (half_block_of at) < 4294967296) × (half_block_start (half_block_of at) + 32768 ≤ length cells)
   half-block-fits = (omega (arith, (row-rules n).reach), omega (arith, (units-inside n at below).half-block))
 
-  pub block-fits : ((block_of at).0 < 65536) × (block_start (block_of at) + 65536 ≤ length cells)
+  pub block-fits : (block_start (block_of at) < 4294967296) × (block_start (block_of at) + 65536 ≤ length cells)
   block-fits = (omega (arith, (row-rules n).reach), omega (arith, (units-inside n at below).block))

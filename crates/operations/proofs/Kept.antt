@@ -1,4 +1,5 @@
 -- The kept bits after a status write, finished or cut: BP and the register stay in their range, and TB stays set.
+use Rattle.std.specs.Prelude.{Option, Some, None}
 use mathlib.Core.Path.{◌≡◌, refl}
 use mathlib.Core.Bool.{Bool, true, false, ◌&&◌, ◌||◌, cond}
 use mathlib.Core.List.{List}
@@ -13,7 +14,7 @@ use Rattle.states.specs.States.{flag, config_ok}
 use Rattle.states.specs.declared.State.{State}
 use Rattle.operations.specs.Operations.{config_written, config_after, written, finished_bits, torn_bits, cut_bits, bits_of}
 use Rattle.commands.specs.declared.Operation.{Operation}
-use Rattle.commands.specs.declared.Operation.TheVariants.{Idle, WritesStatus, Programs, ErasesSector, ErasesHalf, ErasesBlock, ErasesChip}
+use Rattle.commands.specs.declared.Operation.TheVariants.{WritesStatus, Programs, ErasesSector, ErasesHalf, ErasesBlock, ErasesChip}
 use Rattle.states.proofs.States.{only-tb-ok}
 use lib.Bits.{and_zero_r}
 use borrow.Author.Tests.{eqb-true}
@@ -69,55 +70,55 @@ torn-level n s page pattern =
 
 -- ---- whatever the operation
 module _ (n : ℕ) (s : State) (page : List ℕ) where
-  pub finished-level : (op : Operation) → s.bp ≤ (model_of n).highest_bp → (finished_bits n op s page).bp ≤ (model_of n).highest_bp
-  finished-level Idle h = h
-  finished-level WritesStatus h = written-level n s page
-  finished-level Programs h = h
-  finished-level ErasesSector h = h
-  finished-level ErasesHalf h = h
-  finished-level ErasesBlock h = h
-  finished-level ErasesChip h = h
+  pub finished-level : (op : Option Operation) → s.bp ≤ (model_of n).highest_bp → (finished_bits n op s page).bp ≤ (model_of n).highest_bp
+  finished-level None h = h
+  finished-level (Some WritesStatus) h = written-level n s page
+  finished-level (Some Programs) h = h
+  finished-level (Some ErasesSector) h = h
+  finished-level (Some ErasesHalf) h = h
+  finished-level (Some ErasesBlock) h = h
+  finished-level (Some ErasesChip) h = h
 
-  pub finished-register : (op : Operation) → config_ok (model_of n).register s.config ≡ true → config_ok (model_of n).register (finished_bits n op s page).config ≡ true
+  pub finished-register : (op : Option Operation) → config_ok (model_of n).register s.config ≡ true → config_ok (model_of n).register (finished_bits n op s page).config ≡ true
   unfolding written
-  finished-register Idle h = h
-  finished-register WritesStatus h = config-after-ok n s page h
-  finished-register Programs h = h
-  finished-register ErasesSector h = h
-  finished-register ErasesHalf h = h
-  finished-register ErasesBlock h = h
-  finished-register ErasesChip h = h
+  finished-register None h = h
+  finished-register (Some WritesStatus) h = config-after-ok n s page h
+  finished-register (Some Programs) h = h
+  finished-register (Some ErasesSector) h = h
+  finished-register (Some ErasesHalf) h = h
+  finished-register (Some ErasesBlock) h = h
+  finished-register (Some ErasesChip) h = h
 
   -- the time to settle is not touched
-  pub finished-settle : (op : Operation) → (finished_bits n op s page).settle ≡ s.settle
+  pub finished-settle : (op : Option Operation) → (finished_bits n op s page).settle ≡ s.settle
   unfolding written
-  finished-settle Idle = refl
-  finished-settle WritesStatus = refl
-  finished-settle Programs = refl
-  finished-settle ErasesSector = refl
-  finished-settle ErasesHalf = refl
-  finished-settle ErasesBlock = refl
-  finished-settle ErasesChip = refl
+  finished-settle None = refl
+  finished-settle (Some WritesStatus) = refl
+  finished-settle (Some Programs) = refl
+  finished-settle (Some ErasesSector) = refl
+  finished-settle (Some ErasesHalf) = refl
+  finished-settle (Some ErasesBlock) = refl
+  finished-settle (Some ErasesChip) = refl
 
-  pub finished-awake : (op : Operation) → (finished_bits n op s page).asleep ≡ s.asleep
+  pub finished-awake : (op : Option Operation) → (finished_bits n op s page).asleep ≡ s.asleep
   unfolding written
-  finished-awake Idle = refl
-  finished-awake WritesStatus = refl
-  finished-awake Programs = refl
-  finished-awake ErasesSector = refl
-  finished-awake ErasesHalf = refl
-  finished-awake ErasesBlock = refl
-  finished-awake ErasesChip = refl
+  finished-awake None = refl
+  finished-awake (Some WritesStatus) = refl
+  finished-awake (Some Programs) = refl
+  finished-awake (Some ErasesSector) = refl
+  finished-awake (Some ErasesHalf) = refl
+  finished-awake (Some ErasesBlock) = refl
+  finished-awake (Some ErasesChip) = refl
 
   module _ (pattern : List ℕ) where
-    pub cut_level : (op : Operation) → s.bp ≤ (model_of n).highest_bp → (cut_bits n op s page pattern).bp ≤ (model_of n).highest_bp
-    cut_level Idle h = h
-    cut_level WritesStatus h = torn-level n s page pattern
-    cut_level Programs h = h
-    cut_level ErasesSector h = h
-    cut_level ErasesHalf h = h
-    cut_level ErasesBlock h = h
-    cut_level ErasesChip h = h
+    pub cut_level : (op : Option Operation) → s.bp ≤ (model_of n).highest_bp → (cut_bits n op s page pattern).bp ≤ (model_of n).highest_bp
+    cut_level None h = h
+    cut_level (Some WritesStatus) h = torn-level n s page pattern
+    cut_level (Some Programs) h = h
+    cut_level (Some ErasesSector) h = h
+    cut_level (Some ErasesHalf) h = h
+    cut_level (Some ErasesBlock) h = h
+    cut_level (Some ErasesChip) h = h
 
     -- the register with all but TB cleared is in its range
     torn-register : config_ok (model_of n).register s.config ≡ true → config_ok (model_of n).register ((torn_bits n s page pattern).config / 8 % 2 * 8) ≡ true
@@ -133,11 +134,11 @@ module _ (n : ℕ) (s : State) (page : List ℕ) where
             rw (a, b)
         go false e = let z = eqb-true s.config 0 e in rw (z, and_zero_r (get_or pattern 1 0))
 
-    pub cut-register : (op : Operation) → config_ok (model_of n).register s.config ≡ true → config_ok (model_of n).register ((cut_bits n op s page pattern).config / 8 % 2 * 8) ≡ true
-    cut-register Idle h = only-tb-ok (model_of n).register s.config h
-    cut-register WritesStatus h = torn-register h
-    cut-register Programs h = only-tb-ok (model_of n).register s.config h
-    cut-register ErasesSector h = only-tb-ok (model_of n).register s.config h
-    cut-register ErasesHalf h = only-tb-ok (model_of n).register s.config h
-    cut-register ErasesBlock h = only-tb-ok (model_of n).register s.config h
-    cut-register ErasesChip h = only-tb-ok (model_of n).register s.config h
+    pub cut-register : (op : Option Operation) → config_ok (model_of n).register s.config ≡ true → config_ok (model_of n).register ((cut_bits n op s page pattern).config / 8 % 2 * 8) ≡ true
+    cut-register None h = only-tb-ok (model_of n).register s.config h
+    cut-register (Some WritesStatus) h = torn-register h
+    cut-register (Some Programs) h = only-tb-ok (model_of n).register s.config h
+    cut-register (Some ErasesSector) h = only-tb-ok (model_of n).register s.config h
+    cut-register (Some ErasesHalf) h = only-tb-ok (model_of n).register s.config h
+    cut-register (Some ErasesBlock) h = only-tb-ok (model_of n).register s.config h
+    cut-register (Some ErasesChip) h = only-tb-ok (model_of n).register s.config h

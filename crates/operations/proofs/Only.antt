@@ -1,4 +1,5 @@
 -- An operation changes at most its unit, whether it finishes or is cut.
+use Rattle.std.specs.Prelude.{Option, Some, None}
 use mathlib.Core.Path.{◌≡◌, refl}
 use mathlib.Core.Bool.{true}
 use mathlib.Core.List.{List}
@@ -17,7 +18,7 @@ use Rattle.flash.specs.Arrays.{programmed, page_torn}
 use Rattle.flash.specs.Sheet.{ErasesOnly}
 use Rattle.flash.proofs.Arrays.{length-sector_erased, length-half_block_erased, length-block_erased, length-all_erased, length-programmed, sector-erase, half-block-erase, block-erase, chip-erase, outside-stays, length-page_torn, torn-before, torn-behind}
 use Rattle.commands.specs.declared.Operation.{Operation}
-use Rattle.commands.specs.declared.Operation.TheVariants.{Idle, WritesStatus, Programs, ErasesSector, ErasesHalf, ErasesBlock, ErasesChip}
+use Rattle.commands.specs.declared.Operation.TheVariants.{WritesStatus, Programs, ErasesSector, ErasesHalf, ErasesBlock, ErasesChip}
 use Rattle.states.specs.States.{place_ok}
 use Rattle.operations.specs.Operations.{Extent, extent, unit_of, page_address, finished_cells, pattern_length, cut_cells}
 use Rattle.operations.proofs.Fits.{page-fits, sector-fits, half-block-fits, block-fits}
@@ -58,21 +59,21 @@ module _ (n : ℕ) (at : Address) (page cells : List ℕ) (e : length cells ≡ 
   in_array : ltb at.0 (model_of n).length ≡ true → at.0 < length cells
   in_array p = omega (arith, ltb-true at.0 (model_of n).length p)
 
-  pub finished-only : (op : Operation) → place_ok n op at.0 ≡ true → Only (unit_of op at (length cells)) cells (finished_cells op at page cells)
-  finished-only Idle p = same-cells
-  finished-only WritesStatus p = same-cells
-  finished-only Programs p = page-only cells at page (page-fits n cells at (in_array p) e)
-  finished-only ErasesSector p = let h = (sector-fits n cells at (in_array p) e).1 in erased-only (length-sector_erased cells (sector_of at) h) (sector-erase cells (sector_of at) h)
-  finished-only ErasesHalf p = let h = (half-block-fits n cells at (in_array p) e).1 in erased-only (length-half_block_erased cells (half_block_of at) h) (half-block-erase cells (half_block_of at) h)
-  finished-only ErasesBlock p = let h = (block-fits n cells at (in_array p) e).1 in erased-only (length-block_erased cells (block_of at) h) (block-erase cells (block_of at) h)
-  finished-only ErasesChip p = erased-only (length-all_erased cells) (chip-erase cells)
+  pub finished-only : (op : Option Operation) → place_ok n op at.0 ≡ true → Only (unit_of op at (length cells)) cells (finished_cells op at page cells)
+  finished-only None p = same-cells
+  finished-only (Some WritesStatus) p = same-cells
+  finished-only (Some Programs) p = page-only cells at page (page-fits n cells at (in_array p) e)
+  finished-only (Some ErasesSector) p = let h = (sector-fits n cells at (in_array p) e).1 in erased-only (length-sector_erased cells (sector_of at) h) (sector-erase cells (sector_of at) h)
+  finished-only (Some ErasesHalf) p = let h = (half-block-fits n cells at (in_array p) e).1 in erased-only (length-half_block_erased cells (half_block_of at) h) (half-block-erase cells (half_block_of at) h)
+  finished-only (Some ErasesBlock) p = let h = (block-fits n cells at (in_array p) e).1 in erased-only (length-block_erased cells (block_of at) h) (block-erase cells (block_of at) h)
+  finished-only (Some ErasesChip) p = erased-only (length-all_erased cells) (chip-erase cells)
 
-  pub cut-only : (pattern : List ℕ) (op : Operation) → place_ok n op at.0 ≡ true → length pattern ≡ pattern_length op at.0 (length cells)
+  pub cut-only : (pattern : List ℕ) (op : Option Operation) → place_ok n op at.0 ≡ true → length pattern ≡ pattern_length op at.0 (length cells)
       → Only (unit_of op at (length cells)) cells (cut_cells op at page pattern cells)
-  cut-only pattern Idle p l = same-cells
-  cut-only pattern WritesStatus p l = same-cells
-  cut-only pattern Programs p l = torn-only cells at page pattern (page-fits n cells at (in_array p) e)
-  cut-only pattern ErasesSector p l = laid-only (sector_start (sector_of at)) 4096 cells pattern l (sector-fits n cells at (in_array p) e).1
-  cut-only pattern ErasesHalf p l = laid-only (half_block_start (half_block_of at)) 32768 cells pattern l (half-block-fits n cells at (in_array p) e).1
-  cut-only pattern ErasesBlock p l = laid-only (block_start (block_of at)) 65536 cells pattern l (block-fits n cells at (in_array p) e).1
-  cut-only pattern ErasesChip p l = laid-only 0 (length cells) cells pattern l (omega arith)
+  cut-only pattern None p l = same-cells
+  cut-only pattern (Some WritesStatus) p l = same-cells
+  cut-only pattern (Some Programs) p l = torn-only cells at page pattern (page-fits n cells at (in_array p) e)
+  cut-only pattern (Some ErasesSector) p l = laid-only (sector_start (sector_of at)) 4096 cells pattern l (sector-fits n cells at (in_array p) e).1
+  cut-only pattern (Some ErasesHalf) p l = laid-only (half_block_start (half_block_of at)) 32768 cells pattern l (half-block-fits n cells at (in_array p) e).1
+  cut-only pattern (Some ErasesBlock) p l = laid-only (block_start (block_of at)) 65536 cells pattern l (block-fits n cells at (in_array p) e).1
+  cut-only pattern (Some ErasesChip) p l = laid-only 0 (length cells) cells pattern l (omega arith)

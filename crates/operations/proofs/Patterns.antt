@@ -1,4 +1,5 @@
 -- Cut with the pattern of the cells that were there an operation has not happened; with that of the finished one it has finished.
+use Rattle.std.specs.Prelude.{Option, Some, None}
 use mathlib.Core.Path.{◌≡◌, refl, sym, ap, ◌∙◌}
 use mathlib.Core.Bool.{true}
 use mathlib.Core.List.{List, ◌++◌, append-nil}
@@ -21,7 +22,7 @@ use Rattle.fold.proofs.Fold.{length-page_after, page_after-at}
 use Rattle.fold.proofs.Counts.{sent-counts}
 use Rattle.flash.specs.Arrays.{sector_erased, half_block_erased, block_erased, all_erased, programmed, page_torn}
 use Rattle.commands.specs.declared.Operation.{Operation}
-use Rattle.commands.specs.declared.Operation.TheVariants.{Idle, WritesStatus, Programs, ErasesSector, ErasesHalf, ErasesBlock, ErasesChip}
+use Rattle.commands.specs.declared.Operation.TheVariants.{WritesStatus, Programs, ErasesSector, ErasesHalf, ErasesBlock, ErasesChip}
 use Rattle.states.specs.States.{place_ok}
 use Rattle.operations.specs.Operations.{unit_of, page_address, finished_cells, cut_cells}
 use Rattle.operations.proofs.Fits.{page-fits, sector-fits, half-block-fits, block-fits}
@@ -109,29 +110,29 @@ module _ (n : ℕ) (at : Address) (page cells : List ℕ) (e : length cells ≡ 
   in_array : ltb at.0 (model_of n).length ≡ true → at.0 < length cells
   in_array q = omega (arith, ltb-true at.0 (model_of n).length q)
 
-  pub old-cells : (op : Operation) → place_ok n op at.0 ≡ true → cut_cells op at page (part cells (unit_of op at (length cells)).start (unit_of op at (length cells)).size) cells ≡ cells
-  old-cells Idle q = refl
-  old-cells WritesStatus q = refl
-  old-cells Programs q = old-page cells at page (page-fits n cells at (in_array q) e) p
-  old-cells ErasesSector q = laid-back cells (sector_start (sector_of at)) 4096 (sector-fits n cells at (in_array q) e).1
-  old-cells ErasesHalf q = laid-back cells (half_block_start (half_block_of at)) 32768 (half-block-fits n cells at (in_array q) e).1
-  old-cells ErasesBlock q = laid-back cells (block_start (block_of at)) 65536 (block-fits n cells at (in_array q) e).1
-  old-cells ErasesChip q = laid-back cells 0 (length cells) (omega arith)
+  pub old-cells : (op : Option Operation) → place_ok n op at.0 ≡ true → cut_cells op at page (part cells (unit_of op at (length cells)).start (unit_of op at (length cells)).size) cells ≡ cells
+  old-cells None q = refl
+  old-cells (Some WritesStatus) q = refl
+  old-cells (Some Programs) q = old-page cells at page (page-fits n cells at (in_array q) e) p
+  old-cells (Some ErasesSector) q = laid-back cells (sector_start (sector_of at)) 4096 (sector-fits n cells at (in_array q) e).1
+  old-cells (Some ErasesHalf) q = laid-back cells (half_block_start (half_block_of at)) 32768 (half-block-fits n cells at (in_array q) e).1
+  old-cells (Some ErasesBlock) q = laid-back cells (block_start (block_of at)) 65536 (block-fits n cells at (in_array q) e).1
+  old-cells (Some ErasesChip) q = laid-back cells 0 (length cells) (omega arith)
 
   -- a chip erase, said as a part laid over the array
   whole-chip : all_erased cells ≡ lay cells 0 (erased (length cells))
   unfolding all_erased
   whole-chip = sym (whole-lay cells (erased (length cells)) (length-replicate (length cells) FF))
 
-  pub new-cells : (op : Operation) → place_ok n op at.0 ≡ true
+  pub new-cells : (op : Option Operation) → place_ok n op at.0 ≡ true
       → cut_cells op at page (part (finished_cells op at page cells) (unit_of op at (length cells)).start (unit_of op at (length cells)).size) cells ≡ finished_cells op at page cells
   unfolding sector_erased half_block_erased block_erased
-  new-cells Idle q = refl
-  new-cells WritesStatus q = refl
-  new-cells Programs q = new-page cells at page (page-fits n cells at (in_array q) e) p
-  new-cells ErasesSector q = laid-again cells (sector_start (sector_of at)) 4096 (sector-fits n cells at (in_array q) e).1 (erased 4096) (length-replicate 4096 FF)
-  new-cells ErasesHalf q = laid-again cells (half_block_start (half_block_of at)) 32768 (half-block-fits n cells at (in_array q) e).1 (erased 32768) (length-replicate 32768 FF)
-  new-cells ErasesBlock q = laid-again cells (block_start (block_of at)) 65536 (block-fits n cells at (in_array q) e).1 (erased 65536) (length-replicate 65536 FF)
-  new-cells ErasesChip q =
+  new-cells None q = refl
+  new-cells (Some WritesStatus) q = refl
+  new-cells (Some Programs) q = new-page cells at page (page-fits n cells at (in_array q) e) p
+  new-cells (Some ErasesSector) q = laid-again cells (sector_start (sector_of at)) 4096 (sector-fits n cells at (in_array q) e).1 (erased 4096) (length-replicate 4096 FF)
+  new-cells (Some ErasesHalf) q = laid-again cells (half_block_start (half_block_of at)) 32768 (half-block-fits n cells at (in_array q) e).1 (erased 32768) (length-replicate 32768 FF)
+  new-cells (Some ErasesBlock) q = laid-again cells (block_start (block_of at)) 65536 (block-fits n cells at (in_array q) e).1 (erased 65536) (length-replicate 65536 FF)
+  new-cells (Some ErasesChip) q =
       ap (λ (z : List ℕ). lay cells 0 (part z 0 (length cells))) whole-chip
       ∙ laid-again cells 0 (length cells) (omega arith) (erased (length cells)) (length-replicate (length cells) FF) ∙ sym whole-chip

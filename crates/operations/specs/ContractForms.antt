@@ -1,5 +1,5 @@
 -- The forms of contracts: what is left of a chip, and what the functions ask of it.
-use Rattle.std.specs.Prelude.{true, List, ◌≡◌, ℕ, length}
+use Rattle.std.specs.Prelude.{true, List, ◌≡◌, ℕ, ◌≤◌, length}
 use Rattle.models.specs.Models.{model_of}
 use Rattle.states.specs.States.{place_ok, Chip}
 use Rattle.states.specs.declared.State.{State}
@@ -16,3 +16,7 @@ pub record Operable (n : ℕ) (s : State) (page cells : List ℕ) : Type 0 where
   pub whole : length cells ≡ (model_of n).length
   pub placed : place_ok n (runs n s) s.address ≡ true
   pub page-data : length page ≡ 256
+
+-- BP is one that the model has
+abbrev pub BpFits : ℕ → State → Type 0
+BpFits n s = s.bp ≤ (model_of n).highest_bp

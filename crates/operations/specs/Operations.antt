@@ -1,5 +1,5 @@
 -- What an operation does once its time has run out, and what a cut of the power leaves of it: 01, "Commands", and Req 05.
-use Rattle.std.specs.Prelude.{Bool, false, ◌&&◌, ◌||◌, cond, List, ℕ, ◌+◌, ◌*◌, ◌/◌, ◌%◌, eqb, leb, get_or}
+use Rattle.std.specs.Prelude.{Bool, false, ◌&&◌, ◌||◌, cond, List, ℕ, ◌+◌, ◌*◌, ◌/◌, ◌%◌, eqb, leb, get_or, Option, Some, None}
 use Rattle.parts.specs.Parts.{lay}
 use Rattle.cells.specs.Cell.{torn}
 use Rattle.units.specs.declared.Address.{Address}
@@ -8,7 +8,7 @@ use Rattle.models.specs.Models.{model_of}
 use Rattle.flash.specs.Arrays.{sector_erased, half_block_erased, block_erased, all_erased, programmed, page_torn}
 use Rattle.commands.specs.Commands.{started_by}
 use Rattle.commands.specs.declared.Operation.{Operation}
-use Rattle.commands.specs.declared.Operation.TheVariants.{Idle, WritesStatus, Programs, ErasesSector, ErasesHalf, ErasesBlock, ErasesChip}
+use Rattle.commands.specs.declared.Operation.TheVariants.{WritesStatus, Programs, ErasesSector, ErasesHalf, ErasesBlock, ErasesChip}
 use Rattle.states.specs.States.{flag, blank_page, no_command, no_address, Chip, chip_of}
 use Rattle.states.specs.declared.State.{State}
 
@@ -20,28 +20,28 @@ pub record Extent : Type 0 where
 abbrev pub extent : ℕ → ℕ → Extent
 extent start size = record { start = start; size = size }
 
-abbrev pub unit_of : Operation → Address → ℕ → Extent
-unit_of Idle at n = extent 0 0
-unit_of WritesStatus at n = extent 0 0
-unit_of Programs at n = extent (page_start at) 256
-unit_of ErasesSector at n = extent (sector_start (sector_of at)) 4096
-unit_of ErasesHalf at n = extent (half_block_start (half_block_of at)) 32768
-unit_of ErasesBlock at n = extent (block_start (block_of at)) 65536
-unit_of ErasesChip at n = extent 0 n
+abbrev pub unit_of : Option Operation → Address → ℕ → Extent
+unit_of None at n = extent 0 0
+unit_of (Some WritesStatus) at n = extent 0 0
+unit_of (Some Programs) at n = extent (page_start at) 256
+unit_of (Some ErasesSector) at n = extent (sector_start (sector_of at)) 4096
+unit_of (Some ErasesHalf) at n = extent (half_block_start (half_block_of at)) 32768
+unit_of (Some ErasesBlock) at n = extent (block_start (block_of at)) 65536
+unit_of (Some ErasesChip) at n = extent 0 n
 
 -- ---- it has finished
 -- its cells: the page data are programmed into the page, offset by offset (000 L343); an erased unit is FF (000 L315, L327, L335, 003 L1233)
 abbrev pub page_address : Address → Address
 page_address at = record { 0 = page_start at }
 
-abbrev pub finished_cells : Operation → Address → List ℕ → List ℕ → List ℕ
-finished_cells Idle at page cells = cells
-finished_cells WritesStatus at page cells = cells
-finished_cells Programs at page cells = programmed cells (page_address at) page
-finished_cells ErasesSector at page cells = sector_erased cells (sector_of at)
-finished_cells ErasesHalf at page cells = half_block_erased cells (half_block_of at)
-finished_cells ErasesBlock at page cells = block_erased cells (block_of at)
-finished_cells ErasesChip at page cells = all_erased cells
+abbrev pub finished_cells : Option Operation → Address → List ℕ → List ℕ → List ℕ
+finished_cells None at page cells = cells
+finished_cells (Some WritesStatus) at page cells = cells
+finished_cells (Some Programs) at page cells = programmed cells (page_address at) page
+finished_cells (Some ErasesSector) at page cells = sector_erased cells (sector_of at)
+finished_cells (Some ErasesHalf) at page cells = half_block_erased cells (half_block_of at)
+finished_cells (Some ErasesBlock) at page cells = block_erased cells (block_of at)
+finished_cells (Some ErasesChip) at page cells = all_erased cells
 
 -- a second data byte: bits 7, 6, 4, 1 and 0 are replaced, TB (bit 3) can only become 1, bits 5 and 2 are reserved and 0 (003 L840-843, L828-864)
 unfoldable pub config_written : ℕ → ℕ → ℕ
@@ -62,17 +62,17 @@ keeping s srwd bp config =
 unfoldable pub written : ℕ → State → List ℕ → State
 written n s page = keeping s (leb 128 (get_or page 0 0)) (get_or page 0 0 / 4 % ((model_of n).highest_bp + 1)) (config_after n s page)
 
-abbrev pub finished_bits : ℕ → Operation → State → List ℕ → State
-finished_bits n Idle s page = s
-finished_bits n WritesStatus s page = written n s page
-finished_bits n Programs s page = s
-finished_bits n ErasesSector s page = s
-finished_bits n ErasesHalf s page = s
-finished_bits n ErasesBlock s page = s
-finished_bits n ErasesChip s page = s
+abbrev pub finished_bits : ℕ → Option Operation → State → List ℕ → State
+finished_bits n None s page = s
+finished_bits n (Some WritesStatus) s page = written n s page
+finished_bits n (Some Programs) s page = s
+finished_bits n (Some ErasesSector) s page = s
+finished_bits n (Some ErasesHalf) s page = s
+finished_bits n (Some ErasesBlock) s page = s
+finished_bits n (Some ErasesChip) s page = s
 
 -- the operation that a state runs, and its address
-abbrev pub runs : ℕ → State → Operation
+abbrev pub runs : ℕ → State → Option Operation
 runs n s = started_by n s.command
 
 abbrev pub runs_at : State → Address
@@ -91,24 +91,24 @@ finished n x =
 
 -- ---- the power was cut
 -- how many pattern bytes there have to be: one a cell of the unit, one a data byte of a status write
-abbrev pub pattern_length : Operation → ℕ → ℕ → ℕ
-pattern_length Idle count n = 0
-pattern_length WritesStatus count n = count
-pattern_length Programs count n = 256
-pattern_length ErasesSector count n = 4096
-pattern_length ErasesHalf count n = 32768
-pattern_length ErasesBlock count n = 65536
-pattern_length ErasesChip count n = n
+abbrev pub pattern_length : Option Operation → ℕ → ℕ → ℕ
+pattern_length None count n = 0
+pattern_length (Some WritesStatus) count n = count
+pattern_length (Some Programs) count n = 256
+pattern_length (Some ErasesSector) count n = 4096
+pattern_length (Some ErasesHalf) count n = 32768
+pattern_length (Some ErasesBlock) count n = 65536
+pattern_length (Some ErasesChip) count n = n
 
 -- the cells: of a program each bit that was to change has its pattern bit, an erased unit holds the pattern
-abbrev pub cut_cells : Operation → Address → List ℕ → List ℕ → List ℕ → List ℕ
-cut_cells Idle at page pattern cells = cells
-cut_cells WritesStatus at page pattern cells = cells
-cut_cells Programs at page pattern cells = page_torn cells at page pattern
-cut_cells ErasesSector at page pattern cells = lay cells (sector_start (sector_of at)) pattern
-cut_cells ErasesHalf at page pattern cells = lay cells (half_block_start (half_block_of at)) pattern
-cut_cells ErasesBlock at page pattern cells = lay cells (block_start (block_of at)) pattern
-cut_cells ErasesChip at page pattern cells = lay cells 0 pattern
+abbrev pub cut_cells : Option Operation → Address → List ℕ → List ℕ → List ℕ → List ℕ
+cut_cells None at page pattern cells = cells
+cut_cells (Some WritesStatus) at page pattern cells = cells
+cut_cells (Some Programs) at page pattern cells = page_torn cells at page pattern
+cut_cells (Some ErasesSector) at page pattern cells = lay cells (sector_start (sector_of at)) pattern
+cut_cells (Some ErasesHalf) at page pattern cells = lay cells (half_block_start (half_block_of at)) pattern
+cut_cells (Some ErasesBlock) at page pattern cells = lay cells (block_start (block_of at)) pattern
+cut_cells (Some ErasesChip) at page pattern cells = lay cells 0 pattern
 
 -- SRWD and BP at their places in the status byte
 abbrev pub bits_of : State → ℕ
@@ -121,14 +121,14 @@ torn_bits n s page pattern =
     let b : ℕ = torn (bits_of s) (bits_of new) (get_or pattern 0 0) in
     keeping s (leb 128 b) (b / 4 % ((model_of n).highest_bp + 1)) (torn s.config new.config (get_or pattern 1 0))
 
-abbrev pub cut_bits : ℕ → Operation → State → List ℕ → List ℕ → State
-cut_bits n Idle s page pattern = s
-cut_bits n WritesStatus s page pattern = torn_bits n s page pattern
-cut_bits n Programs s page pattern = s
-cut_bits n ErasesSector s page pattern = s
-cut_bits n ErasesHalf s page pattern = s
-cut_bits n ErasesBlock s page pattern = s
-cut_bits n ErasesChip s page pattern = s
+abbrev pub cut_bits : ℕ → Option Operation → State → List ℕ → List ℕ → State
+cut_bits n None s page pattern = s
+cut_bits n (Some WritesStatus) s page pattern = torn_bits n s page pattern
+cut_bits n (Some Programs) s page pattern = s
+cut_bits n (Some ErasesSector) s page pattern = s
+cut_bits n (Some ErasesHalf) s page pattern = s
+cut_bits n (Some ErasesBlock) s page pattern = s
+cut_bits n (Some ErasesChip) s page pattern = s
 
 -- the chip that it leaves, before it is powered again
 unfoldable pub torn_chip : ℕ → Chip → List ℕ → Chip

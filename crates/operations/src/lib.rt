@@ -5,33 +5,33 @@ ghost use Rattle.std.specs.Prelude.{◌≡◌, true, ◌≤◌, length};
 ghost use Rattle.models.specs.Models.{model_of};
 ghost use Rattle.states.specs.States.{place_ok, chip_of};
 ghost use Rattle.operations.specs.Operations.{forgotten, finished, torn_chip, finished_cells, config_written, config_after, keeping, written, finished_bits, runs, pattern_length, cut_cells, torn_bits, cut_bits, bits_of};
-ghost use Rattle.operations.specs.ContractForms.{Operable, Left};
+ghost use Rattle.operations.specs.ContractForms.{Operable, Left, BpFits};
 
 use commands::Operation;
 use states::State;
-use units::Address;
+use units::{Address, EraseUnit};
 
 // ---- it has finished
 
 // The cells after it.
-fn finish_cells(model: u32, op: Operation, at: Address, page: &[u8], array: &mut [u8])
+fn finish_cells(model: u32, op: Option<Operation>, at: Address, page: &[u8], array: &mut [u8])
     requires { (length array.old ≡ (model_of model).length) × (place_ok model op at.0 ≡ true) × (length page.now ≡ 256) }
     ensures { array.new ≡ finished_cells op at page.now array.old }
 {
     match op {
-        Operation::Idle => {}
-        Operation::WritesStatus => {}
-        Operation::Programs => {
+        None | Some(Operation::WritesStatus) => {}
+        Some(Operation::Programs) => {
             flash::program(array, at.page_start(), page);
         }
-        Operation::ErasesSector => flash::erase_sector(array, at.in_sector()),
-        Operation::ErasesHalf => flash::erase_half_block(array, at.in_half_block()),
-        Operation::ErasesBlock => flash::erase_block(array, at.in_block()),
-        Operation::ErasesChip => flash::erase_all(array),
+        Some(Operation::ErasesSector) => flash::erase(array, at.in_sector()),
+        Some(Operation::ErasesHalf) => flash::erase(array, at.in_half_block()),
+        Some(Operation::ErasesBlock) => flash::erase(array, at.in_block()),
+        Some(Operation::ErasesChip) => flash::erase_all(array),
     }
 }
 
 // The configuration register after a second data byte.
+#[tactic(auto, unfolding(crate::specs::Operations::config_written))]
 fn config_written(old: u8, byte: u8) -> u8
     ensures { result ≡ config_written old byte }
 {
@@ -40,6 +40,7 @@ fn config_written(old: u8, byte: u8) -> u8
 }
 
 // The configuration register after a status write: without a second data byte, and on a model without the register, it stays.
+#[tactic(auto, unfolding(crate::specs::Operations::config_after))]
 fn config_after(model: u32, st: State, page: &[u8]) -> u8
     ensures { result ≡ config_after model st page.now }
 {
@@ -53,14 +54,16 @@ fn config_after(model: u32, st: State, page: &[u8]) -> u8
 fn keep(st: State, srwd: bool, bp: u8, config: u8) -> State
     ensures { result ≡ keeping st srwd bp config }
 {
-    let mut next = st;
-    next.srwd = srwd;
-    next.bp = bp;
-    next.config = config;
-    next
+    State {
+        srwd,
+        bp,
+        config,
+        ..st
+    }
 }
 
 // A status write's data bytes are written.
+#[tactic(auto, unfolding(crate::specs::Operations::written))]
 fn write(model: u32, st: State, page: &[u8]) -> State
     ensures { result ≡ written model st page.now }
 {
@@ -75,82 +78,89 @@ fn write(model: u32, st: State, page: &[u8]) -> State
 }
 
 // The kept bits after it.
-fn finish_bits(model: u32, op: Operation, st: State, page: &[u8]) -> State
+fn finish_bits(model: u32, op: Option<Operation>, st: State, page: &[u8]) -> State
     ensures { result ≡ finished_bits model op st page.now }
 {
-    match op {
-        Operation::Idle => st,
-        Operation::WritesStatus => write(model, st, page),
-        Operation::Programs => st,
-        Operation::ErasesSector => st,
-        Operation::ErasesHalf => st,
-        Operation::ErasesBlock => st,
-        Operation::ErasesChip => st,
+    if op == Some(Operation::WritesStatus) {
+        return write(model, st, page);
     }
+    st
 }
 
 // The operation is forgotten, and WEL clears.
+#[tactic(auto, unfolding(crate::specs::Operations::forgotten))]
 fn forget(st: State) -> State
     ensures { result ≡ forgotten st }
 {
-    let mut next = st;
-    next.wel = false;
-    next.busy = 0;
-    next.command = 0xFF;
-    next.address = 0xFFFFFF;
-    next
+    State {
+        wel: false,
+        busy: 0,
+        command: 0xFF,
+        address: 0xFFFFFF,
+        ..st
+    }
 }
 
 // The time of the operation that runs, op, has run out: its cells and kept bits change, and it is forgotten.
-pub fn finish(model: u32, op: Operation, st: State, page: &mut [u8], array: &mut [u8]) -> State
+#[tactic(auto, unfolding(crate::specs::Operations::finished))]
+pub fn finish(
+    model: u32,
+    op: Option<Operation>,
+    st: State,
+    page: &mut [u8],
+    array: &mut [u8],
+) -> State
     requires { (op ≡ runs model st) × Operable model st page.old array.old }
     ensures { Left (finished model (chip_of st page.old array.old)) result page.new array.new }
 {
     finish_cells(model, op, Address(st.address), page, array);
     let kept = finish_bits(model, op, st, page);
-    parts::fill(page, 0xFF);
+    page.fill(0xFF);
     forget(kept)
 }
 
 // ---- the power was cut
 
 // How many pattern bytes there have to be, of an array of n cells.
-pub fn pattern_length(op: Operation, count: u32, n: usize) -> usize
+pub fn pattern_length(op: Option<Operation>, count: u32, n: usize) -> usize
     ensures { result ≡ pattern_length op count n }
 {
     match op {
-        Operation::Idle => 0,
-        Operation::WritesStatus => count as usize,
-        Operation::Programs => 256,
-        Operation::ErasesSector => 4096,
-        Operation::ErasesHalf => 32768,
-        Operation::ErasesBlock => 65536,
-        Operation::ErasesChip => n,
+        None => 0,
+        Some(Operation::WritesStatus) => count as usize,
+        Some(Operation::Programs) => 256,
+        Some(Operation::ErasesSector) => 4096,
+        Some(Operation::ErasesHalf) => 32768,
+        Some(Operation::ErasesBlock) => 65536,
+        Some(Operation::ErasesChip) => n,
     }
 }
 
 // The cells that it leaves.
-fn cut_cells(model: u32, op: Operation, at: Address, page: &[u8], pattern: &[u8], array: &mut [u8])
+fn cut_cells(
+    model: u32,
+    op: Option<Operation>,
+    at: Address,
+    page: &[u8],
+    pattern: &[u8],
+    array: &mut [u8],
+)
     requires { (length array.old ≡ (model_of model).length) × (place_ok model op at.0 ≡ true) × (length page.now ≡ 256) × (length pattern.now ≡ pattern_length op at.0 (length array.old)) }
     ensures { array.new ≡ cut_cells op at page.now pattern.now array.old }
 {
     match op {
-        Operation::Idle => {}
-        Operation::WritesStatus => {}
-        Operation::Programs => flash::tear_page(array, at, page, pattern),
-        Operation::ErasesSector => {
-            let unit = at.in_sector();
-            flash::leave(array, unit.first_address(), pattern);
+        None | Some(Operation::WritesStatus) => {}
+        Some(Operation::Programs) => flash::tear_page(array, at, page, pattern),
+        Some(Operation::ErasesSector) => {
+            flash::leave(array, at.in_sector().first_address(), pattern);
         }
-        Operation::ErasesHalf => {
-            let unit = at.in_half_block();
-            flash::leave(array, unit.first_address(), pattern);
+        Some(Operation::ErasesHalf) => {
+            flash::leave(array, at.in_half_block().first_address(), pattern);
         }
-        Operation::ErasesBlock => {
-            let unit = at.in_block();
-            flash::leave(array, unit.first_address(), pattern);
+        Some(Operation::ErasesBlock) => {
+            flash::leave(array, at.in_block().first_address(), pattern);
         }
-        Operation::ErasesChip => flash::leave(array, Address(0), pattern),
+        Some(Operation::ErasesChip) => flash::leave(array, Address(0), pattern),
     }
 }
 
@@ -163,8 +173,9 @@ fn bits_of(st: State) -> u8
 }
 
 // What is left of a status write.
+#[tactic(auto, unfolding(crate::specs::Operations::torn_bits))]
 fn tear_bits(model: u32, st: State, page: &[u8], pattern: &[u8]) -> State
-    requires { st.bp ≤ (model_of model).highest_bp }
+    requires { BpFits model st }
     ensures { result ≡ torn_bits model st page.now pattern.now }
 {
     let row = models::model_of(model);
@@ -175,35 +186,31 @@ fn tear_bits(model: u32, st: State, page: &[u8], pattern: &[u8]) -> State
 }
 
 // The kept bits that it leaves.
-fn cut_bits(model: u32, op: Operation, st: State, page: &[u8], pattern: &[u8]) -> State
-    requires { st.bp ≤ (model_of model).highest_bp }
+fn cut_bits(model: u32, op: Option<Operation>, st: State, page: &[u8], pattern: &[u8]) -> State
+    requires { BpFits model st }
     ensures { result ≡ cut_bits model op st page.now pattern.now }
 {
-    match op {
-        Operation::Idle => st,
-        Operation::WritesStatus => tear_bits(model, st, page, pattern),
-        Operation::Programs => st,
-        Operation::ErasesSector => st,
-        Operation::ErasesHalf => st,
-        Operation::ErasesBlock => st,
-        Operation::ErasesChip => st,
+    if op == Some(Operation::WritesStatus) {
+        return tear_bits(model, st, page, pattern);
     }
+    st
 }
 
 // The power is cut while op runs: the unit or the kept bits have what the pattern leaves, and no page data are left.
+#[tactic(auto, unfolding(crate::specs::Operations::torn_chip))]
 pub fn tear(
     model: u32,
-    op: Operation,
+    op: Option<Operation>,
     st: State,
     page: &mut [u8],
     array: &mut [u8],
     pattern: &[u8],
 ) -> State
-    requires { (op ≡ runs model st) × (Operable model st page.old array.old) × (st.bp ≤ (model_of model).highest_bp) × (length pattern.now ≡ pattern_length (runs model st) st.address (length array.old)) }
+    requires { (op ≡ runs model st) × (Operable model st page.old array.old) × (BpFits model st) × (length pattern.now ≡ pattern_length (runs model st) st.address (length array.old)) }
     ensures { Left (torn_chip model (chip_of st page.old array.old) pattern.now) result page.new array.new }
 {
     cut_cells(model, op, Address(st.address), page, pattern, array);
     let kept = cut_bits(model, op, st, page, pattern);
-    parts::fill(page, 0xFF);
+    page.fill(0xFF);
     kept
 }

@@ -1,11 +1,12 @@
 -- Laws of the packed state.
 use mathlib.Core.Path.{◌≡◌, refl, sym, ap, ◌∙◌}
 use mathlib.Core.Bool.{Bool, true, false, not, ◌&&◌, and-true, and_assoc}
-use mathlib.Core.List.{List, [], ◌∷◌, ◌++◌}
+use mathlib.Core.List.{List, [], ◌∷◌, ◌++◌, append_assoc}
 use Prim.Native.Nat.{ℕ, zero, suc, ◌+◌, ◌/◌, ◌%◌, ◌^◌, ◌≤◌, ◌<◌}
 use native.Mathlib.Omega.{arith}
 use lib.Dec.{eqb, leb}
-use lib.ListN.{length, get_or, take, drop, take-append-drop}
+use lib.ListN.{length, get_or, take, drop, take-append-drop, length-set}
+use borrow.Rule.Slice.PartMut.{put_mid}
 use lib.Seq.{sets, sets-eq, take-add, drop-drop}
 use mir.Val.{bool_byte}
 use borrow.Author.Tests.{eqb-true, eq-eqb, ne_eqb}
@@ -59,8 +60,23 @@ stores-pack s e =
     let times = ap (time_bytes s.busy) (time-bytes s.settle (operation_bytes s)) ∙ time-bytes s.busy (bytes_of 4 s.settle ++ operation_bytes s) in
     rw (e, flag-byte s.asleep) (ap (λ (us : List ℕ). status_of s ∷ flag s.asleep 1 ∷ s.config ∷ 0 ∷ us) times)
 
-pub stored : (s : State) (xs : List ℕ) {status : ℕ} → length xs ≡ 272 → status ≡ status_of s → sets xs 0 (stores s status) ≡ packed s (page_in xs)
-stored s xs {status} n e = sets-eq (stores s status) xs 0 (omega arith) ∙ ap (λ (ys : List ℕ). ys ++ page_in xs) (stores-pack s e)
+sixteen : (s : State) (xs : List ℕ) {status : ℕ} → length xs ≡ 272 → status ≡ status_of s → sets xs 0 (stores s status) ≡ packed s (page_in xs)
+sixteen s xs {status} n e = sets-eq (stores s status) xs 0 (omega arith) ∙ ap (λ (ys : List ℕ). ys ++ page_in xs) (stores-pack s e)
+
+-- a run of bytes laid into a list is stored one after the other
+run-sets : (k : ℕ) (xs ys : List ℕ) → k + length ys ≤ length xs → put_mid k (length ys) xs ys ≡ sets xs k ys
+run-sets k xs ys h = ap (λ (zs : List ℕ). take k xs ++ (ys ++ zs)) (drop-drop (length ys) k xs) ∙ sym (append_assoc (take k xs) ys (drop (k + length ys) xs)) ∙ sym (sets-eq ys xs k h)
+
+pub stored : (s : State) (xs : List ℕ) {status : ℕ} {busy settle : List ℕ} → length xs ≡ 272 → status ≡ status_of s
+    → busy ≡ time_bytes s.busy [] → settle ≡ time_bytes s.settle []
+    → sets (put_mid 8 4 (put_mid 4 4 (sets xs 0 (status ∷ bool_byte s.asleep ∷ s.config ∷ 0 ∷ [])) busy) settle) 12 (operation_bytes s) ≡ packed s (page_in xs)
+stored s xs {status} n e f g =
+    let four : List ℕ = sets xs 0 (status ∷ bool_byte s.asleep ∷ s.config ∷ 0 ∷ []) in
+    let eight : List ℕ = sets four 4 (time_bytes s.busy []) in
+    rw (f, g)
+    (ap (λ (zs : List ℕ). sets (put_mid 8 4 zs (time_bytes s.settle [])) 12 (operation_bytes s)) (run-sets 4 four (time_bytes s.busy []) (simp length-set (omega arith)))
+    ∙ ap (λ (zs : List ℕ). sets zs 12 (operation_bytes s)) (run-sets 8 eight (time_bytes s.settle []) (simp length-set (omega arith)))
+    ∙ sixteen s xs n e)
 
 -- ---- what is a packing
 packing-both : (xs : List ℕ) → is_packing xs ≡ true → (length xs ≡ 272) × (take 16 xs ≡ pack_of (read_of xs))

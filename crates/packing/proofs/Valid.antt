@@ -1,4 +1,5 @@
 -- A valid state is a packing's, and fits sixteen bytes.
+use Rattle.std.specs.Prelude.{Option, Some, None}
 use mathlib.Core.Path.{◌≡◌, refl, sym, ◌∙◌}
 use mathlib.Core.Bool.{Bool, true, false, ◌&&◌, true≢false}
 use mathlib.Core.List.{List}
@@ -12,7 +13,7 @@ use Rattle.models.specs.Models.{model_of}
 use Rattle.models.proofs.Rules.{highest-bp, row-rules}
 use Rattle.commands.specs.Commands.{started_by}
 use Rattle.commands.specs.declared.Operation.{Operation}
-use Rattle.commands.specs.declared.Operation.TheVariants.{Idle, WritesStatus, Programs, ErasesSector, ErasesHalf, ErasesBlock, ErasesChip}
+use Rattle.commands.specs.declared.Operation.TheVariants.{WritesStatus, Programs, ErasesSector, ErasesHalf, ErasesBlock, ErasesChip}
 use Rattle.states.specs.States.{record_ok, place_ok, no_address, state_ok}
 use Rattle.states.specs.declared.Record.{Record}
 use Rattle.states.specs.declared.State.{State}
@@ -41,15 +42,15 @@ invalid rec xs n = go (state_ok rec (unpack_of xs)) refl
 near-below : (n place : ℕ) → ltb place (model_of n).length ≡ true → place < 2 ^ 24
 near-below n place e = omega (arith, ltb-true place (model_of n).length e, (row-rules n).reach)
 
-pub place-near : (n : ℕ) (op : Operation) (place : ℕ) → place_ok n op place ≡ true → place < 2 ^ 24
-place-near n Idle place e = omega (arith, eqb-true place no_address e)
-place-near n WritesStatus place e =
+pub place-near : (n : ℕ) (op : Option Operation) (place : ℕ) → place_ok n op place ≡ true → place < 2 ^ 24
+place-near n None place e = omega (arith, eqb-true place no_address e)
+place-near n (Some WritesStatus) place e =
     ⊎_elim (λ h. omega (arith, eqb-true place 1 h)) (λ h. omega (arith, eqb-true place 2 (both (model_of n).register (eqb place 2) h).1)) (either (eqb place 1) ((model_of n).register && eqb place 2) e)
-place-near n Programs place e = near-below n place e
-place-near n ErasesSector place e = near-below n place e
-place-near n ErasesHalf place e = near-below n place e
-place-near n ErasesBlock place e = near-below n place e
-place-near n ErasesChip place e = omega (arith, eqb-true place no_address e)
+place-near n (Some Programs) place e = near-below n place e
+place-near n (Some ErasesSector) place e = near-below n place e
+place-near n (Some ErasesHalf) place e = near-below n place e
+place-near n (Some ErasesBlock) place e = near-below n place e
+place-near n (Some ErasesChip) place e = omega (arith, eqb-true place no_address e)
 
 pub valid-small : (rec : Record) (s : State) → record_ok rec ≡ true → state_ok rec s ≡ true → Small s
 valid-small rec s r v =

@@ -1,13 +1,13 @@
 -- A loop that stores, at its turn i, f i x in the place of the element x at i.
 use mathlib.Core.Path.{◌≡◌, refl, sym, ap, ◌∙◌}
 use mathlib.Core.Bool.{Bool, true, false}
-use mathlib.Core.List.{List, [], ◌∷◌, ◌++◌, append-nil}
+use mathlib.Core.List.{List, [], ◌∷◌}
 use Prim.Native.Nat.{ℕ, zero, suc, ◌+◌, ◌≤◌, ◌<◌}
 use native.Mathlib.Nat.{le_refl, not-suc-le-zero, le_of_suc-le-suc, add-zero, add-suc, suc-add}
 use native.Mathlib.Omega.{arith}
 use lib.Dec.{eqb}
-use lib.ListN.{length, drop, get_or, set, replicate, length-set}
-use lib.Seq.{drop-length, get_or-set_same, get_or-set_other, ext_get_or}
+use lib.ListN.{length, get_or, set, length-set}
+use lib.Seq.{get_or-set_same, get_or-set_other, ext_get_or}
 use borrow.Author.Tests.{eqb-true, eqb-false}
 use Rattle.parts.specs.Parts.{map_from, by_index}
 
@@ -63,7 +63,3 @@ module _ (f : ℕ → ℕ → ℕ) where
 -- all of src is copied
 pub copied : (src : List ℕ) (i : ℕ) (d xs : List ℕ) → Done (λ (k old : ℕ). get_or src k 0) i d xs → length d ≤ i → length d ≡ length src → xs ≡ src
 copied src i d xs h l e = ext_get_or 0 xs src (h.same ∙ e) (λ k m. h.passed k (omega (arith, h.same)))
-
--- all of d is filled
-pub filled : (v i : ℕ) (xs d : List ℕ) → xs ≡ replicate i v ++ drop i d → i ≡ length d → xs ≡ replicate (length d) v
-filled v i xs d h e = h ∙ rw (e, drop-length d) (append-nil (replicate (length d) v))

@@ -1,3 +1,3 @@
--- `Choices`: a choice by its Bool; `Table`: one sample, a law a way of the code.
+-- `Choices`: a choice by its Bool; `Table`: one sample.
 pub mod Choices
 pub mod Table

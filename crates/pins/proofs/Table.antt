@@ -1,4 +1,4 @@
--- Laws of one sample, one for each way that the code goes.
+-- Laws of one sample: the rows of the table, and that a front that is right stays so.
 use mathlib.Core.Path.{◌≡◌, refl, sym, ap, subst, ◌∙◌}
 use mathlib.Core.Bool.{Bool, true, false, not, ◌&&◌, ◌||◌, true≢false, false≢true}
 use mathlib.Core.List.{List}
@@ -7,34 +7,22 @@ use native.Mathlib.Nat.{two-pow-succ}
 use native.Mathlib.Numerals.{add-one}
 use native.Mathlib.Omega.{arith}
 use lib.Dec.{eqb, leb, ltb}
-use lib.ListN.{length, set, length-set}
+use lib.ListN.{length, length-set}
 use lib.Pow.{pow_mono}
-use borrow.Author.Tests.{not-true, ltb-true, leb-true, eqb-true, le-leb, lt-leb, lt-ltb, le-ltb}
-use Rattle.answers.specs.declared.Answer.TheVariants.{BadState, BadFrame, InHold}
+use borrow.Author.Tests.{not-true, ltb-true, leb-true, eqb-true, le-leb, lt-ltb}
 use Rattle.units.proofs.Bools.{both}
 use Rattle.pins.specs.declared.Front.{Front}
-use Rattle.pins.specs.declared.Told.{Told}
-use Rattle.pins.specs.declared.Stepped.{Stepped}
-use Rattle.pins.specs.Pins.{select_of, clock_of, si_of, wp_of, hold_of, is_held, frame_limit, front_ok, Sound, refused, silent, handed, idle, in_frame, fallen, Sampled, sampled, risen_of, bit_taken, takes_bit, clocked_of, step_of, stepped_of, Senses, Clocks}
+use Rattle.pins.specs.Pins.{select_of, si_of, wp_of, is_held, frame_limit, front_ok, Sound, silent, idle, in_frame, fallen, Sampled, sampled, risen_of, bit_taken, takes_bit, clocked_of, step_of}
 use Rattle.pins.proofs.Choices.{on-true, on-false}
 
 -- ---- powers of two
 power : (n : ℕ) → n ≤ 7 → 2 ^ n ≤ 128
 power n h = pow_mono h
 
-shifted : (n : ℕ) → n ≤ 7 → 1 * 2 ^ n % 4294967296 ≡ 2 ^ n
+pub shifted : (n : ℕ) → n ≤ 7 → 1 * 2 ^ n % 4294967296 ≡ 2 ^ n
 shifted n h = let p : 2 ^ n ≤ 128 = power n h in omega arith
 
 -- ---- the fronts that are right
-pub not-few : (f : Front) → 7 < f.bits → false ≡ front_ok f
-unfolding front_ok
-not-few f h = rw (lt-leb f.bits 7 h)
-
-pub tests : (f : Front) (w : ℕ) → f.bits ≤ 7 → w ≡ f.value →
-    (ltb w (1 * 2 ^ f.bits % 4294967296) && (leb f.bytes 65541 && ((not f.select || (not f.wp && not f.outgrown)) && (not (f.select || f.outgrown) || (eqb f.bits 0 && eqb f.bytes 0))))) ≡ front_ok f
-unfolding front_ok
-tests f w h e = rw (e, shifted f.bits h, le-leb f.bits 7 h)
-
 or-true : (a b : Bool) → (not a || b) ≡ true → a ≡ true → b ≡ true
 or-true true b e h = e
 or-true false b e h = absurd (true≢false (sym h))
@@ -83,59 +71,10 @@ bit-fits f l s = let p : 2 ^ f.bits ≤ 128 = power f.bits s.few in omega (arith
 pub bit-short : (f : Front) (l : ℕ) → Sound f → 2 * f.value + si_of l < 2 ^ (f.bits + 1)
 bit-short f l s = rw (add-one f.bits, two-pow-succ f.bits) (omega (arith, s.short))
 
--- ---- held
-pub held_high : (before : Bool) (l : ℕ) → clock_of l ≡ true → before ≡ is_held before l
-held_high before l e = rw e
-
-pub held_low : (before : Bool) (l : ℕ) → clock_of l ≡ false → not (hold_of l) ≡ is_held before l
-held_low before l e = rw e
-
--- ---- CS# rises
-pub risen-held : (f : Front) (room : ℕ) → f.held ≡ true → refused InHold ≡ risen_of f room
-unfolding risen_of
-risen-held f room h = rw h
-
-pub risen-out : (f : Front) (room : ℕ) → f.held ≡ false → (f.outgrown || ltb room f.bytes) ≡ true → refused BadFrame ≡ risen_of f room
-unfolding risen_of
-risen-out f room h o = rw (h, o)
-
-pub risen-ready : (f : Front) (room w : ℕ) → f.held ≡ false → (f.outgrown || ltb room f.bytes) ≡ false → w ≡ f.bits → handed f.bytes w f.wp ≡ risen_of f room
-unfolding risen_of
-risen-ready f room w h o e = rw (h, o, e)
-
--- ---- CS# stays low
-module _ (f : Front) (l : ℕ) (buffer : List ℕ) (held : Bool) (now : held ≡ is_held f.held l) where
-  abbrev took : Bool
-  took = not f.clock && (clock_of l && (not held && not f.outgrown))
-
-  pub clock-kept : (r : Front) → took ≡ false → r ≡ in_frame f.wp l held f.outgrown f.bits f.value f.bytes → Clocks (clocked_of f l buffer) r buffer
-  unfolding clocked_of
-  clock-kept r t e = let u : takes_bit f l ≡ false = rw now at t in record { front-is = e ∙ rw (u, now); buffer-is = rw u }
-
-  grown : took ≡ true → f.outgrown ≡ false
-  grown t = not-true f.outgrown (both (not held) (not f.outgrown) (both (clock_of l) (not held && not f.outgrown) (both (not f.clock) (clock_of l && (not held && not f.outgrown)) t).1).1).1
-
-  pub clock-bit : (r : Front) → took ≡ true → f.bits < 7 → r ≡ in_frame f.wp l held false (f.bits + 1) (2 * f.value + si_of l) f.bytes → Clocks (clocked_of f l buffer) r buffer
-  unfolding clocked_of bit_taken
-  clock-bit r t h e = let u : takes_bit f l ≡ true = rw now at t in record { front-is = e ∙ rw (u, lt-ltb f.bits 7 h, now); buffer-is = rw (u, lt-ltb f.bits 7 h) }
-
-  pub clock-byte : (r : Front) → took ≡ true → 7 ≤ f.bits → (ltb f.bytes 65541 && ltb f.bytes (length buffer)) ≡ true → r ≡ in_frame f.wp l held false 0 0 (f.bytes + 1)
-      → Clocks (clocked_of f l buffer) r (set buffer f.bytes (2 * f.value + si_of l))
-  unfolding clocked_of bit_taken
-  clock-byte r t h k e = let u : takes_bit f l ≡ true = rw now at t in record { front-is = e ∙ rw (u, le-ltb f.bits 7 h, k, now); buffer-is = rw (u, le-ltb f.bits 7 h, k) }
-
-  pub clock-out : (r : Front) → took ≡ true → 7 ≤ f.bits → (ltb f.bytes 65541 && ltb f.bytes (length buffer)) ≡ false → r ≡ in_frame f.wp l held true 0 0 0
-      → Clocks (clocked_of f l buffer) r buffer
-  unfolding clocked_of bit_taken
-  clock-out r t h k e = let u : takes_bit f l ≡ true = rw now at t in record { front-is = e ∙ rw (u, le-ltb f.bits 7 h, k, now); buffer-is = rw (u, le-ltb f.bits 7 h, k) }
-
 -- ---- the table
-same : {e e' : Sampled} {r : Stepped} {after : List ℕ} → e' ≡ e → Senses e r after → Senses e' r after
-same {e} {e'} {r} {after} p g = subst (λ (x : Sampled). Senses x r after) (sym p) g
-
-pub clocked-silent : (f : Front) (l : ℕ) (buffer : List ℕ) → (clocked_of f l buffer).told ≡ silent
+pub clocked_silent : (f : Front) (l : ℕ) (buffer : List ℕ) → (clocked_of f l buffer).told ≡ silent
 unfolding clocked_of bit_taken
-clocked-silent f l buffer = go (takes_bit f l) refl (ltb f.bits 7) refl (ltb f.bytes frame_limit && ltb f.bytes (length buffer)) refl
+clocked_silent f l buffer = go (takes_bit f l) refl (ltb f.bits 7) refl (ltb f.bytes frame_limit && ltb f.bytes (length buffer)) refl
   where
     go : (a : Bool) → takes_bit f l ≡ a → (b : Bool) → ltb f.bits 7 ≡ b → (c : Bool) → (ltb f.bytes frame_limit && ltb f.bytes (length buffer)) ≡ c → (clocked_of f l buffer).told ≡ silent
     go false p b q c r = rw p
@@ -162,40 +101,6 @@ module _ (f : Front) (l : ℕ) (buffer : List ℕ) where
   pub step-low : f.select ≡ false → select_of l ≡ false → step_of f l buffer ≡ clocked_of f l buffer
   unfolding step_of
   step-low p q = on-false f.select _ _ p ∙ on-false (select_of l) _ _ q
-
-  pub gives-clocked : (g : Front) (t : Told) (after : List ℕ) → (not f.select && not (select_of l)) ≡ true → Clocks (clocked_of f l buffer) g after → t ≡ silent
-      → Senses (step_of f l buffer) (record { front = g; told = t }) after
-  gives-clocked g t after h k e =
-      let b = both (not f.select) (not (select_of l)) h in
-      same (step-low (not-true f.select b.0) (not-true (select_of l) b.1))
-      (record { front-is = k.front-is; told_is = e ∙ sym (clocked-silent f l buffer); buffer-is = k.buffer-is })
-
-  module _ (held : Bool) (now : held ≡ is_held f.held l) where
-    pub gives-fall : (g : Front) (t : Told) → (not f.select && not (select_of l)) ≡ false → not (select_of l) ≡ true → g ≡ fallen l held → t ≡ silent
-        → Senses (step_of f l buffer) (record { front = g; told = t }) buffer
-    gives-fall g t h u k e =
-        let q : select_of l ≡ false = not-true (select_of l) u in
-        let p : f.select ≡ true = high f.select (rw q at h) in
-        same (step-fall p q) (record { front-is = k ∙ rw now; told_is = e; buffer-is = refl })
-      where
-        high : (a : Bool) → (not a && true) ≡ false → a ≡ true
-        high true e = refl
-        high false e = absurd (true≢false e)
-
-    pub gives-high : (g : Front) (t : Told) → select_of l ≡ true → f.select ≡ true → g ≡ idle l held → t ≡ silent → Senses (step_of f l buffer) (record { front = g; told = t }) buffer
-    gives-high g t q p k e = same (step-high p q) (record { front-is = k ∙ rw now; told_is = e; buffer-is = refl })
-
-    pub gives-rise : (g : Front) (t : Told) → select_of l ≡ true → f.select ≡ false → g ≡ idle l held → t ≡ risen_of f (length buffer)
-        → Senses (step_of f l buffer) (record { front = g; told = t }) buffer
-    gives-rise g t q p k e = same (step-rise p q) (record { front-is = k ∙ rw now; told_is = e; buffer-is = refl })
-
-  pub gives-wrong : (t : Told) → front_ok f ≡ false → t ≡ refused BadState → Senses (stepped_of f l buffer) (record { front = f; told = t }) buffer
-  unfolding stepped_of
-  gives-wrong t w e = same (on-false (front_ok f) _ _ w) (record { front-is = refl; told_is = e; buffer-is = refl })
-
-  pub gives-right : (r : Stepped) (after : List ℕ) → front_ok f ≡ true → Senses (step_of f l buffer) r after → Senses (stepped_of f l buffer) r after
-  unfolding stepped_of
-  gives-right r after w g = same (on-true (front_ok f) _ _ w) g
 
 -- ---- a front that is right stays so
 idle-sound : (l : ℕ) (held : Bool) → Sound (idle l held)
@@ -271,6 +176,3 @@ step-length f l buffer = go f.select refl (select_of l) refl
     go true p false q = on _ (step-fall f l buffer p q) refl
     go false p true q = on _ (step-rise f l buffer p q) refl
     go false p false q = on _ (step-low f l buffer p q) (clocked-length f l buffer)
-
-pub gives-length : (f : Front) (l : ℕ) (buffer : List ℕ) {r : Stepped} {after : List ℕ} → Senses (step_of f l buffer) r after → length after ≡ length buffer
-gives-length f l buffer g = ap length g.buffer-is ∙ step-length f l buffer

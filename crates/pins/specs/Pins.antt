@@ -1,11 +1,11 @@
 -- The pins (Req 07): what one sample of levels does (holds: 000 L133-143; bits on the rising clock: 000 L186; WP# and other edges where CS# moves: house).
-use Rattle.std.specs.Prelude.{Bool, true, false, not, ◌&&◌, ◌||◌, cond, List, [], ◌∷◌, ◌≡◌, ℕ, ◌+◌, ◌*◌, ◌/◌, ◌%◌, ◌^◌, ◌<◌, ◌≤◌, eqb, leb, ltb, length, set}
-use Rattle.answers.specs.declared.Answer.{Answer}
-use Rattle.answers.specs.declared.Answer.TheVariants.{Done, BadState, BadFrame, InHold}
-use Rattle.answers.specs.Answers.{is_done}
+use Rattle.std.specs.Prelude.{Bool, true, false, not, ◌&&◌, ◌||◌, cond, List, [], ◌∷◌, ◌≡◌, ℕ, ◌+◌, ◌*◌, ◌/◌, ◌%◌, ◌^◌, ◌<◌, ◌≤◌, eqb, leb, ltb, length, set, Option, Some, None, Result, Ok, Err}
+use Rattle.answers.specs.declared.Refusal.{Refusal}
+use Rattle.answers.specs.declared.Refusal.TheVariants.{BadState, BadFrame, InHold}
+use Rattle.answers.specs.Answers.{Answer, Done}
 use Rattle.answers.specs.Tables.{Rung, ◌gives◌, first_of}
+use Rattle.pins.specs.declared.Frame.{Frame}
 use Rattle.pins.specs.declared.Front.{Front}
-use Rattle.pins.specs.declared.Told.{Told}
 use Rattle.pins.specs.declared.Stepped.{Stepped}
 
 -- ---- the levels of a sample: bit 0 CS#, 1 SCLK, 2 SI, 3 WP#, 4 HOLD#; SI as the bit that it sends
@@ -50,15 +50,41 @@ pub record Sound (f : Front) : Type 0 where
   pub high-none : f.select ≡ true → (f.bits ≡ 0) × (f.bytes ≡ 0)
   pub out_none : f.outgrown ≡ true → (f.bits ≡ 0) × (f.bytes ≡ 0)
 
--- ---- what is told of a sample: an answer alone, or a frame of so many whole bytes, tail bits and that WP#
-abbrev pub refused : Answer → Told
-refused a = record { answer = a; ready = false; bytes = 0; tail = 0; wp = false }
+-- ---- what is told of a sample: nothing, a refusal alone, or a frame of so many whole bytes, tail bits and that WP#
+abbrev pub Told : Type 0
+Told = Result (Option Frame) Refusal
 
 abbrev pub silent : Told
-silent = refused Done
+silent = Ok None
+
+abbrev pub refused : Refusal → Told
+refused r = Err r
 
 abbrev pub handed : ℕ → ℕ → Bool → Told
-handed bytes tail wp = record { answer = Done; ready = true; bytes = bytes; tail = tail; wp = wp }
+handed bytes tail wp = Ok (Some (record { bytes = bytes; tail = tail; wp = wp }))
+
+-- its answer; what is told where that is the answer, t if nothing is refused
+abbrev pub answer_of : Told → Answer
+answer_of (Ok x) = Done
+answer_of (Err r) = Err r
+
+abbrev pub told_by : Answer → Told → Told
+told_by (Ok x) t = t
+told_by (Err r) t = refused r
+
+-- whether a frame is handed over, and that frame; where none is, zeros
+abbrev pub is_ready : Told → Bool
+is_ready (Ok (Some f)) = true
+is_ready (Ok None) = false
+is_ready (Err r) = false
+
+abbrev pub no_frame : Frame
+no_frame = record { bytes = 0; tail = 0; wp = false }
+
+abbrev pub frame_told : Told → Frame
+frame_told (Ok (Some f)) = f
+frame_told (Ok None) = no_frame
+frame_told (Err r) = no_frame
 
 -- ---- the front after a sample
 abbrev pub idle : ℕ → Bool → Front
@@ -86,7 +112,7 @@ abbrev pub rise_rows : Front → ℕ → List Rung
 rise_rows f room = (f.held gives InHold) ∷ ((f.outgrown || ltb room f.bytes) gives BadFrame) ∷ []
 
 unfoldable pub risen_of : Front → ℕ → Told
-risen_of f room = let a : Answer = first_of (rise_rows f room) in cond (is_done a) (handed f.bytes f.bits f.wp) (refused a)
+risen_of f room = told_by (first_of (rise_rows f room)) (handed f.bytes f.bits f.wp)
 
 -- ---- a bit is taken, high bit first; the eighth makes a byte, which goes to its place where it fits, and otherwise the frame has outgrown
 unfoldable pub bit_taken : Front → ℕ → List ℕ → Sampled

@@ -3,14 +3,60 @@
 #![tactic(auto)]
 
 ghost use Rattle.std.specs.Prelude.{◌≡◌};
-ghost use Rattle.pins.specs.Pins.{is_held, front_ok, Sound, silent, refused, idle, in_frame, risen_of, clocked_of, step_of, stepped_of, Senses, Clocks};
+ghost use Rattle.pins.specs.Pins.{select_of, clock_of, si_of, wp_of, hold_of, is_held, front_ok, Sound, idle, fallen, risen_of, clocked_of, step_of, stepped_of, Senses, Clocks};
 
-use answers::Answer;
-use parts::wide;
+use answers::Refusal;
+
+// No frame has more whole bytes.
+pub const FRAME_LIMIT: u32 = 65541;
+
+// The levels of a sample: bit 0 CS#, 1 SCLK, 2 SI, 3 WP#, 4 HOLD#.
+#[derive(Clone, Copy, PartialEq, Eq)]
+pub struct Levels(pub u32);
+
+impl Levels {
+    pub fn select(self) -> bool
+        ensures { result ≡ select_of self.0 }
+    {
+        self.0 % 2 == 1
+    }
+
+    pub fn clock(self) -> bool
+        ensures { result ≡ clock_of self.0 }
+    {
+        self.0 / 2 % 2 == 1
+    }
+
+    // SI, as the bit that it sends.
+    pub fn data(self) -> u8
+        ensures { result ≡ si_of self.0 }
+    {
+        (self.0 / 4 % 2) as u8
+    }
+
+    pub fn write_protect(self) -> bool
+        ensures { result ≡ wp_of self.0 }
+    {
+        self.0 / 8 % 2 == 1
+    }
+
+    pub fn hold(self) -> bool
+        ensures { result ≡ hold_of self.0 }
+    {
+        self.0 / 16 % 2 == 1
+    }
+
+    // Whether the sample is held, by whether the one before was.
+    pub fn is_held(self, before: bool) -> bool
+        ensures { result ≡ is_held before self.0 }
+    {
+        if self.clock() { before } else { !self.hold() }
+    }
+}
 
 // What is remembered: CS# and SCLK of the last sample and whether it was held; within a frame WP# at the fall, whether it has outgrown, the bits of the byte
 // begun with their value, and the whole bytes so far.
-#[derive(Clone, Copy)]
+#[derive(Clone, Copy, PartialEq, Eq)]
 pub struct Front {
     pub select: bool,
     pub clock: bool,
@@ -22,72 +68,42 @@ pub struct Front {
     pub bytes: u32,
 }
 
-// What is told of a sample: an answer, and of a frame that is handed over its whole bytes, its tail bits and WP#.
-#[derive(Clone, Copy)]
-pub struct Told {
-    pub answer: Answer,
-    pub ready: bool,
+// A frame that is handed over: how many whole bytes, at the head of the buffer, how many tail bits, and WP#.
+#[derive(Clone, Copy, PartialEq, Eq)]
+pub struct Frame {
     pub bytes: u32,
-    pub tail: u32,
+    pub tail: u8,
     pub wp: bool,
 }
 
-#[derive(Clone, Copy)]
+// What is told of a sample: a frame that is handed over, nothing, or a refusal.
+pub type Told = Result<Option<Frame>, Refusal>;
+
+#[derive(Clone, Copy, PartialEq, Eq)]
 pub struct Stepped {
     pub front: Front,
     pub told: Told,
 }
 
 // Whether a front is one that samples lead to.
+#[tactic(auto, using(crate::proofs::Table::shifted), unfolding(crate::specs::Pins::front_ok))]
 pub fn front_ok(f: Front) -> bool
     ensures { result ≡ front_ok f }
 {
-    if 7 < f.bits {
-        return false;
-    }
-    (wide(f.value) < (1u32 << f.bits as u32))
-        & ((f.bytes <= 65541)
-            & ((!f.select | (!f.wp & !f.outgrown))
-                & (!(f.select | f.outgrown) | ((f.bits == 0) & (f.bytes == 0)))))
-}
-
-// What is told where no frame is handed over.
-pub fn refused_told(answer: Answer) -> Told
-    ensures { result ≡ refused answer }
-{
-    Told {
-        answer,
-        ready: false,
-        bytes: 0,
-        tail: 0,
-        wp: false,
-    }
-}
-
-// Nothing is told.
-fn silent_told() -> Told
-    ensures { result ≡ silent }
-{
-    refused_told(Answer::Done)
-}
-
-// Whether a sample is held, by whether the one before was.
-pub fn held_now(before: bool, levels: u32) -> bool
-    ensures { result ≡ is_held before levels }
-{
-    if levels / 2 % 2 == 1 {
-        return before;
-    }
-    !(levels / 16 % 2 == 1)
+    f.bits <= 7
+        && u32::from(f.value) < 1 << f.bits
+        && f.bytes <= FRAME_LIMIT
+        && (!f.select || !f.wp && !f.outgrown)
+        && (!(f.select || f.outgrown) || f.bits == 0 && f.bytes == 0)
 }
 
 // The front with CS# high, after a sample.
-fn idle_front(levels: u32, held: bool) -> Front
-    ensures { result ≡ idle levels held }
+fn idle(levels: Levels, held: bool) -> Front
+    ensures { result ≡ idle levels.0 held }
 {
     Front {
         select: true,
-        clock: levels / 2 % 2 == 1,
+        clock: levels.clock(),
         held,
         wp: false,
         outgrown: false,
@@ -97,111 +113,116 @@ fn idle_front(levels: u32, held: bool) -> Front
     }
 }
 
-// The front within a frame, after a sample.
-fn frame_front(
-    wp: bool,
-    levels: u32,
-    held: bool,
-    outgrown: bool,
-    bits: u8,
-    value: u8,
-    bytes: u32,
-) -> Front
-    ensures { result ≡ in_frame wp levels held outgrown bits value bytes }
+// The front where CS# has fallen: a frame of no byte and no bit.
+fn fallen(levels: Levels, held: bool) -> Front
+    ensures { result ≡ fallen levels.0 held }
 {
     Front {
         select: false,
-        clock: levels / 2 % 2 == 1,
-        held,
-        wp,
-        outgrown,
-        bits,
-        value,
-        bytes,
+        wp: levels.write_protect(),
+        ..idle(levels, held)
     }
 }
 
 // CS# rises: what the frame comes to.
+#[tactic(auto, unfolding(crate::specs::Pins::risen_of))]
 fn risen(f: Front, room: usize) -> Told
     ensures { result ≡ risen_of f room }
 {
     if f.held {
-        return refused_told(Answer::InHold);
+        return Err(Refusal::InHold);
     }
-    if f.outgrown | (room < f.bytes as usize) {
-        return refused_told(Answer::BadFrame);
+    if f.outgrown || room < f.bytes as usize {
+        return Err(Refusal::BadFrame);
     }
-    Told {
-        answer: Answer::Done,
-        ready: true,
+    Ok(Some(Frame {
         bytes: f.bytes,
-        tail: wide(f.bits),
+        tail: f.bits,
         wp: f.wp,
-    }
+    }))
 }
 
 // CS# stays low: a rising clock that is not held takes a bit.
-fn clocked(f: Front, levels: u32, buffer: &mut [u8]) -> Front
+#[tactic(auto, unfolding(crate::specs::Pins::clocked_of, crate::specs::Pins::bit_taken))]
+fn clocked(f: Front, levels: Levels, buffer: &mut [u8]) -> Front
     requires { Sound f }
-    ensures { Clocks (clocked_of f levels buffer.old) result buffer.new }
+    ensures { Clocks (clocked_of f levels.0 buffer.old) result buffer.new }
 {
-    let clock = levels / 2 % 2 == 1;
-    let held = held_now(f.held, levels);
-    if !(!f.clock & (clock & (!held & !f.outgrown))) {
-        return frame_front(f.wp, levels, held, f.outgrown, f.bits, f.value, f.bytes);
+    let clock = levels.clock();
+    let held = levels.is_held(f.held);
+    let still = Front {
+        select: false,
+        clock,
+        held,
+        ..f
+    };
+    if f.clock || !clock || held || f.outgrown {
+        return still;
     }
-    let value = 2 * f.value + (levels / 4 % 2) as u8;
+    let value = 2 * f.value + levels.data();
     if f.bits < 7 {
-        return frame_front(f.wp, levels, held, false, f.bits + 1, value, f.bytes);
+        return Front {
+            bits: f.bits + 1,
+            value,
+            ..still
+        };
     }
+    let begun = Front {
+        bits: 0,
+        value: 0,
+        ..still
+    };
     let at = f.bytes as usize;
-    if (at < 65541) & (at < buffer.len()) {
+    if f.bytes < FRAME_LIMIT && at < buffer.len() {
         buffer[at] = value;
-        return frame_front(f.wp, levels, held, false, 0, 0, f.bytes + 1);
+        return Front {
+            bytes: f.bytes + 1,
+            ..begun
+        };
     }
-    frame_front(f.wp, levels, held, true, 0, 0, 0)
+    Front {
+        outgrown: true,
+        bytes: 0,
+        ..begun
+    }
 }
 
-// One sample, of a front that is right.
-pub fn step_in(f: Front, levels: u32, buffer: &mut [u8]) -> Stepped
+// One sample, of a front that is right. That is asked here and is no invariant of Front: one that is not right is a value too, which `step` answers 3.
+#[tactic(auto, using(crate::proofs::Table::clocked_silent), unfolding(crate::specs::Pins::step_of))]
+pub fn step_in(f: Front, levels: Levels, buffer: &mut [u8]) -> Stepped
     requires { Sound f }
-    ensures { Senses (step_of f levels buffer.old) result buffer.new }
+    ensures { Senses (step_of f levels.0 buffer.old) result buffer.new }
 {
-    let up = levels % 2 == 1;
-    if !f.select & !up {
-        return Stepped {
+    let held = levels.is_held(f.held);
+    match (f.select, levels.select()) {
+        (true, true) => Stepped {
+            front: idle(levels, held),
+            told: Ok(None),
+        },
+        (true, false) => Stepped {
+            front: fallen(levels, held),
+            told: Ok(None),
+        },
+        (false, true) => Stepped {
+            front: idle(levels, held),
+            told: risen(f, buffer.len()),
+        },
+        (false, false) => Stepped {
             front: clocked(f, levels, buffer),
-            told: silent_told(),
-        };
-    }
-    let held = held_now(f.held, levels);
-    if !up {
-        return Stepped {
-            front: frame_front(levels / 8 % 2 == 1, levels, held, false, 0, 0, 0),
-            told: silent_told(),
-        };
-    }
-    let front = idle_front(levels, held);
-    if f.select {
-        return Stepped {
-            front,
-            told: silent_told(),
-        };
-    }
-    Stepped {
-        front,
-        told: risen(f, buffer.len()),
+            told: Ok(None),
+        },
     }
 }
 
 // One sample. A front that is not right is answered 3, and nothing changes.
-pub fn step(front: Front, levels: u32, buffer: &mut [u8]) -> Stepped
-    ensures { Senses (stepped_of front levels buffer.old) result buffer.new }
+#[tactic(auto, unfolding(crate::specs::Pins::stepped_of))]
+pub fn step(front: Front, levels: Levels, buffer: &mut [u8]) -> Stepped
+    ensures { Senses (stepped_of front levels.0 buffer.old) result buffer.new }
 {
     if !front_ok(front) {
         return Stepped {
             front,
-            told: refused_told(Answer::BadState),
+            told: Err(Refusal::BadState),
         };
     }
     step_in(front, levels, buffer)

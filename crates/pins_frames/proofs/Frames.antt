@@ -10,8 +10,7 @@ use Rattle.parts.specs.Parts.{lay}
 use Rattle.states.specs.States.{Chip}
 use Rattle.states.specs.declared.Record.{Record}
 use Rattle.chip.specs.Frames.{Sent, sent_of, frame_of}
-use Rattle.pins.specs.declared.Told.{Told}
-use Rattle.pins.specs.Pins.{clock_of, wp_of, frame_limit, handed}
+use Rattle.pins.specs.Pins.{Told, is_ready, frame_told, clock_of, wp_of, frame_limit, handed}
 use Rattle.pins_run.specs.Runs.{Captured, run_of}
 use Rattle.pins_promises.specs.Samples.{unheld, bits_at, whole_of, samples_for}
 use Rattle.pins_promises.proofs.Handed.{hands-over}
@@ -26,7 +25,7 @@ head-laid buffer ys = take-append_seam ys (drop (0 + length ys) buffer)
 
 -- ---- a run that hands the frame s over
 abbrev given : Told → List ℕ → Sent → Sent
-given t b s = sent_of (take t.bytes b) t.tail t.wp s.strict s.wear s.out
+given t b s = sent_of (take (frame_told t).bytes b) (frame_told t).tail (frame_told t).wp s.strict s.wear s.out
 
 same_sent : (s : Sent) (t : Told) (b buffer : List ℕ) → t ≡ handed (length s.bytes) s.tail s.wp → b ≡ lay buffer 0 s.bytes → given t b s ≡ s
 same_sent s t b buffer e k =
@@ -35,10 +34,10 @@ same_sent s t b buffer e k =
 
 module _ (rec : Record) (x : Chip) (s : Sent) (buffer : List ℕ) where
   abbrev Alike : Captured → Type 0
-  Alike r = (r.told.ready ≡ true) × (frame_of rec x (handed_over r s) ≡ frame_of rec x s)
+  Alike r = (is_ready r.told ≡ true) × (frame_of rec x (handed_over r s) ≡ frame_of rec x s)
 
   alike : (r : Captured) → r.told ≡ handed (length s.bytes) s.tail s.wp → r.buffer ≡ lay buffer 0 s.bytes → Alike r
-  alike r e k = (ap (λ (t : Told). t.ready) e, ap (λ (f : Sent). frame_of rec x f) (same_sent s r.told r.buffer buffer e k))
+  alike r e k = (ap is_ready e, ap (λ (f : Sent). frame_of rec x f) (same_sent s r.told r.buffer buffer e k))
 
 -- ---- the promises
 pub sampled-frame : SampledFrame
@@ -59,7 +58,7 @@ held-frame rec x s f fall between rise rest buffer w nh last e fits =
     let left = no-hold-left f fall between rise w nh in
     let same = taken_out f fall between rise rest buffer w nh last in
     let k = sampled-frame rec x s f fall (unheld false between) rise rest buffer left.0 left.1 e fits in (
-      ap (λ (t : Told). t.ready) same.told_is ∙ k.0,
+      ap is_ready same.told_is ∙ k.0,
       ap (λ (t : Told). frame_of rec x (given t (run_of f (fall ∷ (between ++ (rise ∷ rest))) buffer).buffer s)) same.told_is
           ∙ ap (λ (b : List ℕ). frame_of rec x (given (run_of f (fall ∷ (unheld false between ++ (rise ∷ rest))) buffer).told b s)) same.buffer-is ∙ k.1,
     )

@@ -1,14 +1,13 @@
--- Laws of the eight bytes: tested, read, stored, and back.
+-- Laws of the eight bytes: tested, read, packed, and back.
 use mathlib.Core.Path.{◌≡◌, refl, sym, ap, ◌∙◌}
-use mathlib.Core.Bool.{Bool, true, false, ◌&&◌}
+use mathlib.Core.Bool.{Bool, true, false}
 use mathlib.Core.List.{List, [], ◌∷◌}
 use Prim.Native.Nat.{ℕ, zero, suc, ◌+◌, ◌*◌, ◌/◌, ◌%◌, ◌^◌, ◌≤◌, ◌<◌}
-use native.Mathlib.Nat.{div-div-eq-div-mul, le_of_eq}
+use native.Mathlib.Nat.{div-div-eq-div-mul}
 use native.Mathlib.Omega.{arith}
 use lib.Dec.{eqb, ltb}
-use lib.ListN.{length, get_or, drop_of_length-le}
-use lib.Seq.{sets, sets-eq}
-use borrow.Author.Tests.{eqb-true, eqb-false, eq-eqb, ne_eqb, ltb-true, lt-ltb}
+use lib.ListN.{length, get_or}
+use borrow.Author.Tests.{eqb-true, eqb-false, ltb-true, lt-ltb}
 use Rattle.parts.specs.Parts.{Bytes}
 use Rattle.units.proofs.Bools.{both}
 use Rattle.parts.specs.Parts.{bytes_of, spelt}
@@ -19,14 +18,6 @@ use Rattle.pins.specs.Pins.{front_ok, Sound}
 use Rattle.pins_packed.specs.Fronts.{flags_of, front_packed, front_in, is_front}
 
 -- ---- the tests
-pub wrong-length : (xs : List ℕ) → (length xs ≡ 8 → ⊥) → false ≡ is_front xs
-unfolding is_front
-wrong-length xs h = rw (ne_eqb (length xs) 8 h)
-
-pub tested : (xs : List ℕ) (r : Bool) (f : Front) → length xs ≡ 8 → f ≡ front_in xs → r ≡ front_ok f → (ltb (get_or xs 0 0) 32 && (eqb (get_or xs 3 0) 0 && r)) ≡ is_front xs
-unfolding is_front
-tested xs r f n e k = rw (eq-eqb (length xs) 8 n, k, e)
-
 pub record Parts (xs : List ℕ) : Type 0 where
   pub long : length xs ≡ 8
   pub flags : get_or xs 0 0 < 32
@@ -40,6 +31,12 @@ parts xs e =
     let b = both (ltb (get_or xs 0 0) 32) _ a.1 in
     let c = both (eqb (get_or xs 3 0) 0) _ b.1 in
     record { long = eqb-true (length xs) 8 a.0; flags = ltb-true (get_or xs 0 0) 32 b.0; zeros = eqb-true (get_or xs 3 0) 0 c.0; right = c.1 }
+
+pub long : (xs : List ℕ) → is_front xs ≡ true → length xs ≡ 8
+long xs e = (parts xs e).long
+
+pub right : (xs : List ℕ) → is_front xs ≡ true → front_ok (front_in xs) ≡ true
+right xs e = (parts xs e).right
 
 -- ---- flags
 flag-le : (b : Bool) → flag b 1 ≤ 1
@@ -140,24 +137,3 @@ pack-read xs w p =
     ap (λ (x : ℕ). x ∷ get_or xs 1 0 ∷ get_or xs 2 0 ∷ 0 ∷ bytes_of 4 (spelt (four xs))) (flags-read (get_or xs 0 0) p.flags)
     ∙ ap (λ (ys : List ℕ). get_or xs 0 0 ∷ get_or xs 1 0 ∷ get_or xs 2 0 ∷ 0 ∷ ys) (bytes-spelt (four xs) (four_bytes xs w))
     ∙ ap (λ (z : ℕ). get_or xs 0 0 ∷ get_or xs 1 0 ∷ get_or xs 2 0 ∷ z ∷ four xs) (sym p.zeros) ∙ sym (eight-of xs p.long)
-
--- ---- the code's front
-pub reads : (xs : List ℕ) (n : ℕ) → n ≡ spelt (four xs)
-    → record { select = eqb (get_or xs 0 0 % 2) 1; clock = eqb (get_or xs 0 0 / 2 % 2) 1; held = eqb (get_or xs 0 0 / 4 % 2) 1; wp = eqb (get_or xs 0 0 / 8 % 2) 1; outgrown = eqb (get_or xs 0 0 / 16 % 2) 1; bits = get_or xs 1 0; value = get_or xs 2 0; bytes = n }
-    ≡ front_in xs
-unfolding front_in
-reads xs n e = rw e
-
--- ---- the code's eight stores
-abbrev stores : Front → ℕ → List ℕ
-stores f flags = flags ∷ f.bits ∷ f.value ∷ 0 ∷ f.bytes % 256 ∷ f.bytes / 256 % 256 ∷ f.bytes / 65536 % 256 ∷ f.bytes / 16777216 % 256 ∷ []
-
-stores-pack : (f : Front) (flags : ℕ) → flags ≡ flags_of f → stores f flags ≡ front_packed f
-unfolding front_packed
-stores-pack f flags e =
-    let two : f.bytes / 65536 % 256 ≡ f.bytes / 256 / 256 % 256 = omega arith in
-    let three : f.bytes / 16777216 % 256 ≡ f.bytes / 256 / 256 / 256 % 256 = omega arith in
-    rw (e, two, three)
-
-pub stored : (f : Front) (xs : List ℕ) (flags : ℕ) → length xs ≡ 8 → flags ≡ flags_of f → sets xs 0 (stores f flags) ≡ front_packed f
-stored f xs flags n e = sets-eq (stores f flags) xs 0 (omega arith) ∙ rw (drop_of_length-le xs (le_of_eq n)) (stores-pack f flags e)

@@ -1,11 +1,10 @@
 -- The packed front, eight bytes, and what a sample or a run of them does to it (Req 07).
 use Rattle.std.specs.Prelude.{Bool, ◌&&◌, cond, List, [], ◌∷◌, ◌≡◌, ℕ, ◌+◌, ◌/◌, ◌%◌, eqb, ltb, length, get_or}
-use Rattle.answers.specs.declared.Answer.TheVariants.{BadState}
+use Rattle.answers.specs.declared.Refusal.TheVariants.{BadState}
 use Rattle.parts.specs.Parts.{bytes_of, spelt}
 use Rattle.states.specs.States.{flag}
 use Rattle.pins.specs.declared.Front.{Front}
-use Rattle.pins.specs.declared.Told.{Told}
-use Rattle.pins.specs.Pins.{front_ok, refused, Sampled, step_of}
+use Rattle.pins.specs.Pins.{Told, front_ok, refused, Sampled, step_of}
 use Rattle.pins_run.specs.Runs.{Captured, run_of}
 use Rattle.pins_packed.specs.declared.Probe.{Probe}
 

@@ -1,6 +1,6 @@
 -- What is shown of the packed front (Req 07); proofs/Promises.antt proves each under its name in small letters.
 use Rattle.std.specs.Prelude.{true, false, List, ◌≡◌, ℕ}
-use Rattle.answers.specs.declared.Answer.TheVariants.{BadState}
+use Rattle.answers.specs.declared.Refusal.TheVariants.{BadState}
 use Rattle.parts.specs.Parts.{Bytes}
 use Rattle.pins.specs.declared.Front.{Front}
 use Rattle.pins.specs.Pins.{front_ok, idle, refused, step_of}

@@ -2,7 +2,7 @@
 use mathlib.Core.Path.{◌≡◌, refl}
 use mathlib.Core.Bool.{true, false}
 use mathlib.Core.List.{[], ◌∷◌, ◌++◌}
-use Rattle.answers.specs.declared.Answer.TheVariants.{BadFrame, InHold}
+use Rattle.answers.specs.declared.Refusal.TheVariants.{BadFrame, InHold}
 use Rattle.pins.specs.declared.Front.{Front}
 use Rattle.pins.specs.Pins.{refused, handed, idle, risen_of, bit_taken, clocked_of, step_of}
 use Rattle.pins_run.specs.Runs.{ran_to, run_from, run_of}

@@ -4,7 +4,7 @@ use mathlib.Core.Bool.{Bool, true, false, cond}
 use mathlib.Core.List.{List, [], ◌∷◌, ◌++◌}
 use Prim.Native.Nat.{ℕ, suc, ◌+◌}
 use native.Mathlib.Nat.{add-zero, add-suc}
-use Rattle.answers.specs.declared.Answer.TheVariants.{BadState}
+use Rattle.answers.specs.declared.Refusal.TheVariants.{BadState}
 use Rattle.pins.specs.declared.Front.{Front}
 use Rattle.pins.specs.Pins.{front_ok, refused, step_of}
 use Rattle.pins_run.specs.Runs.{Captured, ran_to, ends, run_from, run_of, ran_of}

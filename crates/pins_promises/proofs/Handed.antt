@@ -1,6 +1,6 @@
 -- From a fall to the next rise, none held: what is handed over.
 use mathlib.Core.Path.{◌≡◌, refl, ap, ◌∙◌}
-use mathlib.Core.Bool.{Bool, true, false, not, ◌&&◌, cond, true≢false}
+use mathlib.Core.Bool.{Bool, true, false, not, ◌&&◌, cond}
 use mathlib.Core.List.{List, [], ◌∷◌, ◌++◌}
 use Prim.Native.Nat.{ℕ, suc, ◌+◌, ◌*◌, ◌%◌, ◌≤◌, ◌<◌}
 use native.Mathlib.Nat.{zero-add}
@@ -11,22 +11,20 @@ use lib.ListN.{length, set, length-set}
 use lib.Seq.{sets, sets-eq}
 use borrow.Author.Tests.{not-true, ltb-true, ltb-false, lt-ltb, le-ltb}
 use Rattle.parts.specs.Parts.{lay}
-use Rattle.answers.specs.declared.Answer.TheVariants.{Done, BadFrame}
-use Rattle.answers.specs.Answers.{is_done}
+use Rattle.std.specs.Prelude.{Err}
+use Rattle.answers.specs.declared.Refusal.TheVariants.{BadFrame}
+use Rattle.answers.specs.Answers.{Done}
 use Rattle.pins.specs.declared.Front.{Front}
-use Rattle.pins.specs.declared.Told.{Told}
-use Rattle.pins.specs.Pins.{select_of, clock_of, si_of, wp_of, is_held, frame_limit, silent, refused, handed, idle, Sampled, sampled, risen_of, takes_bit, step_of}
+use Rattle.pins.specs.Pins.{Told, select_of, clock_of, si_of, wp_of, is_held, frame_limit, silent, handed, told_by, idle, Sampled, sampled, risen_of, step_of}
 use Rattle.pins_run.specs.Runs.{ran_to, ends, run_from}
-use Rattle.pins_promises.specs.Samples.{all_low, none_held, bits_at, bytes_from, whole_of}
+use Rattle.pins_promises.specs.Samples.{FallToRise, all_low, none_held, bits_at, bytes_from, whole_of}
 use Rattle.pins_promises.specs.Promises.{HandsOver}
 use Rattle.units.proofs.Bools.{both}
 use Rattle.pins.proofs.Table.{step-fall, step-rise}
-use Rattle.pins_run.proofs.Going.{run-silent, run_on, run_end, made, step_kept, step-bit, step-byte}
+use Rattle.pins_run.proofs.Going.{run-silent, run_end, made}
+use Rattle.pins_promises.proofs.Within.{at, Low, first_low, no-clock, one-bit, whole_byte}
 
 -- ---- from a fall to a rise
-abbrev pub at : Bool → Bool → ℕ → ℕ → ℕ → Front
-at clock wp n v k = made false clock false wp false n v k
-
 rises : (n k : ℕ) (clock wp : Bool) (bits value rise : ℕ) (rest buffer : List ℕ) → select_of rise ≡ true → k ≤ length buffer
     → run_from n (at clock wp bits value k) (rise ∷ rest) buffer ≡ ran_to (suc n) (idle rise (is_held false rise)) (handed k bits wp) buffer
 unfolding risen_of
@@ -34,7 +32,7 @@ rises n k clock wp bits value rise rest buffer q h =
     let f : Front = at clock wp bits value k in
     let e : step_of f rise buffer ≡ sampled (idle rise (is_held false rise)) (handed k bits wp) buffer =
     step-rise f rise buffer refl q ∙ ap (λ (t : Told). sampled (idle rise (is_held false rise)) t buffer)
-    (ap (λ (o : Bool). cond (is_done (cond o BadFrame Done)) (handed k bits wp) (refused (cond o BadFrame Done))) (le-ltb (length buffer) k h)) in
+    (ap (λ (o : Bool). told_by (cond o (Err BadFrame) Done) (handed k bits wp)) (le-ltb (length buffer) k h)) in
     run_end n f rise rest buffer (ap (λ (x : Sampled). ends x.told) e) ∙ ap (λ (x : Sampled). ran_to (suc n) x.front x.told x.buffer) e
 
 turn : (a b : ℕ) → a < 7 → (a + 1 + b) % 8 ≡ (a + suc b) % 8
@@ -56,57 +54,33 @@ collect n clock wp bits value k [] rise rest buffer few low none q m h =
     let s : n + 0 + 1 ≡ suc n = omega arith in
     rw (z, t, s) (rises n k clock wp bits value rise rest buffer q (omega arith))
 collect n clock wp bits value k (l ∷ ls) rise rest buffer few low none q m₀ h₀ =
-    let a = both (not (select_of l)) (all_low ls) low in
-    let b = both (not (is_held false l)) (none_held (is_held false l) ls) none in
-    let lo : select_of l ≡ false = not-true (select_of l) a.0 in
-    let nh : is_held false l ≡ false = not-true (is_held false l) b.0 in
-    go lo nh (not clock && clock_of l) refl (ltb bits 7) refl
-    (λ c v n' k' b' x. collect (suc n) c wp n' v k' ls rise rest b' x a.1 (rw nh at b.1) q) m₀ h₀
+    let w = first_low l ls low none in
+    go w (not clock && clock_of l) refl (ltb bits 7) refl (λ c v n' k' b' x. collect (suc n) c wp n' v k' ls rise rest b' x w.lows w.frees q) m₀ h₀
   where
     more : n + length (l ∷ ls) + 1 ≡ suc n + length ls + 1
     more = omega arith
 
-    go : select_of l ≡ false → is_held false l ≡ false → (t : Bool) → (not clock && clock_of l) ≡ t → (s : Bool) → ltb bits 7 ≡ s
-        → ((c : Bool) (v n' k' : ℕ) (b' : List ℕ) → n' ≤ 7 → Collected (suc n) c wp n' v k' ls rise rest b')
+    go : Low l ls → (t : Bool) → (not clock && clock_of l) ≡ t → (s : Bool) → ltb bits 7 ≡ s → ((c : Bool) (v n' k' : ℕ) (b' : List ℕ) → n' ≤ 7 → Collected (suc n) c wp n' v k' ls rise rest b')
         → Collected n clock wp bits value k (l ∷ ls) rise rest buffer
-    go lo nh false p s r ih m h =
-        let f : Front = at clock wp bits value k in
-        let e : step_of f l buffer ≡ sampled (at (clock_of l) wp bits value k) silent buffer =
-        step_kept f l buffer refl lo (still clock (clock_of l) _ p) ∙ ap (λ (x : Bool). sampled (made false (clock_of l) x wp false bits value k) silent buffer) nh in
-        rw (p, more) (run-silent n f (at (clock_of l) wp bits value k) l (ls ++ (rise ∷ rest)) buffer e ∙ ih (clock_of l) value bits k buffer few (rw p at m) (rw p at h))
-      where
-        still : (a b c : Bool) → (not a && b) ≡ false → (not a && (b && c)) ≡ false
-        still true b c e = refl
-        still false true c e = absurd (true≢false e)
-        still false false c e = refl
-    go lo nh true p true r ih m h =
-        let f : Front = at clock wp bits value k in
-        let t : takes_bit f l ≡ true = rw nh (took clock (clock_of l) p) in
-        let e : step_of f l buffer ≡ sampled (at (clock_of l) wp (bits + 1) (2 * value + si_of l) k) silent buffer =
-        step-bit f l refl lo t (ltb-true bits 7 r) buffer ∙ ap (λ (x : Bool). sampled (made false (clock_of l) x wp false (bits + 1) (2 * value + si_of l) k) silent buffer) nh in
+    go w false p s r ih m h =
+        rw (p, more)
+        (run-silent n _ _ l (ls ++ (rise ∷ rest)) buffer (no-clock clock wp l buffer w.low w.free bits value k p)
+        ∙ ih (clock_of l) value bits k buffer few (rw p at m) (rw p at h))
+    go w true p true r ih m h =
         rw (p, r, more, ← (turn bits (length (bits_at (clock_of l) ls)) (ltb-true bits 7 r)))
-        (run-silent n f (at (clock_of l) wp (bits + 1) (2 * value + si_of l) k) l (ls ++ (rise ∷ rest)) buffer e ∙ ih (clock_of l) (2 * value + si_of l) (bits + 1) k buffer (omega (arith, ltb-true bits 7 r)) (rw (p, r) at m) (rw (p, r) at h))
-      where
-        took : (a b : Bool) → (not a && b) ≡ true → (not a && (b && true)) ≡ true
-        took true b e = e
-        took false true e = refl
-        took false false e = e
-    go lo nh true p false r ih m h =
-        let f : Front = at clock wp bits value k in
-        let t : takes_bit f l ≡ true = rw nh (took clock (clock_of l) p) in
+        (run-silent n _ _ l (ls ++ (rise ∷ rest)) buffer (one-bit clock wp l buffer w.low w.free bits value k p r)
+        ∙ ih (clock_of l) (2 * value + si_of l) (bits + 1) k buffer (omega (arith, ltb-true bits 7 r)) (rw (p, r) at m) (rw (p, r) at h))
+    go w true p false r ih m h =
         let v : ℕ = 2 * value + si_of l in
         let seven : bits ≡ 7 = omega (arith, ltb-false bits 7 r) in
         let m' : k + suc (length (bytes_from 0 0 (bits_at (clock_of l) ls))) ≤ frame_limit = rw (p, r) at m in
         let h' : k + suc (length (bytes_from 0 0 (bits_at (clock_of l) ls))) ≤ length buffer = rw (p, r) at h in
         let fits : (ltb k frame_limit && ltb k (length buffer)) ≡ true = rw (lt-ltb k frame_limit (omega arith), lt-ltb k (length buffer) (omega arith)) in
-        let e : step_of f l buffer ≡ sampled (at (clock_of l) wp 0 0 (k + 1)) silent (set buffer k v) =
-        step-byte f l refl lo t (ltb-false bits 7 r) buffer fits ∙ ap (λ (x : Bool). sampled (made false (clock_of l) x wp false 0 0 (k + 1)) silent (set buffer k v)) nh in
         let len : length (set buffer k v) ≡ length buffer = simp length-set in
         let count : k + suc (length (bytes_from 0 0 (bits_at (clock_of l) ls))) ≡ k + 1 + length (bytes_from 0 0 (bits_at (clock_of l) ls)) = omega arith in
         let tail : (bits + suc (length (bits_at (clock_of l) ls))) % 8 ≡ (0 + length (bits_at (clock_of l) ls)) % 8 = rw seven (omega arith) in
         rw (p, r, more, count, tail)
-        (run_on n f l (ls ++ (rise ∷ rest)) buffer (ap (λ (x : Sampled). ends x.told) e)
-        ∙ ap (λ (x : Sampled). run_from (suc n) x.front (ls ++ (rise ∷ rest)) x.buffer) e
+        (run-silent n _ _ l (ls ++ (rise ∷ rest)) buffer (whole_byte clock wp l buffer w.low w.free bits value k p r fits)
         ∙ ih (clock_of l) 0 0 (k + 1) (set buffer k v) (omega arith) (omega arith) (omega arith)
         ∙ ap
         (λ (x : ℕ).
@@ -114,11 +88,13 @@ collect n clock wp bits value k (l ∷ ls) rise rest buffer few low none q m₀ 
         (handed (k + 1 + length (bytes_from 0 0 (bits_at (clock_of l) ls))) ((0 + length (bits_at (clock_of l) ls)) % 8) wp)
         (sets (set buffer k v) x (bytes_from 0 0 (bits_at (clock_of l) ls))))
         (add-one k))
-      where
-        took : (a b : Bool) → (not a && b) ≡ true → (not a && (b && true)) ≡ true
-        took true b e = e
-        took false true e = refl
-        took false false e = e
+
+-- the fall, not held
+pub falls_at : (f : Front) (fall : ℕ) (between : List ℕ) (rise : ℕ) (rest buffer : List ℕ) → FallToRise f fall between rise → is_held f.held fall ≡ false
+    → run_from 0 f (fall ∷ (between ++ (rise ∷ rest))) buffer ≡ run_from 1 (at (clock_of fall) (wp_of fall) 0 0 0) (between ++ (rise ∷ rest)) buffer
+falls_at f fall between rise rest buffer w nh =
+    run-silent 0 f (at (clock_of fall) (wp_of fall) 0 0 0) fall (between ++ (rise ∷ rest)) buffer
+    (step-fall f fall buffer w.high w.falls ∙ ap (λ (x : Bool). sampled (made false (clock_of fall) x (wp_of fall) false 0 0 0) silent buffer) nh)
 
 laid : (buffer ys : List ℕ) → length ys ≤ length buffer → sets buffer 0 ys ≡ lay buffer 0 ys
 unfolding lay
@@ -129,10 +105,8 @@ unfolding Collected
 hands-over f fall between rise rest buffer w none m h =
     let b = both (not (is_held f.held fall)) (none_held (is_held f.held fall) between) none in
     let nh : is_held f.held fall ≡ false = not-true (is_held f.held fall) b.0 in
-    let e : step_of f fall buffer ≡ sampled (at (clock_of fall) (wp_of fall) 0 0 0) silent buffer =
-    step-fall f fall buffer w.high w.falls ∙ ap (λ (x : Bool). sampled (made false (clock_of fall) x (wp_of fall) false 0 0 0) silent buffer) nh in
     let bits : List ℕ = bits_at (clock_of fall) between in
-    run-silent 0 f (at (clock_of fall) (wp_of fall) 0 0 0) fall (between ++ (rise ∷ rest)) buffer e
+    falls_at f fall between rise rest buffer w nh
     ∙ collect 1 (clock_of fall) (wp_of fall) 0 0 0 between rise rest buffer (omega arith) w.low (rw nh at b.1) w.rises (omega arith) (omega arith)
     ∙ ap (λ (x : ℕ). ran_to x (idle rise (is_held false rise)) (handed (0 + length (whole_of bits)) ((0 + length bits) % 8) (wp_of fall)) (sets buffer 0 (whole_of bits))) {x = 1 + length between + 1} {y = length between + 2} (omega arith)
     ∙ ap (λ (x : ℕ). ran_to (length between + 2) (idle rise (is_held false rise)) (handed x ((0 + length bits) % 8) (wp_of fall)) (sets buffer 0 (whole_of bits))) (zero-add (length (whole_of bits)))

@@ -1,6 +1,7 @@
--- `Single`: one sample; `Handed`: from a fall to a rise, none held; `Outgrown`: one that does not fit; `Reach`: every frame; `Out`: held samples taken out; `Cut`: a run, cut; `Rise`: what a rise leaves,
+-- `Single`: one sample; `Within`: one within a frame; `Handed`: from a fall to a rise, none held; `Outgrown`: one that does not fit; `Reach`: every frame; `Out`: held samples taken out; `Cut`: a run, cut; `Rise`: what a rise leaves,
 -- whatever the answer; `Cases`: the page's cases.
 pub mod Single
+pub mod Within
 pub mod Handed
 pub mod Outgrown
 pub mod Reach

@@ -13,8 +13,12 @@ use Rattle.pins_promises.specs.Samples.{all_low, none_held, last_held, unheld}
 use Rattle.pins_promises.specs.Promises.{SameEnd, TakenOut, NoHoldLeft}
 use Rattle.units.proofs.Bools.{both}
 use Rattle.pins.proofs.Choices.{on-true, on-false}
-use Rattle.pins.proofs.Table.{step-fall, step-low, clocked-silent}
-use Rattle.pins_run.proofs.Going.{run-silent, run_on, moved, turned, step_kept}
+use Rattle.pins.proofs.Table.{step-fall, step-low, clocked_silent}
+use Rattle.pins_run.proofs.Going.{run-silent, run_on, moved, made, step_kept}
+
+-- a front with another clock, held or not
+abbrev turned : Front → Bool → Bool → Front
+turned f clock held = made f.select clock held f.wp f.outgrown f.bits f.value f.bytes
 
 -- ---- held samples taken out
 used-only : (n m : ℕ) (f : Front) (ls b : List ℕ) → SameEnd (run_from n f ls b) (run_from m f ls b)
@@ -59,10 +63,10 @@ no-take false false c d h = refl
 -- g is f with another clock and no hold; where f is not held it is f itself
 abbrev Outs : List ℕ → List ℕ → Type 0
 Outs ls rest = (h : Bool) (n m : ℕ) (f : Front) (c : Bool) (b : List ℕ) → f.select ≡ false → f.held ≡ h → (h ≡ false → c ≡ f.clock) → all_low ls ≡ true → last_held h ls ≡ false
-    → Out n m f (turned f c false f.bits f.value) ls (unheld h ls) rest b
+    → Out n m f (turned f c false) ls (unheld h ls) rest b
 
-itself : (f : Front) (c : Bool) → f.held ≡ false → c ≡ f.clock → turned f c false f.bits f.value ≡ f
-itself f c h k = ap (λ (x : Bool). turned f x false f.bits f.value) k ∙ ap (λ (x : Bool). turned f f.clock x f.bits f.value) (sym h)
+itself : (f : Front) (c : Bool) → f.held ≡ false → c ≡ f.clock → turned f c false ≡ f
+itself f c h k = ap (λ (x : Bool). turned f x false) k ∙ ap (λ (x : Bool). turned f f.clock x) (sym h)
 
 module _ (l : ℕ) (ls rest : List ℕ) (ih : Outs ls rest) (n m : ℕ) (f : Front) (b : List ℕ) (s : f.select ≡ false) (low : all_low (l ∷ ls) ≡ true) where
   lo : select_of l ≡ false
@@ -83,13 +87,13 @@ module _ (l : ℕ) (ls rest : List ℕ) (ih : Outs ls rest) (n m : ℕ) (f : Fro
       go : (t : Bool) → is_held false l ≡ t → Out n m f f (l ∷ ls) (unheld false (l ∷ ls)) rest b
       go true p =
           let g : Front = moved f l in
-          let back : turned g f.clock false g.bits g.value ≡ f = itself f f.clock h refl in
+          let back : turned g f.clock false ≡ f = itself f f.clock h refl in
           same-as (run-silent n f g l (ls ++ rest) b (held_kept (hd ∙ p)))
           (ap (λ (z : List ℕ). run_from m f (z ++ rest) b) (on-true (is_held false l) _ _ p) ∙ ap (λ (x : Front). run_from m x (unheld true ls ++ rest) b) (sym back))
           (ih true (suc n) m g f.clock b s (hd ∙ p) (λ z. absurd (true≢false z)) lows (rw p at last))
       go false p =
           let e : step_of f l b ≡ clocked_of f l b = step-low f l b s lo in
-          let q : ends (step_of f l b).told ≡ false = ap (λ (x : Sampled). ends x.told) e ∙ ap ends (clocked-silent f l b) in
+          let q : ends (step_of f l b).told ≡ false = ap (λ (x : Sampled). ends x.told) e ∙ ap ends (clocked_silent f l b) in
           let k = low-front f l b in
           let g : Front = (step_of f l b).front in
           let gh : g.held ≡ false = ap (λ (x : Sampled). x.front.held) e ∙ k.1 ∙ hd ∙ p in
@@ -98,14 +102,14 @@ module _ (l : ℕ) (ls rest : List ℕ) (ih : Outs ls rest) (n m : ℕ) (f : Fro
           ∙ ap (λ (x : Front). run_from (suc m) x (unheld false ls ++ rest) (step_of f l b).buffer) (sym (itself g g.clock gh refl)))
           (ih false (suc n) (suc m) g g.clock (step_of f l b).buffer (ap (λ (x : Sampled). x.front.select) e ∙ k.0) gh (λ z. refl) lows (rw p at last))
 
-  out-held : (c : Bool) → f.held ≡ true → last_held true (l ∷ ls) ≡ false → Out n m f (turned f c false f.bits f.value) (l ∷ ls) (unheld true (l ∷ ls)) rest b
+  out-held : (c : Bool) → f.held ≡ true → last_held true (l ∷ ls) ≡ false → Out n m f (turned f c false) (l ∷ ls) (unheld true (l ∷ ls)) rest b
   out-held c h last = go (is_held true l) refl
     where
       hd : is_held f.held l ≡ is_held true l
       hd = ap (λ (x : Bool). is_held x l) h
 
       f' : Front
-      f' = turned f c false f.bits f.value
+      f' = turned f c false
 
       low-clock : (x : Bool) → clock_of l ≡ x → is_held true l ≡ false → clock_of l ≡ false
       low-clock true k p = absurd (true≢false (sym (on-true (clock_of l) true (not (hold_of l)) k) ∙ p))
@@ -120,7 +124,7 @@ module _ (l : ℕ) (ls rest : List ℕ) (ih : Outs ls rest) (n m : ℕ) (f : Fro
           let none : (clock_of l ≡ true → ⊥) = λ (z : clock_of l ≡ true). true≢false (sym z ∙ k) in
           let e : step_of f l b ≡ sampled (moved f l) silent b = step_kept f l b s lo (no-take f.clock (clock_of l) (is_held f.held l) (not f.outgrown) (λ z. absurd (none z))) in
           let e' : step_of f' l b ≡ sampled (moved f' l) silent b = step_kept f' l b s lo (no-take c (clock_of l) (is_held false l) (not f.outgrown) (λ z. absurd (none z))) in
-          let same : moved f' l ≡ turned (moved f l) (clock_of l) false f.bits f.value = rw (k, sym-hold k p) in
+          let same : moved f' l ≡ turned (moved f l) (clock_of l) false = rw (k, sym-hold k p) in
           same-as (run-silent n f (moved f l) l (ls ++ rest) b e)
           (ap (λ (z : List ℕ). run_from m f' (z ++ rest) b) (on-false (is_held true l) _ _ p) ∙ run-silent m f' (moved f' l) l (unheld false ls ++ rest) b e' ∙ ap (λ (x : Front). run_from (suc m) x (unheld false ls ++ rest) b) same)
           (ih false (suc n) (suc m) (moved f l) (clock_of l) b s (hd ∙ p) (λ z. refl) lows (rw p at last))

@@ -7,35 +7,35 @@ use native.Mathlib.Omega.{arith}
 use lib.Dec.{eqb, ltb}
 use lib.ListN.{length}
 use borrow.Author.Tests.{not-true, eq-eqb}
-use Rattle.answers.specs.declared.Answer.{Answer}
-use Rattle.answers.specs.declared.Answer.TheVariants.{Done, BadFrame, InHold, BadState}
-use Rattle.answers.specs.Answers.{number_of, is_done}
+use Rattle.std.specs.Prelude.{Err}
+use Rattle.answers.specs.declared.Refusal.{Refusal}
+use Rattle.answers.specs.declared.Refusal.TheVariants.{BadFrame, InHold, BadState}
+use Rattle.answers.specs.Answers.{Answer, Done, number_of}
 use Rattle.answers.specs.Tables.{◌gives◌, first_of}
 use Rattle.pins.specs.declared.Front.{Front}
-use Rattle.pins.specs.declared.Told.{Told}
-use Rattle.pins.specs.Pins.{select_of, clock_of, hold_of, is_held, refused, handed, idle, fallen, Sampled, sampled, risen_of, clocked_of, step_of, front_ok, stepped_of}
+use Rattle.pins.specs.Pins.{Told, select_of, clock_of, hold_of, is_held, silent, refused, handed, answer_of, told_by, idle, fallen, Sampled, sampled, risen_of, clocked_of, step_of, front_ok, stepped_of}
 use Rattle.pins_run.specs.Runs.{Captured, ran_to, ends, run_from, run_of, ran_of}
 use Rattle.pins_promises.specs.Samples.{FallToRise, all_low, last_held, deselected}
 use Rattle.pins_promises.specs.Promises.{Dropped, RefusesHeld, TellsOneThing, OneThing}
 use Rattle.units.proofs.Bools.{both}
-use Rattle.pins.proofs.Table.{step-high, step-fall, step-rise, step-low, clocked-silent}
+use Rattle.pins.proofs.Table.{step-high, step-fall, step-rise, step-low, clocked_silent}
 use Rattle.pins_run.proofs.Going.{run-silent, run_on, run_end, made}
 use Rattle.pins_promises.proofs.Out.{low-front}
 
 -- ---- what a frame comes to when CS# rises
 record Rises (held : Bool) (t : Told) : Type 0 where
   last : ends t ≡ true
-  refuses : (t.answer ≡ Done → ⊥) → t ≡ refused t.answer
+  refuses : (answer_of t ≡ Done → ⊥) → t ≡ told_by (answer_of t) silent
   is-34 : held ≡ true → t ≡ refused InHold
-  only-34 : t.answer ≡ InHold → held ≡ true
+  only-34 : answer_of t ≡ Err InHold → held ≡ true
 
 abbrev answer_by : Bool → Bool → Answer
 answer_by h o = first_of ((h gives InHold) ∷ (o gives BadFrame) ∷ [])
 
-abbrev told_by : Bool → Bool → ℕ → ℕ → Bool → Told
-told_by h o bytes tail wp = cond (is_done (answer_by h o)) (handed bytes tail wp) (refused (answer_by h o))
+abbrev told_at : Bool → Bool → ℕ → ℕ → Bool → Told
+told_at h o bytes tail wp = told_by (answer_by h o) (handed bytes tail wp)
 
-by_tests : (h o : Bool) (bytes tail : ℕ) (wp : Bool) → Rises h (told_by h o bytes tail wp)
+by_tests : (h o : Bool) (bytes tail : ℕ) (wp : Bool) → Rises h (told_at h o bytes tail wp)
 by_tests true o bytes tail wp = record { last = refl; refuses = λ z. refl; is-34 = λ z. refl; only-34 = λ z. refl }
 by_tests false true bytes tail wp =
     record {
@@ -57,10 +57,13 @@ unfolding risen_of
 rise-tells g room = by_tests g.held (g.outgrown || ltb room g.bytes) g.bytes g.bits g.wp
 
 -- ---- one thing is told
-refused-one : (a : Answer) → TellsOneThing (refused a)
-refused-one a = record { no-frame = λ z. refl; a-frame = λ z. absurd (false≢true z) }
+silent_one : TellsOneThing silent
+silent_one = record { no-frame = λ z. refl; a-frame = λ z. refl }
 
-one-by : (h o : Bool) (bytes tail : ℕ) (wp : Bool) → TellsOneThing (told_by h o bytes tail wp)
+refused-one : (r : Refusal) → TellsOneThing (refused r)
+refused-one r = record { no-frame = λ z. refl; a-frame = λ z. absurd (false≢true z) }
+
+one-by : (h o : Bool) (bytes tail : ℕ) (wp : Bool) → TellsOneThing (told_at h o bytes tail wp)
 one-by true o bytes tail wp = refused-one InHold
 one-by false true bytes tail wp = refused-one BadFrame
 one-by false false bytes tail wp = record { no-frame = λ z. absurd (true≢false z); a-frame = λ z. refl }
@@ -76,14 +79,14 @@ step-one f l b = go f.select refl (select_of l) refl
     on e p h = subst (λ (x : Sampled). TellsOneThing x.told) (sym p) h
 
     go : (a : Bool) → f.select ≡ a → (c : Bool) → select_of l ≡ c → TellsOneThing (step_of f l b).told
-    go true p true q = on _ (step-high f l b p q) (refused-one Done)
-    go true p false q = on _ (step-fall f l b p q) (refused-one Done)
+    go true p true q = on _ (step-high f l b p q) silent_one
+    go true p false q = on _ (step-fall f l b p q) silent_one
     go false p true q = on _ (step-rise f l b p q) (rise_one f (length b))
-    go false p false q = on _ (step-low f l b p q) (subst TellsOneThing (sym (clocked-silent f l b)) (refused-one Done))
+    go false p false q = on _ (step-low f l b p q) (subst TellsOneThing (sym (clocked_silent f l b)) silent_one)
 
 run-one : (n : ℕ) (f : Front) (ls b : List ℕ) → TellsOneThing (run_from n f ls b).told
 unfolding run_from
-run-one n f [] b = refused-one Done
+run-one n f [] b = silent_one
 run-one n f (l ∷ ls) b = go (ends (step_of f l b).told) refl (step-one f l b) (run-one (suc n) (step_of f l b).front ls (step_of f l b).buffer)
   where
     go : (t : Bool) → ends (step_of f l b).told ≡ t → TellsOneThing (step_of f l b).told → TellsOneThing (run_from (suc n) (step_of f l b).front ls (step_of f l b).buffer).told
@@ -123,7 +126,7 @@ up-to-rise n g (l ∷ ls) rise rest b s low q =
     let gs : g'.select ≡ false = ap (λ (x : Sampled). x.front.select) e ∙ k.0 in
     let gh : g'.held ≡ is_held g.held l = ap (λ (x : Sampled). x.front.held) e ∙ k.1 in
     let r : run_from n g (l ∷ (ls ++ (rise ∷ rest))) b ≡ run_from (suc n) g' (ls ++ (rise ∷ rest)) (step_of g l b).buffer =
-    run_on n g l (ls ++ (rise ∷ rest)) b (ap (λ (x : Sampled). ends x.told) e ∙ ap ends (clocked-silent g l b)) in
+    run_on n g l (ls ++ (rise ∷ rest)) b (ap (λ (x : Sampled). ends x.told) e ∙ ap ends (clocked_silent g l b)) in
     subst (λ (x : Captured). Risen (last_held (is_held g.held l) ls) rise x) (sym r)
     (subst (λ (h : Bool). Risen (last_held h ls) rise (run_from (suc n) g' (ls ++ (rise ∷ rest)) (step_of g l b).buffer)) gh
     (up-to-rise (suc n) g' ls rise rest (step_of g l b).buffer gs c.1 q))

@@ -7,10 +7,9 @@ use lib.Dec.{ltb}
 use lib.ListN.{length, get_or}
 use lib.Seq.{get_or-set_other}
 use Rattle.pins.specs.declared.Front.{Front}
-use Rattle.pins.specs.declared.Told.{Told}
 use Rattle.pins.specs.declared.Stepped.{Stepped}
 use Rattle.pins_run.specs.declared.Ran.{Ran}
-use Rattle.pins.specs.Pins.{select_of, frame_limit, front_ok, Sampled, takes_bit, clocked_of, bit_taken, step_of, stepped_of}
+use Rattle.pins.specs.Pins.{Told, select_of, frame_limit, front_ok, Sampled, takes_bit, clocked_of, bit_taken, step_of, stepped_of}
 use Rattle.pins_promises.specs.Promises.{OneByte, OneSensed, OneCaptured}
 use Rattle.pins.proofs.Table.{step-high, step-fall, step-rise, step-low, step-length}
 

@@ -1,11 +1,11 @@
 -- What is shown of the pins (Req 07), the promises of its page in their order; proofs/ proves each under its name in small letters.
-use Rattle.std.specs.Prelude.{Bool, true, false, cond, List, [], ◌∷◌, ◌++◌, ◌≡◌, ℕ, ◌+◌, ◌%◌, ◌≤◌, ◌<◌, length, get_or}
-use Rattle.answers.specs.declared.Answer.TheVariants.{Done, BadFrame, InHold}
+use Rattle.std.specs.Prelude.{Bool, true, false, cond, List, [], ◌∷◌, ◌++◌, ◌≡◌, ℕ, ◌+◌, ◌%◌, ◌≤◌, ◌<◌, length, get_or, Err}
+use Rattle.answers.specs.declared.Refusal.TheVariants.{BadFrame, InHold}
+use Rattle.answers.specs.Answers.{Done}
 use Rattle.parts.specs.Parts.{Bytes, lay}
 use Rattle.pins.specs.declared.Front.{Front}
-use Rattle.pins.specs.declared.Told.{Told}
 use Rattle.pins.specs.declared.Stepped.{Stepped}
-use Rattle.pins.specs.Pins.{clock_of, wp_of, is_held, frame_limit, refused, handed, idle, Sampled, stepped_of, Senses}
+use Rattle.pins.specs.Pins.{clock_of, wp_of, is_held, frame_limit, Told, silent, refused, handed, answer_of, told_by, is_ready, idle, Sampled, stepped_of, Senses}
 use Rattle.pins_run.specs.declared.Ran.{Ran}
 use Rattle.pins_run.specs.Runs.{Captured, ran_to, ends, run_of, ran_of, Captures}
 use Rattle.pins_promises.specs.Samples.{FallToRise, none_held, last_held, unheld, deselected, bits_at, whole_of, byte_bits, AreBits, samples_for}
@@ -71,8 +71,8 @@ CutAnywhere = (f : Front) (xs ys buffer : List ℕ)
 abbrev pub Dropped : Type 0
 Dropped = (f : Front) (fall : ℕ) (between : List ℕ) (rise : ℕ) (rest buffer : List ℕ)
     → FallToRise f fall between rise
-    → (((run_of f (fall ∷ (between ++ (rise ∷ rest))) buffer).told.answer ≡ Done → ⊥)
-    → (run_of f (fall ∷ (between ++ (rise ∷ rest))) buffer).told ≡ refused (run_of f (fall ∷ (between ++ (rise ∷ rest))) buffer).told.answer)
+    → ((answer_of (run_of f (fall ∷ (between ++ (rise ∷ rest))) buffer).told ≡ Done → ⊥)
+    → (run_of f (fall ∷ (between ++ (rise ∷ rest))) buffer).told ≡ told_by (answer_of (run_of f (fall ∷ (between ++ (rise ∷ rest))) buffer).told) silent)
     × ((run_of f (fall ∷ (between ++ (rise ∷ rest))) buffer).front ≡ (run_of f (deselected (fall ∷ (between ++ (rise ∷ [])))) buffer).front)
 
 -- 34 exactly if the last sample before the rise is held
@@ -80,12 +80,12 @@ abbrev pub RefusesHeld : Type 0
 RefusesHeld = (f : Front) (fall : ℕ) (between : List ℕ) (rise : ℕ) (rest buffer : List ℕ)
     → FallToRise f fall between rise
     → (last_held f.held (fall ∷ between) ≡ true → (run_of f (fall ∷ (between ++ (rise ∷ rest))) buffer).told ≡ refused InHold)
-    × ((run_of f (fall ∷ (between ++ (rise ∷ rest))) buffer).told.answer ≡ InHold → last_held f.held (fall ∷ between) ≡ true)
+    × (answer_of (run_of f (fall ∷ (between ++ (rise ∷ rest))) buffer).told ≡ Err InHold → last_held f.held (fall ∷ between) ≡ true)
 
 -- where no frame is handed over nothing but the answer is told, and a frame that is handed over is answered 0
 pub record TellsOneThing (t : Told) : Type 0 where
-  pub no-frame : t.ready ≡ false → t ≡ refused t.answer
-  pub a-frame : t.ready ≡ true → t.answer ≡ Done
+  pub no-frame : is_ready t ≡ false → t ≡ told_by (answer_of t) silent
+  pub a-frame : is_ready t ≡ true → answer_of t ≡ Done
 
 abbrev pub OneThing : Type 0
 OneThing = (f : Front) (l : ℕ) (ls buffer : List ℕ) → TellsOneThing (stepped_of f l buffer).told × TellsOneThing (ran_of f ls buffer).told

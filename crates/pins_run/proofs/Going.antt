@@ -1,35 +1,28 @@
 -- Laws of a run: samples that tell nothing, and the way from one front to a later one.
 use mathlib.Core.Path.{◌≡◌, refl, sym, ap, subst, ◌∙◌}
-use mathlib.Core.Bool.{Bool, true, false, not, ◌&&◌, ◌||◌, true≢false, false≢true}
+use mathlib.Core.Bool.{Bool, true, false, not, ◌&&◌, ◌||◌, beq, true≢false, false≢true}
 use mathlib.Core.List.{List, [], ◌∷◌}
-use Prim.Native.Nat.{ℕ, suc, ◌+◌, ◌*◌, ◌/◌, ◌%◌, ◌^◌, ◌≤◌, ◌<◌}
-use native.Mathlib.Nat.{le_refl}
+use Prim.Native.Nat.{ℕ, suc, ◌+◌, ◌-◌, ◌*◌, ◌^◌, ◌≤◌, ◌<◌}
+use native.Mathlib.Nat.{add-zero}
 use native.Mathlib.Numerals.{add-one}
 use native.Mathlib.Omega.{arith}
 use lib.Dec.{eqb, ltb}
-use lib.ListN.{length, drop, get_or, set, drop_of_length-le}
-use lib.Seq.{drop-cons}
-use mir.Val.{bool_byte}
-use borrow.Author.Tests.{lt-ltb, le-ltb, eq-eqb, ne_eqb}
-use Rattle.answers.specs.declared.Answer.TheVariants.{BadState}
+use Rattle.std.specs.Prelude.{Option, Some, None, MatchOption, ⊤}
+use Rattle.std.specs.Option.{option_eq}
+use lib.ListN.{length, take, drop, get_or, set, drop_of_length-le, length-drop}
+use lib.Seq.{drop-cons, take-length}
+use borrow.Author.Tests.{eqb-true, lt-ltb, le-ltb}
 use Rattle.pins.specs.declared.Front.{Front}
-use Rattle.pins.specs.declared.Told.{Told}
-use Rattle.pins_run.specs.declared.Ran.{Ran}
 use Rattle.pins.specs.declared.Stepped.{Stepped}
-use Rattle.pins.specs.Pins.{select_of, clock_of, si_of, hold_of, is_held, frame_limit, front_ok, Sound, silent, refused, in_frame, Sampled, sampled, takes_bit, clocked_of, bit_taken, step_of, Senses}
-use Rattle.pins_run.specs.Runs.{Captured, ran_to, ends, run_from, run_of, ran_of, Captures, Reaches}
-use Rattle.units.proofs.Bools.{neither}
+use Rattle.pins.specs.Pins.{select_of, clock_of, si_of, hold_of, is_held, frame_limit, Sound, silent, in_frame, Sampled, sampled, takes_bit, clocked_of, bit_taken, step_of, Senses}
+use Rattle.pins_run.specs.Runs.{Captured, ran_to, ends, run_from, run_of, Captures, Reaches}
 use Rattle.pins.proofs.Choices.{on-true, on-false}
 use Rattle.pins.proofs.Table.{step-high, step-low, step-sound, step-length}
 
 -- ---- one sample of a run
-pub run-silent : (n : ℕ) (f g : Front) (l : ℕ) (ls buffer : List ℕ) → step_of f l buffer ≡ sampled g silent buffer → run_from n f (l ∷ ls) buffer ≡ run_from (suc n) g ls buffer
+pub run-silent : (n : ℕ) (f g : Front) (l : ℕ) (ls buffer : List ℕ) {after : List ℕ} → step_of f l buffer ≡ sampled g silent after → run_from n f (l ∷ ls) buffer ≡ run_from (suc n) g ls after
 unfolding run_from
 run-silent n f g l ls buffer e = rw e
-
-run-tells : (n : ℕ) (f g : Front) (l : ℕ) (ls b b' : List ℕ) → step_of f l b ≡ sampled g silent b' → run_from n f (l ∷ ls) b ≡ run_from (suc n) g ls b'
-unfolding run_from
-run-tells n f g l ls b b' e = rw e
 
 pub run_on : (n : ℕ) (f : Front) (l : ℕ) (ls buffer : List ℕ) → ends (step_of f l buffer).told ≡ false → run_from n f (l ∷ ls) buffer ≡ run_from (suc n) (step_of f l buffer).front ls (step_of f l buffer).buffer
 unfolding run_from
@@ -91,50 +84,52 @@ unfolding clocked_of bit_taken
 step-bit g l p q t h buffer = step-low g l buffer p q ∙ on-true (takes_bit g l) _ _ t ∙ on-true (ltb g.bits 7) _ _ (lt-ltb g.bits 7 h)
 
 -- ---- the way
-pub reach-none : (f : Front) (ls : List ℕ) (from : ℕ) (b : List ℕ) → Sound f → Reaches f ls from b f from b
-reach-none f ls from b s = record { later = le_refl from; right = s; same = refl; on = refl }
+pub reach-none : (f : Front) (ls b : List ℕ) → Sound f → Reaches f ls b f ls b
+reach-none f ls b s = record { taken = 0; long = omega arith; right = s; same = refl; on = λ n. rw (add-zero n) }
 
-pub reach-then : {f g h : Front} {ls : List ℕ} {from i at : ℕ} {b₀ b b' : List ℕ} → Reaches f ls from b₀ g i b → Reaches g ls i b h at b' → Reaches f ls from b₀ h at b'
-reach-then p q = record { later = omega (arith, p.later, q.later); right = q.right; same = q.same ∙ p.same; on = p.on ∙ q.on }
-
-reach-on : (f : Front) (ls : List ℕ) (from : ℕ) (b₀ : List ℕ) (g g' : Front) (i : ℕ) (b b' : List ℕ) → Reaches f ls from b₀ g i b → i < length ls
-    → step_of g (get_or ls i 0) b ≡ sampled g' silent b' → Reaches f ls from b₀ g' (i + 1) b'
-reach-on f ls from b₀ g g' i b b' r l e =
+pub reach-then : {f g h : Front} {ls left end b₀ b b' : List ℕ} → Reaches f ls b₀ g left b → Reaches g left b h end b' → Reaches f ls b₀ h end b'
+reach-then {f} {g} {h} {ls} {left} {end} {b₀} {b} {b'} p q =
     record {
-      later = omega (arith, r.later);
-      right = subst Sound (ap (λ (x : Sampled). x.front) e) (step-sound g (get_or ls i 0) b r.right);
-      same = sym (ap (λ (x : Sampled). length x.buffer) e) ∙ step-length g (get_or ls i 0) b ∙ r.same;
-      on = r.on ∙ ap (λ (z : List ℕ). run_from i g z b) (drop-cons ls i 0 l) ∙ run-tells i g g' (get_or ls i 0) (drop (suc i) ls) b b' e
-          ∙ ap (λ (n : ℕ). run_from n g' (drop n ls) b') (sym (add-one i));
+      taken = p.taken + q.taken;
+      long = omega (arith, p.long, q.long);
+      right = q.right;
+      same = q.same ∙ p.same;
+      on = λ n. p.on n ∙ q.on (n + p.taken) ∙ ap (λ (k : ℕ). run_from k h end b') {x = n + p.taken + q.taken} {y = n + (p.taken + q.taken)} (omega arith);
     }
 
--- a front with other levels and bits
-abbrev pub turned : Front → Bool → Bool → ℕ → ℕ → Front
-turned f clock held bits value = made f.select clock held f.wp f.outgrown bits value f.bytes
+-- a sample that tells nothing
+one-on : (g g' : Front) (x : ℕ) (after b b' : List ℕ) → Sound g → step_of g x b ≡ sampled g' silent b' → Reaches g (x ∷ after) b g' after b'
+one-on g g' x after b b' s e =
+    record {
+      taken = 1;
+      long = omega arith;
+      right = subst Sound (ap (λ (y : Sampled). y.front) e) (step-sound g x b s);
+      same = sym (ap (λ (y : Sampled). length y.buffer) e) ∙ step-length g x b;
+      on = λ n. run-silent n g g' x after b e ∙ ap (λ (k : ℕ). run_from k g' after b') (sym (add-one n));
+    }
 
-mark-level : (a : Bool) (l : ℕ) → l % 2 ≡ bool_byte a → select_of l ≡ a
-mark-level true l e = rw e
-mark-level false l e = rw e
+reach-on : (f g g' : Front) (ls b₀ b b' : List ℕ) (i x : ℕ) → Reaches f ls b₀ g (drop i ls) b → i < length ls → x ≡ get_or ls i 0 → step_of g x b ≡ sampled g' silent b' → Reaches f ls b₀ g' (drop (i + 1) ls) b'
+reach-on f g g' ls b₀ b b' i x r l v e =
+    let p : drop i ls ≡ x ∷ drop (i + 1) ls = drop-cons ls i 0 l ∙ ap (λ (y : ℕ). y ∷ drop (suc i) ls) (sym v) ∙ ap (λ (k : ℕ). x ∷ drop k ls) (sym (add-one i)) in
+    reach-then r (subst (λ (z : List ℕ). Reaches g z b g' (drop (i + 1) ls) b') (sym p) (one-on g g' x (drop (i + 1) ls) b b' r.right e))
 
-even : (n : ℕ) → n % 2 ≡ 0 → eqb (n % 2) 1 ≡ false
-even n e = rw e
+-- where a loop ends before its end, and at its end
+pub reach-here : {f g : Front} {ls b₀ b : List ℕ} (i : ℕ) → Reaches f ls b₀ g (drop i ls) b → Reaches f ls b₀ g (take (length ls - i) (drop i ls)) b
+reach-here {f} {g} {ls} {b₀} {b} i r =
+    let e : take (length ls - i) (drop i ls) ≡ drop i ls = ap (λ (n : ℕ). take n (drop i ls)) (sym (length-drop i ls)) ∙ take-length (drop i ls) in
+    subst (λ (z : List ℕ). Reaches f ls b₀ g z b) (sym e) r
 
-odd : (n : ℕ) → (n % 2 ≡ 0 → ⊥) → eqb (n % 2) 1 ≡ true
-odd n e = eq-eqb (n % 2) 1 (omega arith)
-
--- SCLK low takes no bit
-no-clock : (a b d : Bool) → b ≡ false → (a && (b && d)) ≡ false
-no-clock true b d h = rw h
-no-clock false b d h = refl
+pub reach-all : {f g : Front} {ls b₀ b : List ℕ} {i : ℕ} → length ls ≤ i → Reaches f ls b₀ g (drop i ls) b → Reaches f ls b₀ g [] b
+reach-all {f} {g} {ls} {b₀} {b} l r = subst (λ (z : List ℕ). Reaches f ls b₀ g z b) (drop_of_length-le ls l) r
 
 -- ---- samples that take no bit
 -- a sample's hold, with the same levels again
-held-again : (before held : Bool) (x : ℕ) → held ≡ is_held before x → is_held held x ≡ held
-held-again before held x k = go (clock_of x) refl
+held-again : (before : Bool) (x : ℕ) → is_held (is_held before x) x ≡ is_held before x
+held-again before x = go (clock_of x) refl
   where
-    go : (c : Bool) → clock_of x ≡ c → is_held held x ≡ held
-    go true p = on-true (clock_of x) held (not (hold_of x)) p
-    go false p = on-false (clock_of x) held (not (hold_of x)) p ∙ sym (k ∙ on-false (clock_of x) before (not (hold_of x)) p)
+    go : (c : Bool) → clock_of x ≡ c → is_held (is_held before x) x ≡ is_held before x
+    go true p = on-true (clock_of x) _ (not (hold_of x)) p
+    go false p = on-false (clock_of x) _ (not (hold_of x)) p ∙ sym (on-false (clock_of x) before (not (hold_of x)) p)
 
 never-takes : (a b c s d : Bool) → (s || d) ≡ true → s ≡ false → (not a && (b && (not c && not d))) ≡ false
 never-takes true b c s d t p = refl
@@ -144,141 +139,164 @@ never-takes false true false true d t p = absurd (true≢false p)
 never-takes false true false false true t p = refl
 never-takes false true false false false t p = absurd (false≢true t)
 
-module _ (f : Front) (ls : List ℕ) (from : ℕ) (clock held : Bool) (i : ℕ) (b₀ b : List ℕ) (r : Reaches f ls from b₀ (turned f clock held f.bits f.value) i b) (l : i < length ls) (x : ℕ) (v : x ≡ get_or ls i 0) where
-  abbrev g : Front
-  g = turned f clock held f.bits f.value
+-- the sample of those levels changes nothing
+abbrev pub Settled : Option ℕ → Front → Type 0
+Settled last g = MatchOption last ⊤ (λ (x : ℕ). (b : List ℕ) → step_of g x b ≡ sampled g silent b)
 
-  at_x : step_of g (get_or ls i 0) b ≡ step_of g x b
-  at_x = ap (λ (n : ℕ). step_of g n b) (sym v)
+-- a front at rest: the run goes on from it, whatever the buffer, no sample of its level of CS# takes a bit, and the last one's levels change nothing
+pub record Rests (f : Front) (ls : List ℕ) (g : Front) (i : ℕ) (last : Option ℕ) : Type 0 where
+  pub on : (b : List ℕ) → Reaches f ls b g (drop i ls) b
+  pub still : (g.select || g.outgrown) ≡ true
+  pub settled : Settled last g
 
-  pub rest-same : step_of g x b ≡ sampled g silent b → Reaches f ls from b₀ g (i + 1) b
-  rest-same s = reach-on f ls from b₀ g g i b b r l (at_x ∙ s)
+pub rests-first : (f : Front) (ls : List ℕ) → Sound f → (f.select || f.outgrown) ≡ true → Rests f ls f 0 None
+rests-first f ls s t = record { on = λ b. reach-none f ls b s; still = t; settled = tt }
 
-  module _ (mark : ℕ) (m : mark ≡ bool_byte f.select) (e : x % 2 ≡ mark) (t : (f.select || f.outgrown) ≡ true) (h : Bool) (k : h ≡ is_held held x) where
-    abbrev g' : Front
-    g' = turned f (clock_of x) h f.bits f.value
+again : (last : Option ℕ) (x : ℕ) (g : Front) → option_eq eqb last (Some x) ≡ true → Settled last g → (b : List ℕ) → step_of g x b ≡ sampled g silent b
+again None x g e s = absurd (false≢true e)
+again (Some y) x g e s = subst (λ (z : ℕ). (b : List ℕ) → step_of g z b ≡ sampled g silent b) (eqb-true y x e) s
 
-    same_select : select_of x ≡ f.select
-    same_select = mark-level f.select x (e ∙ m)
+alike : (a b : Bool) → not (beq a b) ≡ false → a ≡ b
+alike true true e = refl
+alike true false e = absurd (true≢false e)
+alike false true e = absurd (true≢false e)
+alike false false e = refl
 
-    pub rest-moved : Reaches f ls from b₀ g' (i + 1) b
-    rest-moved =
-        reach-on f ls from b₀ g g' i b b r l
-        (at_x ∙ step-still g x r.right same_select (never-takes clock (clock_of x) (is_held held x) f.select f.outgrown t) b
-        ∙ ap (λ (y : Bool). sampled (turned f (clock_of x) y f.bits f.value) silent b) (sym k))
-
-    pub settled : (c : List ℕ) → step_of g' x c ≡ sampled g' silent c
-    settled c =
-        step-still g' x rest-moved.right same_select (never-takes (clock_of x) (clock_of x) (is_held h x) f.select f.outgrown t) c
-        ∙ ap (λ (y : Bool). sampled (turned f (clock_of x) y f.bits f.value) silent c) (held-again held h x k)
-
--- ---- samples within a frame
-abbrev pub framed : Front → Bool → Bool → ℕ → ℕ → ℕ → Front
-framed f clock held bits value bytes = made false clock held f.wp false bits value bytes
-
-pub frame-none : (f : Front) (ls : List ℕ) (from : ℕ) (b : List ℕ) → Sound f → (f.select || f.outgrown) ≡ false → Reaches f ls from b (framed f f.clock f.held f.bits f.value f.bytes) from b
-frame-none f ls from b s h =
-    let k = neither f.select f.outgrown h in
-    let e : f ≡ framed f f.clock f.held f.bits f.value f.bytes =
-    ap (λ (x : Bool). made x f.clock f.held f.wp f.outgrown f.bits f.value f.bytes) k.0
-    ∙ ap (λ (x : Bool). made false f.clock f.held f.wp x f.bits f.value f.bytes) k.1 in
-    subst (λ (x : Front). Reaches f ls from b x from b) e (reach-none f ls from b s)
-
-module _ (f : Front) (ls : List ℕ) (from : ℕ) (clock held : Bool) (bits value bytes i : ℕ) (b₀ b : List ℕ) (r : Reaches f ls from b₀ (framed f clock held bits value bytes) i b) (l : i < length ls) (e : get_or ls i 0 % 2 ≡ 1 → ⊥) where
+module _ (f : Front) (ls : List ℕ) (g : Front) (i : ℕ) (last : Option ℕ) (r : Rests f ls g i last) (l : i < length ls) where
   abbrev now : ℕ
   now = get_or ls i 0
 
-  abbrev h : Front
-  h = framed f clock held bits value bytes
+  pub rests-same : option_eq eqb last (Some now) ≡ true → Rests f ls g (i + 1) last
+  rests-same e = record { on = λ b. reach-on f g g ls b b b i now (r.on b) l refl (again last now g e r.settled b); still = r.still; settled = r.settled }
 
-  level : select_of now ≡ false
-  level = ne_eqb (now % 2) 1 e
+  module _ (x : ℕ) (v : x ≡ now) (select clock held : Bool) (e : select ≡ select_of x) (h : not (beq select g.select) ≡ false) (c : clock ≡ clock_of x) (k : held ≡ is_held g.held x) where
+    abbrev g' : Front
+    g' = made g.select clock held g.wp g.outgrown g.bits g.value g.bytes
 
-  pub frame-low : now / 2 % 2 ≡ 0 → Reaches f ls from b₀ (framed f false (not (hold_of now)) bits value bytes) (i + 1) b
-  frame-low z =
-      let c : clock_of now ≡ false = even (now / 2) z in
-      let k : takes_bit h now ≡ false = no-clock (not clock) (clock_of now) (not (is_held held now) && true) c in
-      reach-on f ls from b₀ h (framed f false (not (hold_of now)) bits value bytes) i b b r l
-      (step_kept h now b refl level k ∙ ap (λ (x : Front). sampled x silent b) (rw c))
+    same_select : select_of x ≡ g.select
+    same_select = sym e ∙ alike select g.select h
 
-  module _ (z : now / 2 % 2 ≡ 0 → ⊥) where
-    high : clock_of now ≡ true
-    high = odd (now / 2) z
+    as-moved : moved g x ≡ g'
+    as-moved = rw (c, k)
 
-    pub frame-high : (clock || held) ≡ true → Reaches f ls from b₀ (framed f true held bits value bytes) (i + 1) b
-    frame-high t =
-        reach-on f ls from b₀ h (framed f true held bits value bytes) i b b r l
-        (step_kept h now b refl level (rw high (none clock held t)) ∙ ap (λ (x : Front). sampled x silent b) (rw high))
-      where
-        none : (a b : Bool) → (a || b) ≡ true → (not a && (not b && true)) ≡ false
-        none true b h = refl
-        none false true h = refl
-        none false false h = absurd (false≢true h)
+    on : (b : List ℕ) → Reaches f ls b g' (drop (i + 1) ls) b
+    on b =
+        reach-on f g g' ls b b b i x (r.on b) l v
+        (step-still g x (r.on b).right same_select (never-takes g.clock (clock_of x) (is_held g.held x) g.select g.outgrown r.still) b ∙ ap (λ (y : Front). sampled y silent b) as-moved)
 
-    module _ (t : (clock || held) ≡ false) where
-      took : takes_bit h now ≡ true
-      took = let k = neither clock held t in rw (high, k.0, k.1)
+    twice : moved g' x ≡ g'
+    twice = rw (c, k, held-again g.held x)
 
-      levels : (n v k : ℕ) → in_frame f.wp now (is_held held now) false n v k ≡ framed f true held n v k
-      levels n v k = rw high
-
-      pub frame-bit : bits < 7 → Reaches f ls from b₀ (framed f true held (bits + 1) (2 * value + si_of now) bytes) (i + 1) b
-      frame-bit n =
-          reach-on f ls from b₀ h (framed f true held (bits + 1) (2 * value + si_of now) bytes) i b b r l
-          (step-bit h now refl level took n b ∙ ap (λ (x : Front). sampled x silent b) (levels (bits + 1) (2 * value + si_of now) bytes))
-
-      pub frame_byte : 7 ≤ bits → (ltb bytes 65541 && ltb bytes (length b)) ≡ true → Reaches f ls from b₀ (framed f true held 0 0 (bytes + 1)) (i + 1) (set b bytes (2 * value + si_of now))
-      frame_byte n k =
-          reach-on f ls from b₀ h (framed f true held 0 0 (bytes + 1)) i b (set b bytes (2 * value + si_of now)) r l
-          (step-byte h now refl level took n b k ∙ ap (λ (x : Front). sampled x silent (set b bytes (2 * value + si_of now))) (levels 0 0 (bytes + 1)))
-
--- ---- the run from its start
-module _ (f : Front) (ls b₀ : List ℕ) (g : Front) (i : ℕ) (b : List ℕ) (w : Reaches f ls 0 b₀ g i b) where
-  pub way_end : (t : Told) → t ≡ silent → length ls ≤ i → Captures (run_of f ls b₀) (record { front = g; told = t; used = i }) b
-  unfolding run_from
-  way_end t e l =
-      let p : run_of f ls b₀ ≡ ran_to i g silent b = w.on ∙ ap (λ (z : List ℕ). run_from i g z b) (drop_of_length-le ls l) in
-      record { front-is = rw p; told_is = rw p e; used-is = rw p; buffer-is = rw p }
-
-  module _ (l : i < length ls) (x : ℕ) (v : x ≡ get_or ls i 0) (s : Stepped) (after : List ℕ) (k : Senses (step_of g x b) s after) where
-    abbrev here : Sampled
-    here = step_of g (get_or ls i 0) b
-
-    step-here : run_of f ls b₀ ≡ run_from i g (get_or ls i 0 ∷ drop (suc i) ls) b
-    step-here = w.on ∙ ap (λ (z : List ℕ). run_from i g z b) (drop-cons ls i 0 l)
-
-    given : Senses here s after
-    given = subst (λ (n : ℕ). Senses (step_of g n b) s after) v k
-
-    pub way-length : length after ≡ length b₀
-    way-length = ap length given.buffer-is ∙ step-length g (get_or ls i 0) b ∙ w.same
-
-    pub way-stop : ends s.told ≡ true → Captures (run_of f ls b₀) (record { front = s.front; told = s.told; used = i + 1 }) after
-    way-stop t =
-        let p : run_of f ls b₀ ≡ ran_to (suc i) here.front here.told here.buffer = step-here ∙ run_end i g (get_or ls i 0) (drop (suc i) ls) b (ap ends (sym given.told_is) ∙ t) in
-        record { front-is = rw p given.front-is; told_is = rw p given.told_is; used-is = rw p (add-one i); buffer-is = rw p given.buffer-is }
-
-    pub way_on : ends s.told ≡ false → Reaches f ls 0 b₀ s.front (i + 1) after
-    way_on t =
+    pub rests-moved : Rests f ls g' (i + 1) (Some now)
+    rests-moved =
         record {
-          later = omega arith;
-          right = subst Sound (sym given.front-is) (step-sound g (get_or ls i 0) b w.right);
-          same = way-length;
-          on = step-here ∙ run_on i g (get_or ls i 0) (drop (suc i) ls) b (ap ends (sym given.told_is) ∙ t)
-              ∙ ap (λ (y : Front). run_from (suc i) y (drop (suc i) ls) here.buffer) (sym given.front-is)
-              ∙ ap (λ (y : List ℕ). run_from (suc i) s.front (drop (suc i) ls) y) (sym given.buffer-is)
-              ∙ ap (λ (n : ℕ). run_from n s.front (drop n ls) after) (sym (add-one i));
+          on = on;
+          still = r.still;
+          settled = λ b. ap (λ (n : ℕ). step_of g' n b) (sym v)
+              ∙ step-still g' x (on b).right same_select (never-takes clock (clock_of x) (is_held held x) g.select g.outgrown r.still) b
+              ∙ ap (λ (y : Front). sampled y silent b) twice;
         }
 
--- ---- the public entry
-module _ (f : Front) (ls b : List ℕ) where
-  pub runs-wrong : (t : Told) → front_ok f ≡ false → t ≡ refused BadState → Captures (ran_of f ls b) (record { front = f; told = t; used = 0 }) b
-  unfolding ran_of
-  runs-wrong t w e =
-      let p : ran_of f ls b ≡ ran_to 0 f (refused BadState) b = on-false (front_ok f) _ _ w in
-      record { front-is = rw p; told_is = rw p e; used-is = rw p; buffer-is = rw p }
+-- ---- samples within a frame
+abbrev pub counted : Front → ℕ → Front
+counted g bytes = made g.select g.clock g.held g.wp g.outgrown g.bits g.value bytes
 
-  pub runs-right : (r : Ran) (after : List ℕ) → front_ok f ≡ true → Captures (run_of f ls b) r after → Captures (ran_of f ls b) r after
-  unfolding ran_of
-  runs-right r after w g =
-      subst (λ (x : Captured). Captures x r after) (sym (on-true (front_ok f) (run_of f ls b) (ran_to 0 f (refused BadState) b) w)) g
+pub record Gathers (f : Front) (ls b₀ : List ℕ) (g : Front) (bytes i : ℕ) (b : List ℕ) : Type 0 where
+  pub on : Reaches f ls b₀ (counted g bytes) (drop i ls) b
+  pub low : g.select ≡ false
+  pub fits : g.outgrown ≡ false
+
+module _ (f : Front) (ls b₀ : List ℕ) (g₀ : Front) (bytes i : ℕ) (b : List ℕ) (r : Gathers f ls b₀ g₀ bytes i b) (l : i < length ls) (x : ℕ) (v : x ≡ get_or ls i 0) (e : select_of x ≡ false) where
+  abbrev g : Front
+  g = counted g₀ bytes
+
+  -- SCLK low takes no bit
+  pub frame-low : (hold : Bool) → hold ≡ hold_of x → clock_of x ≡ false → Gathers f ls b₀ (made g.select false (not hold) g.wp g.outgrown g.bits g.value g₀.bytes) bytes (i + 1) b
+  frame-low hold h c =
+      record {
+        on = reach-on f g _ ls b₀ b b i x r.on l v (step_kept g x b r.low e (rw c (none g.clock)) ∙ ap (λ (y : Front). sampled y silent b) (rw (c, h)));
+        low = r.low;
+        fits = r.fits;
+      }
+    where
+      none : (a : Bool) → (not a && false) ≡ false
+      none true = refl
+      none false = refl
+
+  module _ (c : clock_of x ≡ true) where
+    pub frame-high : (g.clock || g.held) ≡ true → Gathers f ls b₀ (made g.select true g.held g.wp g.outgrown g.bits g.value g₀.bytes) bytes (i + 1) b
+    frame-high t =
+        record {
+          on = reach-on f g _ ls b₀ b b i x r.on l v (step_kept g x b r.low e (rw c (none g.clock g.held _ t)) ∙ ap (λ (y : Front). sampled y silent b) (rw c));
+          low = r.low;
+          fits = r.fits;
+        }
+      where
+        none : (a b d : Bool) → (a || b) ≡ true → (not a && (not b && d)) ≡ false
+        none true b d h = refl
+        none false true d h = refl
+        none false false d h = absurd (false≢true h)
+
+    module _ (t : g.clock ≡ false) (u : g.held ≡ false) where
+      took : takes_bit g x ≡ true
+      took = rw (c, t, u, r.fits)
+
+      framed : (n v k : ℕ) → in_frame g.wp x (is_held g.held x) false n v k ≡ made g.select true g.held g.wp g.outgrown n v k
+      framed n v k = rw (c, r.low, r.fits)
+
+      pub frame-bit : (bit : ℕ) → bit ≡ si_of x → g.bits < 7 → Gathers f ls b₀ (made g.select true g.held g.wp g.outgrown (g.bits + 1) (2 * g.value + bit) g₀.bytes) bytes (i + 1) b
+      frame-bit bit d n =
+          record {
+            on = reach-on f g _ ls b₀ b b i x r.on l v (step-bit g x r.low e took n b ∙ ap (λ (y : Front). sampled y silent b) (framed (g.bits + 1) (2 * g.value + si_of x) g.bytes ∙ rw d));
+            low = r.low;
+            fits = r.fits;
+          }
+
+      pub frame_byte : (bit : ℕ) → bit ≡ si_of x → 7 ≤ g.bits → g.bytes < frame_limit → g.bytes < length b
+          → Gathers f ls b₀ (made g.select true g.held g.wp g.outgrown 0 0 g₀.bytes) (bytes + 1) (i + 1) (set b g.bytes (2 * g.value + bit))
+      frame_byte bit d n k m =
+          record {
+            on = reach-on f g _ ls b₀ b (set b g.bytes (2 * g.value + bit)) i x r.on l v
+                (step-byte g x r.low e took n b (rw (lt-ltb g.bytes frame_limit k, lt-ltb g.bytes (length b) m)) ∙ rw (framed 0 0 (g.bytes + 1), d));
+            low = r.low;
+            fits = r.fits;
+          }
+
+-- ---- the run from its start
+module _ (f : Front) (ls b₀ : List ℕ) (g : Front) (b : List ℕ) where
+  pub way_end : (left : List ℕ) → length left ≡ 0 → Reaches f ls b₀ g left b → Captures (run_of f ls b₀) (record { front = g; told = silent; used = length ls }) b
+  unfolding run_from
+  way_end [] z w =
+      let p : run_of f ls b₀ ≡ ran_to (0 + w.taken) g silent b = w.on 0 in
+      record { front-is = rw p; told_is = rw p; used-is = rw p (omega (arith, w.long)); buffer-is = rw p }
+  way_end (x ∷ left) z w = absurd (omega arith)
+
+  module _ (left after : List ℕ) (x y : ℕ) (q : left ≡ y ∷ after) (v : x ≡ y) (r : Reaches f ls b₀ g left b) (s : Stepped) (b' : List ℕ) (k : Senses (step_of g x b) s b') where
+    w : Reaches f ls b₀ g (x ∷ after) b
+    w = subst (λ (z : List ℕ). Reaches f ls b₀ g z b) (q ∙ ap (λ (z : ℕ). z ∷ after) (sym v)) r
+
+    pub way-left : length after < length ls
+    way-left = omega (arith, w.long)
+
+    pub way-length : length b' ≡ length b₀
+    way-length = ap length k.buffer-is ∙ step-length g x b ∙ w.same
+
+    pub way-stop : ends s.told ≡ true → Captures (run_of f ls b₀) (record { front = s.front; told = s.told; used = length ls - length after }) b'
+    way-stop t =
+        let h : Sampled = step_of g x b in
+        let p : run_of f ls b₀ ≡ ran_to (suc (0 + w.taken)) h.front h.told h.buffer = w.on 0 ∙ run_end (0 + w.taken) g x after b (ap ends (sym k.told_is) ∙ t) in
+        record { front-is = rw p k.front-is; told_is = rw p k.told_is; used-is = rw p (omega (arith, w.long)); buffer-is = rw p k.buffer-is }
+
+    pub way_on : ends s.told ≡ false → Reaches f ls b₀ s.front after b'
+    way_on t =
+        let h : Sampled = step_of g x b in
+        record {
+          taken = w.taken + 1;
+          long = omega (arith, w.long);
+          right = subst Sound (sym k.front-is) (step-sound g x b w.right);
+          same = way-length;
+          on = λ n. w.on n ∙ run_on (n + w.taken) g x after b (ap ends (sym k.told_is) ∙ t)
+              ∙ ap (λ (y : Front). run_from (suc (n + w.taken)) y after h.buffer) (sym k.front-is)
+              ∙ ap (λ (y : List ℕ). run_from (suc (n + w.taken)) s.front after y) (sym k.buffer-is)
+              ∙ ap (λ (m : ℕ). run_from m s.front after b') {x = suc (n + w.taken)} {y = n + (w.taken + 1)} (omega arith);
+        }

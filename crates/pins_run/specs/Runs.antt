@@ -1,11 +1,10 @@
 -- A run of samples: single ones, until one of them hands a frame over or drops it, or to the end.
-use Rattle.std.specs.Prelude.{Bool, not, ◌&&◌, cond, List, [], ◌∷◌, ◌≡◌, ℕ, suc, ◌≤◌, length, drop}
+use Rattle.std.specs.Prelude.{Bool, not, ◌&&◌, cond, List, [], ◌∷◌, ◌≡◌, ℕ, suc, ◌+◌, length}
 use Rattle.answers.specs.Answers.{is_done}
-use Rattle.answers.specs.declared.Answer.TheVariants.{BadState}
+use Rattle.answers.specs.declared.Refusal.TheVariants.{BadState}
 use Rattle.pins.specs.declared.Front.{Front}
-use Rattle.pins.specs.declared.Told.{Told}
 use Rattle.pins_run.specs.declared.Ran.{Ran}
-use Rattle.pins.specs.Pins.{front_ok, Sound, silent, refused, Sampled, step_of}
+use Rattle.pins.specs.Pins.{front_ok, Sound, Told, silent, refused, answer_of, is_ready, Sampled, step_of}
 
 -- ---- a front, what is told, the buffer, and how many samples were taken
 pub record Captured : Type 0 where
@@ -19,7 +18,7 @@ ran_to n f t b = record { front = f; told = t; buffer = b; used = n }
 
 -- a frame is handed over, or something is refused
 abbrev pub ends : Told → Bool
-ends t = not (is_done t.answer && not t.ready)
+ends t = not (is_done (answer_of t) && not (is_ready t))
 
 -- the samples one by one; n were taken before
 unfoldable pub run_from : ℕ → Front → List ℕ → List ℕ → Captured
@@ -41,9 +40,10 @@ pub record Captures (e : Captured) (r : Ran) (after : List ℕ) : Type 0 where
   pub used-is : r.used ≡ e.used
   pub buffer-is : after ≡ e.buffer
 
--- the same run goes on from a later sample, with the front and the buffer there
-pub record Reaches (f : Front) (ls : List ℕ) (from : ℕ) (b : List ℕ) (g : Front) (at : ℕ) (b' : List ℕ) : Type 0 where
-  pub later : from ≤ at
+-- the same run goes on from a later front, over the samples that are left
+pub record Reaches (f : Front) (ls b : List ℕ) (g : Front) (left b' : List ℕ) : Type 0 where
+  pub taken : ℕ
+  pub long : length ls ≡ taken + length left
   pub right : Sound g
   pub same : length b' ≡ length b
-  pub on : run_from from f (drop from ls) b ≡ run_from at g (drop at ls) b'
+  pub on : (n : ℕ) → run_from n f ls b ≡ run_from (n + taken) g left b'

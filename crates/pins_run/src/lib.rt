@@ -5,135 +5,105 @@ ghost use Rattle.std.specs.Prelude.{◌≡◌, List, ℕ};
 ghost use Rattle.pins.specs.Pins.{Sound};
 ghost use Rattle.pins_run.specs.Runs.{ends, run_of, ran_of, Captures, Reaches};
 
-use answers::Answer;
-use parts::wide;
-use pins::{Front, Told};
+use answers::Refusal;
+use pins::{FRAME_LIMIT, Front, Levels, Told};
 
 // What a run of samples comes to, and how many of them it took.
-#[derive(Clone, Copy)]
+#[derive(Clone, Copy, PartialEq, Eq)]
 pub struct Ran {
     pub front: Front,
     pub told: Told,
     pub used: usize,
 }
 
+// How far straight loops come: the front there, and the samples that are left.
 #[derive(Clone, Copy)]
-struct Reached {
+struct Reached<'a> {
     front: Front,
-    at: usize,
+    left: &'a [u8],
 }
 
 // Whether a sample that is told so is the last of a run.
 fn is_end(told: Told) -> bool
     ensures { result ≡ ends told }
 {
-    let answer = told.answer;
-    !(answers::is_done(answer) & !told.ready)
+    !matches!(told, Ok(None))
 }
 
-// Samples that take no bit, from `from` on: CS# stays high, or low in a frame that has outgrown. One with the levels of the last changes nothing.
-fn rest(f: Front, samples: &[u8], from: usize) -> Reached
+// Samples that take no bit: CS# stays high, or low in a frame that has outgrown. One with the levels of the last changes nothing.
+fn rest<'a>(f: Front, samples: &'a [u8]) -> Reached<'a>
     requires { Sound f }
-    ensures { (b : List ℕ) → Reaches f samples.now from b result.front result.at b }
+    ensures { (b : List ℕ) → Reaches f samples.now b result.front result.left.now b }
 {
-    if !(f.select | f.outgrown) {
-        return Reached { front: f, at: from };
+    let mut front = f;
+    if !(front.select || front.outgrown) {
+        let left = samples;
+        return Reached { front, left };
     }
-    let mark = f.select as u32;
-    let mut clock = f.clock;
-    let mut held = f.held;
-    let mut last = 256;
-    let mut i = from;
-    while i < samples.len() {
-        let levels = wide(samples[i]);
-        if levels == last {
-            i += 1;
+    let mut last = None;
+    for (i, &byte) in samples.iter().enumerate() {
+        if last == Some(byte) {
             continue;
         }
-        if levels % 2 != mark {
-            break;
+        let levels = Levels(u32::from(byte));
+        if levels.select() != front.select {
+            let left = &samples[i..];
+            return Reached { front, left };
         }
-        clock = levels / 2 % 2 == 1;
-        held = pins::held_now(held, levels);
-        last = levels;
-        i += 1;
+        front.clock = levels.clock();
+        front.held = levels.is_held(front.held);
+        last = Some(byte);
     }
-    Reached {
-        front: Front {
-            select: f.select,
-            clock,
-            held,
-            wp: f.wp,
-            outgrown: f.outgrown,
-            bits: f.bits,
-            value: f.value,
-            bytes: f.bytes,
-        },
-        at: i,
-    }
+    Reached { front, left: &[] }
 }
 
-// Samples within a frame, from `from` on, up to one where CS# rises or the frame outgrows.
-fn gather(f: Front, samples: &[u8], from: usize, buffer: &mut [u8]) -> Reached
+// Samples within a frame, up to one where CS# rises or the frame outgrows.
+fn gather<'a>(f: Front, samples: &'a [u8], buffer: &mut [u8]) -> Reached<'a>
     requires { Sound f }
-    ensures { Reaches f samples.now from buffer.old result.front result.at buffer.new }
+    ensures { Reaches f samples.now buffer.old result.front result.left.now buffer.new }
 {
-    if f.select | f.outgrown {
-        return Reached { front: f, at: from };
+    let mut front = f;
+    if front.select || front.outgrown {
+        let left = samples;
+        return Reached { front, left };
     }
-    let mut clock = f.clock;
-    let mut held = f.held;
-    let mut bits = f.bits;
-    let mut value = f.value;
-    let mut bytes = f.bytes as usize;
-    let mut i = from;
-    while i < samples.len() {
-        let levels = samples[i];
-        if levels % 2 == 1 {
-            break;
+    // The count of whole bytes is apart, as an index: at two samples a bit a sample takes 18.6 instructions so, and 19.8 with the count in the front.
+    let mut bytes = front.bytes as usize;
+    for (i, &byte) in samples.iter().enumerate() {
+        let left = &samples[i..];
+        let levels = Levels(u32::from(byte));
+        if levels.select() {
+            front.bytes = bytes as u32;
+            return Reached { front, left };
         }
-        if levels / 2 % 2 == 0 {
-            clock = false;
-            held = !(levels / 16 % 2 == 1);
-            i += 1;
+        if !levels.clock() {
+            front.clock = false;
+            front.held = !levels.hold();
             continue;
         }
-        if clock | held {
-            clock = true;
-            i += 1;
+        if front.clock || front.held {
+            front.clock = true;
             continue;
         }
-        let next = 2 * value + levels / 4 % 2;
-        if bits < 7 {
-            value = next;
-            bits += 1;
-            clock = true;
-            i += 1;
+        let value = 2 * front.value + levels.data();
+        if front.bits < 7 {
+            front.clock = true;
+            front.bits += 1;
+            front.value = value;
             continue;
         }
-        if !((bytes < 65541) & (bytes < buffer.len())) {
-            break;
+        if bytes >= FRAME_LIMIT as usize || bytes >= buffer.len() {
+            front.bytes = bytes as u32;
+            return Reached { front, left };
         }
-        buffer[bytes] = next;
-        value = 0;
-        bits = 0;
+        buffer[bytes] = value;
         bytes += 1;
-        clock = true;
-        i += 1;
+        front.clock = true;
+        front.bits = 0;
+        front.value = 0;
     }
-    Reached {
-        front: Front {
-            select: false,
-            clock,
-            held,
-            wp: f.wp,
-            outgrown: false,
-            bits,
-            value,
-            bytes: bytes as u32,
-        },
-        at: i,
-    }
+    front.bytes = bytes as u32;
+    Reached { front, left: &[] }
 }
 
 // A run of samples, of a front that is right.
@@ -142,46 +112,39 @@ fn run_in(f: Front, samples: &[u8], buffer: &mut [u8]) -> Ran
     ensures { Captures (run_of f samples.now buffer.old) result buffer.new }
 {
     let mut front = f;
-    let mut i = 0;
-    while i < samples.len() {
-        let rested = rest(front, samples, i);
-        let reached = gather(rested.front, samples, rested.at, buffer);
-        let at = reached.at;
-        let g = reached.front;
-        if samples.len() <= at {
+    let mut left = samples;
+    loop {
+        let rested = rest(front, left);
+        let gathered = gather(rested.front, rested.left, buffer);
+        let Some((&byte, after)) = gathered.left.split_first() else {
             return Ran {
-                front: g,
-                told: pins::refused_told(Answer::Done),
-                used: at,
+                front: gathered.front,
+                told: Ok(None),
+                used: samples.len(),
+            };
+        };
+        let stepped = pins::step_in(gathered.front, Levels(u32::from(byte)), buffer);
+        if is_end(stepped.told) {
+            return Ran {
+                front: stepped.front,
+                told: stepped.told,
+                used: samples.len() - after.len(),
             };
         }
-        let s = pins::step_in(g, wide(samples[at]), buffer);
-        let told = s.told;
-        front = s.front;
-        i = at + 1;
-        if is_end(told) {
-            return Ran {
-                front,
-                told,
-                used: i,
-            };
-        }
-    }
-    Ran {
-        front,
-        told: pins::refused_told(Answer::Done),
-        used: i,
+        front = stepped.front;
+        left = after;
     }
 }
 
 // A run of samples, a byte each, up to the first that hands a frame over or drops it. A front that is not right is answered 3, and nothing changes.
+#[tactic(auto, unfolding(crate::specs::Runs::ran_of))]
 pub fn run(front: Front, samples: &[u8], buffer: &mut [u8]) -> Ran
     ensures { Captures (ran_of front samples.now buffer.old) result buffer.new }
 {
     if !pins::front_ok(front) {
         return Ran {
             front,
-            told: pins::refused_told(Answer::BadState),
+            told: Err(Refusal::BadState),
             used: 0,
         };
     }

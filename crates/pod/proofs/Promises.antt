@@ -9,7 +9,7 @@ use borrow.Author.Tests.{eq-eqb, ne_eqb}
 use Rattle.units.proofs.Bools.{both}
 use Rattle.models.specs.Models.{model_of, is_sectors}
 use Rattle.answers.specs.Answers.{number_of}
-use Rattle.answers.specs.declared.Answer.{Answer}
+use Rattle.answers.specs.Answers.{Answer}
 use Rattle.states.specs.States.{state_ok, page_ok, chip_of}
 use Rattle.states.specs.declared.Record.{Record}
 use Rattle.states.specs.declared.State.{State}
@@ -24,7 +24,7 @@ use Rattle.packing.proofs.Packing.{page-packed, pack-unpack, unpack-pack}
 use Rattle.packing.proofs.Valid.{valid-packing}
 use Rattle.fits.specs.Fits.{may_move}
 use Rattle.fits.proofs.Fits.{Keeps, frame-keeps, refused, wait-keeps, cut_keeps, cycle-keeps, chip-spared, cut-spared}
-use Rattle.pod.proofs.Calls.{Unfit, unfit-frame, unfit-wait, unfit-cut, unfit-cycle, refused-altered, refused-answered}
+use Rattle.pod.proofs.Calls.{not-done, Unfit, unfit-frame, unfit-wait, unfit-cut, unfit-cycle, refused-altered, refused-answered}
 use Rattle.counts.specs.Counts.{report_of}
 use lib.ListN.{length}
 
@@ -59,7 +59,7 @@ module _ (rec : Record) (xs cells : List ℕ) (f : Sent) where
   refused-called : (number_of a ≡ 0 → ⊥)
       → called_frame rec xs cells f ≡ called (number_of a) (kept_of a (refusal_leaves rec.model a (unpack_of xs)) (page_in xs) xs) f.wear f.out 0 0 0
   unfolding called_frame
-  refused-called n = ap (called_of xs) (refused rec (chip_in xs cells) f (ne_eqb (number_of a) 0 n))
+  refused-called n = ap (called_of xs) (refused rec (chip_in xs cells) f (not-done a n))
 
   -- the bytes of a state that stays are those given
   stays : (number_of a ≡ 0 → ⊥) → ((model_of rec.model).latch_falls ≡ false) ⊎ (number_of a ≡ 17 → ⊥)
@@ -73,7 +73,7 @@ module _ (rec : Record) (xs cells : List ℕ) (f : Sent) where
       go true e (inl k) =
           ap (λ (s : State). packed s (page_in xs)) (leaves-latch rec.model a (unpack_of xs) k)
           ∙ pack-unpack xs (valid-packing rec xs ((frame-keeps rec (chip_in xs cells) f).valid e))
-      go true e (inr k) = absurd (true≢false (sym e ∙ rw (ne_eqb (number_of a) 0 n, ne_eqb (number_of a) 17 k)))
+      go true e (inr k) = absurd (true≢false (sym e ∙ rw (not-done a n, ne_eqb (number_of a) 17 k)))
 
 pub refused-frame-stays : RefusedFrameStays
 unfolding called_frame
@@ -85,23 +85,23 @@ unfolding called_frame kept_of
 refused-frame-clears rec xs cells f l e =
     let k = eq-eqb (number_of (a rec xs cells f)) 17 e in
     refused-called rec xs cells f (λ z. omega arith)
-    ∙ rw (clears-latch rec.model (a rec xs cells f) (unpack_of xs) l k, e)
+    ∙ rw (clears-latch rec.model (a rec xs cells f) (unpack_of xs) l k, not-done (a rec xs cells f) (λ z. omega arith), e)
 
 pub refused-wait-stays : RefusedWaitStays
 unfolding called_wait wait_of
 refused-wait-stays rec xs cells us n =
     let x = chip_in xs cells in
-    refused-altered xs cells (chip_refusal rec x) (waited rec.model x us) (chip-spared rec x) (ne_eqb _ 0 n)
+    refused-altered xs cells (chip_refusal rec x) (waited rec.model x us) (chip-spared rec x) (not-done _ n)
 
 pub refused-cut-stays : RefusedCutStays
 unfolding called_cut power_cut_of
 refused-cut-stays rec xs cells pattern n =
     let x = chip_in xs cells in
-    refused-altered xs cells (cut_refusal rec x pattern) (cut_off rec.model x pattern) (cut-spared rec x pattern) (ne_eqb _ 0 n)
+    refused-altered xs cells (cut_refusal rec x pattern) (cut_off rec.model x pattern) (cut-spared rec x pattern) (not-done _ n)
 
 pub refused-cycle-stays : RefusedCycleStays
 unfolding called_cycle power_of
-refused-cycle-stays rec xs n = ap (λ c. c.state) (refused-answered rec xs (ne_eqb (number_of (power_refusal rec (unpack_of xs) (page_in xs))) 0 n))
+refused-cycle-stays rec xs n = ap (λ c. c.state) (refused-answered rec xs (not-done _ n))
 
 -- ---- what the next call finds
 carried : (rec : Record) (xs cells : List ℕ) (a : Answer) (next : State) (page cells' : List ℕ) → Keeps rec (chip_in xs cells) a next page

@@ -1,31 +1,38 @@
 -- What C calls, one effect a call: the number returned and what each lent place holds after.
-use Rattle.std.specs.Prelude.{true, false, not, cond, List, ◌≡◌, ℕ, ◌≤◌, eqb, length}
-use Rattle.answers.specs.Answers.{number_of, is_done}
+use Rattle.std.specs.Prelude.{true, false, not, ◌&&◌, cond, List, ◌≡◌, ℕ, ◌≤◌, eqb, length, Option, None, Some, Result, Ok, Err}
+use Rattle.answers.specs.Answers.{Answer, Done, number, number_of}
 use Rattle.answers.specs.Tables.{first_of}
-use Rattle.ladder.specs.Ladder.{Loan, lent_rows, call_rows}
-use Rattle.states.specs.States.{flag, Chip, chip_of}
+use Rattle.answers.specs.declared.Refusal.{Refusal}
+use Rattle.ladder.specs.Ladder.{Loan, absent, sized, call_rows}
+use Rattle.states.specs.States.{record_ok, flag, Chip, chip_of}
 use Rattle.states.specs.declared.Record.{Record}
 use Rattle.states.specs.declared.State.{State}
-use Rattle.answers.specs.declared.Answer.{Answer}
-use Rattle.time.specs.declared.After.{After}
 use Rattle.counts.specs.declared.Figures.{Figures}
 use Rattle.counts.specs.Counts.{report_of}
 use Rattle.effects.specs.Effects.{Effect}
 use Rattle.chip.specs.Frames.{Sent, sent_of, frame_of}
-use Rattle.time.specs.Time.{Aftermath, wait_of, power_of, power_cut_of}
-use Rattle.packing.specs.Packing.{packed, page_in, unpack_of}
+use Rattle.time.specs.Time.{After, Aftermath, told, wait_of, power_of, power_cut_of}
+use Rattle.packing.specs.Packing.{packed, page_in, is_packing, unpack_of}
 use Rattle.fits.specs.Fits.{may_move}
 
 -- the chip that state bytes and array make
 abbrev pub chip_in : List ℕ → List ℕ → Chip
 chip_in state cells = chip_of (unpack_of state) (page_in state) cells
 
--- what bytes that pack no valid state are answered: the first row of every call (`call_rows`) that applies, to a call with such an array and such a wear table; and the same under a right record
+-- what bytes that pack no valid state are answered: the first row of every call (`call_rows`) that applies, to a call with such an array and such a wear table
 abbrev pub bytes_refusal : Record → Loan → Loan → ℕ
 bytes_refusal rec array table = number_of (first_of (call_rows rec array table false))
 
-abbrev pub lent_refusal : ℕ → Loan → Loan → ℕ
-lent_refusal model array table = number_of (first_of (lent_rows model array table false))
+-- what a call reads of the lent bytes, which has an array and a wear table of so many elements, or none: the state, or the first refusal
+abbrev pub loan : Option ℕ → Loan
+loan None = absent
+loan (Some n) = sized n
+
+abbrev pub first_refusal : Record → List ℕ → Loan → Loan → Answer
+first_refusal rec state array table = cond (record_ok rec && is_packing state) Done (first_of (call_rows rec array table false))
+
+unfoldable pub state_in : Record → List ℕ → Loan → Loan → Result State Refusal
+state_in rec state array table = told (first_refusal rec state array table) (unpack_of state)
 
 -- the state bytes after: those of the state and the page data after; where these cannot differ those given
 unfoldable pub kept_of : Answer → State → List ℕ → List ℕ → List ℕ
@@ -121,11 +128,12 @@ abbrev pub reported : ℕ → ℕ → ℕ → ℕ → ℕ → ℕ → ℕ → Re
 reported number total smallest largest sector mean remainder =
     record { number = number; total = total; smallest = smallest; largest = largest; sector = sector; mean = mean; remainder = remainder }
 
+abbrev pub reported_of : Result Figures Refusal → ℕ → ℕ → ℕ → ℕ → ℕ → ℕ → Reported
+reported_of (Ok r) total smallest largest sector mean remainder = reported 0 r.total r.smallest r.largest r.sector.0 r.mean r.remainder
+reported_of (Err r) total smallest largest sector mean remainder = reported (number r) total smallest largest sector mean remainder
+
 unfoldable pub called_report : List ℕ → ℕ → ℕ → ℕ → ℕ → ℕ → ℕ → Reported
-called_report wear total smallest largest sector mean remainder =
-    let r : Figures = report_of wear in
-    cond (is_done r.answer) (reported 0 r.total r.smallest r.largest r.sector.0 r.mean r.remainder)
-    (reported (number_of r.answer) total smallest largest sector mean remainder)
+called_report wear total smallest largest sector mean remainder = reported_of (report_of wear) total smallest largest sector mean remainder
 
 pub record Reports (c : Reported) (number total smallest largest sector mean remainder : ℕ) : Type 0 where
   pub number_is : number ≡ c.number

@@ -2,17 +2,21 @@
 use Rattle.std.specs.Prelude.{List, ◌≡◌, ℕ}
 use Rattle.answers.specs.Answers.{number_of}
 use Rattle.states.specs.States.{flag}
+use Rattle.pins.specs.Pins.{Told, answer_of, is_ready, frame_told}
 use Rattle.pins_packed.specs.Fronts.{Probed}
 
 -- ---- what a function's result and its lent places at exit have to be
+pub record GivenToC (t : Told) (number ready bytes tail wp : ℕ) : Type 0 where
+  pub number_is : number ≡ number_of (answer_of t)
+  pub ready-is : ready ≡ flag (is_ready t) 1
+  pub bytes-is : bytes ≡ (frame_told t).bytes
+  pub tail-is : tail ≡ (frame_told t).tail
+  pub wp-is : wp ≡ flag (frame_told t).wp 1
+
 pub record Yields (c : Probed) (number : ℕ) (front frame : List ℕ) (ready bytes tail wp : ℕ) : Type 0 where
-  pub number_is : number ≡ number_of c.told.answer
+  pub tells : GivenToC c.told number ready bytes tail wp
   pub front-is : front ≡ c.front
   pub frame_is : frame ≡ c.frame
-  pub ready-is : ready ≡ flag c.told.ready 1
-  pub bytes-is : bytes ≡ c.told.bytes
-  pub tail-is : tail ≡ c.told.tail
-  pub wp-is : wp ≡ flag c.told.wp 1
 
 pub record YieldsRun (c : Probed) (number : ℕ) (front frame : List ℕ) (used ready bytes tail wp : ℕ) : Type 0 where
   pub yields : Yields c number front frame ready bytes tail wp

@@ -12,12 +12,12 @@ pub extern "C" fn gwo_sfdp_read(
 ) -> u32
     ensures { ReadsTable (contents_of bytes.now) result headers.new density.new types.new }
 {
-    let c = sfdp::read(bytes);
+    let read = sfdp::read(bytes);
+    let c = read.unwrap_or_default();
     *headers = c.headers;
     *density = c.density;
     *types = c.types;
-    let answer = c.answer;
-    answers::number_of(answer)
+    answers::number_of(read.and(Ok(())))
 }
 
 // The revision.
@@ -25,11 +25,11 @@ pub extern "C" fn gwo_sfdp_read(
 pub extern "C" fn gwo_sfdp_revision(bytes: &[u8], minor: &mut u32, major: &mut u32) -> u32
     ensures { ReadsRevision (revision_of bytes.now) result minor.new major.new }
 {
-    let v = sfdp::revision(bytes);
+    let read = sfdp::revision(bytes);
+    let v = read.unwrap_or_default();
     *minor = v.minor;
     *major = v.major;
-    let answer = v.answer;
-    answers::number_of(answer)
+    answers::number_of(read.and(Ok(())))
 }
 
 // The parameter header of an index from 0.
@@ -45,14 +45,14 @@ pub extern "C" fn gwo_sfdp_header(
 ) -> u32
     ensures { ReadsHeader (header_of bytes.now index) result id.new minor.new major.new words.new pointer.new }
 {
-    let p = sfdp::header(bytes, index);
+    let read = sfdp::header(bytes, index);
+    let p = read.unwrap_or_default().unwrap_or_default();
     *id = p.id;
     *minor = p.minor;
     *major = p.major;
     *words = p.words;
     *pointer = p.pointer;
-    let answer = p.answer;
-    answers::number_of(answer)
+    answers::number_of(read.and(Ok(())))
 }
 
 // The erase type of a slot 1 to 4.
@@ -65,11 +65,11 @@ pub extern "C" fn gwo_sfdp_erase(
 ) -> u32
     ensures { ReadsErase (erase_of bytes.now slot) result exponent.new opcode.new }
 {
-    let s = sfdp::erase(bytes, slot);
+    let read = sfdp::erase(bytes, slot);
+    let s = read.unwrap_or_default().unwrap_or_default();
     *exponent = s.exponent;
     *opcode = s.opcode;
-    let answer = s.answer;
-    answers::number_of(answer)
+    answers::number_of(read.and(Ok(())))
 }
 
 // The table of a record into the first 112 bytes of out: 0, or 33 and nothing is written.

@@ -7,15 +7,15 @@ mod levels;
 
 ghost use Rattle.std.specs.Prelude.{◌≡◌};
 ghost use Rattle.answers.specs.Answers.{number_of};
-ghost use Rattle.ladder.specs.Ladder.{absent, sized};
+ghost use Rattle.ladder.specs.Ladder.{misfits};
 ghost use Rattle.packing.specs.Packing.{record_of, page_in};
-ghost use Rattle.pod.specs.Calls.{lent_refusal, called_report, Reports, kept_of, Packs, sent_by, Leaves, Alters, Answers, called_frame, called_wait, called_cut, called_cycle};
+ghost use Rattle.pod.specs.Calls.{state_in as Calls·state_in, loan, called_report, Reports, kept_of, Packs, sent_by, Leaves, Alters, Answers, called_frame, called_wait, called_cut, called_cycle};
 
-use answers::Answer;
+use answers::{Answer, Refusal};
 use packing::record_of;
-use states::State;
+use states::{Record, State};
 
-// The answer's number. The state after is packed where it may differ: where nothing was refused, and at 17; otherwise the lent bytes stay.
+// The answer's number. The state after a frame is packed where it may differ: where nothing was refused, and at 17; otherwise the lent bytes stay.
 fn keep(answer: Answer, next: State, state: &mut [u8]) -> u32
     requires { Packs answer next state.old }
     ensures { (result ≡ number_of answer) × (state.new ≡ kept_of answer next (page_in state.old) state.old) }
@@ -27,26 +27,74 @@ fn keep(answer: Answer, next: State, state: &mut [u8]) -> u32
     number
 }
 
-// What bytes that are no packing are answered under a right record, by a call with an array of that many cells: 2 or 3.
-fn bytes_refusal(model: u32, cells: usize) -> u32
-    ensures { result ≡ lent_refusal model (sized cells) absent }
+// This and the next four are part of the calls that C makes: apart from them they would take more of its stack.
+// Whether there is something lent, of another number of elements.
+#[inline(always)]
+fn misfits(lent: Option<usize>, n: usize) -> bool
+    ensures { result ≡ misfits (loan lent) n }
 {
-    let row = models::model_of(model);
-    if cells != row.length as usize {
-        return 2;
-    }
-    3
+    lent.is_some_and(|m| m != n)
 }
 
-// The same of a frame, which has a wear table of so many counts too: 24 stands between 2 and 3.
-fn frame_refusal(model: u32, cells: usize, sectors: usize) -> u32
-    ensures { result ≡ lent_refusal model (sized cells) (sized sectors) }
+// The state in the lent bytes of a call with an array and a wear table of so many elements, if it takes them. Before any other test the record has to be
+// right; bytes that are no packing hold no valid state: 3, after what else is lent.
+#[inline(always)]
+fn state_in(
+    rec: Record,
+    state: &[u8],
+    cells: Option<usize>,
+    sectors: Option<usize>,
+) -> Result<State, Refusal>
+    ensures { result ≡ Calls·state_in rec state.now (loan cells) (loan sectors) }
 {
-    let row = models::model_of(model);
-    if sectors == row.sectors as usize {
-        return bytes_refusal(model, cells);
+    if !states::record_ok(rec) {
+        return Err(Refusal::BadRecord);
     }
-    if cells == row.length as usize { 24 } else { 2 }
+    let busy = packing::busy_in(state);
+    if packing::is_packed(state, busy) {
+        return Ok(packing::unpack(state, busy));
+    }
+    let row = models::model_of(rec.model);
+    if misfits(cells, row.length as usize) {
+        return Err(Refusal::BadArray);
+    }
+    if misfits(sectors, row.sectors as usize) {
+        return Err(Refusal::BadTable);
+    }
+    Err(Refusal::BadState)
+}
+
+// Any wait.
+#[inline(always)]
+fn wait(rec: Record, state: &mut [u8], array: &mut [u8], us: u32) -> Answer
+    ensures { Alters (called_wait rec state.old array.old us) (number_of result) state.new array.new }
+{
+    let st = state_in(rec, state, Some(array.len()), None)?;
+    let next = time::wait(rec, st, &mut state[16..272], array, us)?;
+    packing::pack(next, state);
+    Ok(())
+}
+
+// Any cut of the power.
+#[inline(always)]
+fn cut(rec: Record, state: &mut [u8], array: &mut [u8], pattern: &[u8]) -> Answer
+    ensures { Alters (called_cut rec state.old array.old pattern.now) (number_of result) state.new array.new }
+{
+    let st = state_in(rec, state, Some(array.len()), None)?;
+    let next = time::cut(rec, st, &mut state[16..272], array, pattern)?;
+    packing::pack(next, state);
+    Ok(())
+}
+
+// Any power cycle.
+#[inline(always)]
+fn cycle(rec: Record, state: &mut [u8]) -> Answer
+    ensures { Answers (called_cycle rec state.old) (number_of result) state.new }
+{
+    let st = state_in(rec, state, None, None)?;
+    let next = time::power_cycle(rec, st, &state[16..272])?;
+    packing::pack(next, state);
+    Ok(())
 }
 
 // ---- what C calls
@@ -83,20 +131,15 @@ pub extern "C" fn gwo_frame(
         model, status_us, page_us, sector_us, block_us, chip_us, half_us, sleep_us, wake_us,
         sign_us,
     );
-    if !states::record_ok(rec) {
-        *from = 0;
-        *count = 0;
-        *fold = 0;
-        return 1;
-    }
-    let busy = packing::busy_in(state);
-    if !packing::is_packed(state, busy) {
-        *from = 0;
-        *count = 0;
-        *fold = 0;
-        return frame_refusal(rec.model, array.len(), wear.len());
-    }
-    let st = packing::unpack(state, busy);
+    let st = match state_in(rec, state, Some(array.len()), Some(wear.len())) {
+        Ok(st) => st,
+        Err(refusal) => {
+            *from = 0;
+            *count = 0;
+            *fold = 0;
+            return refusal.number();
+        }
+    };
     let reply = chip::frame(
         rec,
         st,
@@ -112,9 +155,7 @@ pub extern "C" fn gwo_frame(
     *from = reply.from;
     *count = reply.count;
     *fold = reply.fold as u32;
-    let answer = reply.answer;
-    let next = reply.state;
-    keep(answer, next, state)
+    keep(reply.answer, reply.state, state)
 }
 
 // Any wait, in microseconds: its answer's number.
@@ -140,18 +181,7 @@ pub extern "C" fn gwo_wait(
         model, status_us, page_us, sector_us, block_us, chip_us, half_us, sleep_us, wake_us,
         sign_us,
     );
-    if !states::record_ok(rec) {
-        return 1;
-    }
-    let busy = packing::busy_in(state);
-    if !packing::is_packed(state, busy) {
-        return bytes_refusal(rec.model, array.len());
-    }
-    let st = packing::unpack(state, busy);
-    let waited = time::wait(rec, st, &mut state[16..272], array, us);
-    let answer = waited.answer;
-    let next = waited.state;
-    keep(answer, next, state)
+    answers::number_of(wait(rec, state, array, us))
 }
 
 // Any cut of the power, with the pattern that it leaves behind: its answer's number.
@@ -177,18 +207,7 @@ pub extern "C" fn gwo_cut(
         model, status_us, page_us, sector_us, block_us, chip_us, half_us, sleep_us, wake_us,
         sign_us,
     );
-    if !states::record_ok(rec) {
-        return 1;
-    }
-    let busy = packing::busy_in(state);
-    if !packing::is_packed(state, busy) {
-        return bytes_refusal(rec.model, array.len());
-    }
-    let st = packing::unpack(state, busy);
-    let torn = time::cut(rec, st, &mut state[16..272], array, pattern);
-    let answer = torn.answer;
-    let next = torn.state;
-    keep(answer, next, state)
+    answers::number_of(cut(rec, state, array, pattern))
 }
 
 // Any power cycle: its answer's number.
@@ -212,22 +231,12 @@ pub extern "C" fn gwo_power_cycle(
         model, status_us, page_us, sector_us, block_us, chip_us, half_us, sleep_us, wake_us,
         sign_us,
     );
-    if !states::record_ok(rec) {
-        return 1;
-    }
-    let busy = packing::busy_in(state);
-    if !packing::is_packed(state, busy) {
-        return 3;
-    }
-    let st = packing::unpack(state, busy);
-    let cycled = time::power_cycle(rec, st, &state[16..272]);
-    let answer = cycled.answer;
-    let next = cycled.state;
-    keep(answer, next, state)
+    answers::number_of(cycle(rec, state))
 }
 
 // The report on a wear table: its answer's number. The six places are written only where it is 0.
 #[unsafe(no_mangle)]
+#[tactic(auto, unfolding(crate::specs::Calls::called_report))]
 pub extern "C" fn gwo_wear_report(
     wear: &[u32],
     total: &mut u64,
@@ -239,17 +248,16 @@ pub extern "C" fn gwo_wear_report(
 ) -> u32
     ensures { Reports (called_report wear.now total.old smallest.old largest.old sector.old mean.old remainder.old) result total.new smallest.new largest.new sector.new mean.new remainder.new }
 {
-    let said = counts::report(wear);
-    let answer = said.answer;
-    if !answers::is_done(answer) {
-        return answers::number_of(answer);
+    match counts::report(wear) {
+        Ok(said) => {
+            *total = said.total;
+            *smallest = said.smallest;
+            *largest = said.largest;
+            *sector = said.sector.0;
+            *mean = said.mean;
+            *remainder = said.remainder;
+            0
+        }
+        Err(refusal) => refusal.number(),
     }
-    let first = said.sector;
-    *total = said.total;
-    *smallest = said.smallest;
-    *largest = said.largest;
-    *sector = first.0;
-    *mean = said.mean;
-    *remainder = said.remainder;
-    0
 }

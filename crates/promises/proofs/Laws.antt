@@ -1,4 +1,5 @@
 -- The statements of `specs/Laws.antt`.
+use Rattle.std.specs.Prelude.{Option, Some, None}
 use mathlib.Core.Path.{◌≡◌, refl, sym, ap, ap₂, subst, ◌∙◌}
 use mathlib.Core.Bool.{Bool, true, false, not, ◌&&◌, ◌||◌, cond, or-true, true≢false, false≢true}
 use mathlib.Core.List.{List}
@@ -19,13 +20,12 @@ use Rattle.fold.specs.Fold.{cell_after}
 use Rattle.flash.specs.Arrays.{programmed}
 use Rattle.fold.proofs.Counts.{only-falls}
 use Rattle.flash.proofs.Arrays.{page-folds, outside-stays}
-use Rattle.answers.specs.Answers.{number_of, is_done, says_protected}
-use Rattle.answers.specs.declared.Answer.{Answer}
-use Rattle.answers.specs.declared.Answer.TheVariants.{Settling}
+use Rattle.answers.specs.Answers.{Answer, number_of, is_done, says_protected}
+use Rattle.answers.specs.declared.Refusal.TheVariants.{Settling}
 use Rattle.answers.proofs.Tables.{by-then}
 use Rattle.commands.specs.Commands.{decode_of}
 use Rattle.commands.specs.declared.Operation.{Operation}
-use Rattle.commands.specs.declared.Operation.TheVariants.{Idle, WritesStatus, Programs, ErasesSector, ErasesHalf, ErasesBlock, ErasesChip}
+use Rattle.commands.specs.declared.Operation.TheVariants.{WritesStatus, Programs, ErasesSector, ErasesHalf, ErasesBlock, ErasesChip}
 use Rattle.states.specs.States.{tb_of, blank_page, Chip, chip_of}
 use Rattle.states.specs.declared.Record.{Record}
 use Rattle.states.specs.declared.State.{State}
@@ -40,7 +40,6 @@ use Rattle.operations.proofs.Fits.{inside, page-fits}
 use Rattle.operations.proofs.Kept.{config-after-tb, finished-settle}
 use Rattle.operations.proofs.Only.{finished-only, cut-only}
 use Rattle.operations.proofs.Patterns.{old-cells, new-cells}
-use Rattle.time.specs.declared.After.{After}
 use Rattle.time.specs.Time.{later, waited, cycled, cut_off, chip_refusal, power_refusal, cut_refusal, wait_of, power_of, power_cut_of}
 use Rattle.time.proofs.Time.{chip-fits, fit-taken, ready, cuttable}
 use Rattle.chip.specs.Frames.{head_for, refused_of, Sent, frame_of}
@@ -96,16 +95,16 @@ same_end rec x a p n =
     let e : x.state.settle - a ≡ x.state.settle = omega arith in
     bits (runs rec.model x.state) e
   where
-    bits : (op : Operation) → x.state.settle - a ≡ x.state.settle
+    bits : (op : Option Operation) → x.state.settle - a ≡ x.state.settle
         → chip_of (forgotten (finished_bits rec.model op (later x.state a) x.page)) blank_page (finished_cells op (runs_at x.state) x.page x.cells)
         ≡ chip_of (forgotten (finished_bits rec.model op x.state x.page)) blank_page (finished_cells op (runs_at x.state) x.page x.cells)
-    bits Idle e = rw e
-    bits WritesStatus e = rw e
-    bits Programs e = rw e
-    bits ErasesSector e = rw e
-    bits ErasesHalf e = rw e
-    bits ErasesBlock e = rw e
-    bits ErasesChip e = rw e
+    bits None e = rw e
+    bits (Some WritesStatus) e = rw e
+    bits (Some Programs) e = rw e
+    bits (Some ErasesSector) e = rw e
+    bits (Some ErasesHalf) e = rw e
+    bits (Some ErasesBlock) e = rw e
+    bits (Some ErasesChip) e = rw e
 
 goes_on : (rec : Record) (x : Chip) (a b : ℕ) → (eqb (x.state.busy - a) 0 || ltb b (x.state.busy - a)) ≡ true
     → waited rec.model (chip_of (later x.state a) x.page x.cells) b ≡ chip_of (later x.state (a + b)) x.page x.cells
@@ -204,15 +203,15 @@ cycled-tb : (s : State) → tb_of s ≡ true → tb_of (cycled s) ≡ true
 unfolding tb_of cycled
 cycled-tb s h = let e : s.config / 8 % 2 ≡ 1 = eqb-true (s.config / 8 % 2) 1 h in eq-eqb (s.config / 8 % 2 * 8 / 8 % 2) 1 (omega arith)
 
-finished-tb : (n : ℕ) (s : State) (page : List ℕ) (op : Operation) → tb_of s ≡ true → tb_of (forgotten (finished_bits n op s page)) ≡ true
+finished-tb : (n : ℕ) (s : State) (page : List ℕ) (op : Option Operation) → tb_of s ≡ true → tb_of (forgotten (finished_bits n op s page)) ≡ true
 unfolding tb_of forgotten written
-finished-tb n s page Idle h = h
-finished-tb n s page WritesStatus h = config-after-tb n s page h
-finished-tb n s page Programs h = h
-finished-tb n s page ErasesSector h = h
-finished-tb n s page ErasesHalf h = h
-finished-tb n s page ErasesBlock h = h
-finished-tb n s page ErasesChip h = h
+finished-tb n s page None h = h
+finished-tb n s page (Some WritesStatus) h = config-after-tb n s page h
+finished-tb n s page (Some Programs) h = h
+finished-tb n s page (Some ErasesSector) h = h
+finished-tb n s page (Some ErasesHalf) h = h
+finished-tb n s page (Some ErasesBlock) h = h
+finished-tb n s page (Some ErasesChip) h = h
 
 -- a cut bit that was 1 and was to be 1 is 1
 torn-tb : (n : ℕ) (s : State) (page pattern : List ℕ) → tb_of s ≡ true → tb_of (torn_bits n s page pattern) ≡ true
@@ -223,14 +222,14 @@ torn-tb n s page pattern h =
     let w : bit 3 new ≡ 1 = eqb-true (new / 8 % 2) 1 (config-after-tb n s page h) in
     eq-eqb (torn s.config new (get_or pattern 1 0) / 8 % 2) 1 (torn-bit 3 s.config new (get_or pattern 1 0) ∙ rw (o, w))
 
-cut-tb : (n : ℕ) (s : State) (page pattern : List ℕ) (op : Operation) → tb_of s ≡ true → tb_of (cut_bits n op s page pattern) ≡ true
-cut-tb n s page pattern Idle h = h
-cut-tb n s page pattern WritesStatus h = torn-tb n s page pattern h
-cut-tb n s page pattern Programs h = h
-cut-tb n s page pattern ErasesSector h = h
-cut-tb n s page pattern ErasesHalf h = h
-cut-tb n s page pattern ErasesBlock h = h
-cut-tb n s page pattern ErasesChip h = h
+cut-tb : (n : ℕ) (s : State) (page pattern : List ℕ) (op : Option Operation) → tb_of s ≡ true → tb_of (cut_bits n op s page pattern) ≡ true
+cut-tb n s page pattern None h = h
+cut-tb n s page pattern (Some WritesStatus) h = torn-tb n s page pattern h
+cut-tb n s page pattern (Some Programs) h = h
+cut-tb n s page pattern (Some ErasesSector) h = h
+cut-tb n s page pattern (Some ErasesHalf) h = h
+cut-tb n s page pattern (Some ErasesBlock) h = h
+cut-tb n s page pattern (Some ErasesChip) h = h
 
 pub by : (P : Chip → Type 0) (b : Bool) (x y : Chip) → (b ≡ false → P x) → (b ≡ true → P y) → P (cond b y x)
 by P true x y f g = g refl
@@ -314,7 +313,7 @@ program-falls rec x us b k e =
     ended : is_done (chip_refusal rec x) ≡ true → bit b (get_or (finished_cells (runs rec.model x.state) (runs_at x.state) x.page x.cells) k 0) ≤ bit b (get_or x.cells k 0)
     ended d =
         let r = ready rec x (chip-fits rec x d) in
-        let i = inside rec.model Programs x.state.address x.cells e r.placed r.whole refl in
+        let i = inside rec.model (Some Programs) x.state.address x.cells e r.placed r.whole refl in
         rw e (falls-in x.cells (page_address (runs_at x.state)) x.page b k (omega (arith, page-fits rec.model x.cells (runs_at x.state) i r.whole)))
 
 -- ---- patterns
@@ -356,12 +355,9 @@ one-counting op at before r t xs ys g k =
 pub one_left : OneLeft
 one_left x s t page page' xs ys g k = (g.state-is ∙ sym k.state-is, g.page-is ∙ sym k.page-is, g.cells_are ∙ sym k.cells_are)
 
-same_after : {r t : After} → r.answer ≡ t.answer → r.state ≡ t.state → r ≡ t
-same_after {r} {t} p q = ap₂ (λ (a : Answer) (s : State). record { answer = a; state = s }) p q
-
 pub one_end : OneEnd
 one_end o r t page page' xs ys g k =
-    (same_after (g.answer-is ∙ sym k.answer-is) (g.state-is ∙ sym k.state-is), g.page-is ∙ sym k.page-is, g.cells_are ∙ sym k.cells_are)
+    (g.result-is ∙ sym k.result-is, g.page-is ∙ sym k.page-is, g.cells_are ∙ sym k.cells_are)
 
 pub one-cycle : OneCycle
 one-cycle rec s page r t p q = p ∙ sym q

@@ -1,4 +1,5 @@
 -- The locked area: no status write runs, so BP, TB and SRWD stay, and the cells with them.
+use Rattle.std.specs.Prelude.{Option, Some, None}
 use mathlib.Core.Path.{◌≡◌, refl, ap, subst, ◌∙◌}
 use mathlib.Core.Bool.{Bool, true, false, not, ◌&&◌, ◌||◌, cond, true≢false}
 use mathlib.Core.List.{List, [], ◌∷◌}
@@ -8,7 +9,7 @@ use lib.Dec.{eqb, ltb}
 use Rattle.units.specs.declared.Address.{Address}
 use Rattle.answers.specs.Answers.{is_done}
 use Rattle.commands.specs.declared.Operation.{Operation}
-use Rattle.commands.specs.declared.Operation.TheVariants.{Idle, WritesStatus, Programs, ErasesSector, ErasesHalf, ErasesBlock, ErasesChip}
+use Rattle.commands.specs.declared.Operation.TheVariants.{WritesStatus, Programs, ErasesSector, ErasesHalf, ErasesBlock, ErasesChip}
 use Rattle.states.specs.States.{tb_of, Chip, chip_of}
 use Rattle.states.specs.declared.Record.{Record}
 use Rattle.states.specs.declared.State.{State}
@@ -45,23 +46,23 @@ next-keeps (rests b time) = kept refl refl refl
 next-keeps (begins command place time q) = kept refl refl refl
 
 -- so does all else, where no status write runs that finishes or is cut
-finished-bits : (n : ℕ) (s : State) (page : List ℕ) (op : Operation) → is_write op ≡ false → finished_bits n op s page ≡ s
-finished-bits n s page Idle w = refl
-finished-bits n s page WritesStatus w = absurd (true≢false w)
-finished-bits n s page Programs w = refl
-finished-bits n s page ErasesSector w = refl
-finished-bits n s page ErasesHalf w = refl
-finished-bits n s page ErasesBlock w = refl
-finished-bits n s page ErasesChip w = refl
+finished-bits : (n : ℕ) (s : State) (page : List ℕ) (op : Option Operation) → is_write op ≡ false → finished_bits n op s page ≡ s
+finished-bits n s page None w = refl
+finished-bits n s page (Some WritesStatus) w = absurd (true≢false w)
+finished-bits n s page (Some Programs) w = refl
+finished-bits n s page (Some ErasesSector) w = refl
+finished-bits n s page (Some ErasesHalf) w = refl
+finished-bits n s page (Some ErasesBlock) w = refl
+finished-bits n s page (Some ErasesChip) w = refl
 
-cut-bits : (n : ℕ) (s : State) (page pattern : List ℕ) (op : Operation) → is_write op ≡ false → cut_bits n op s page pattern ≡ s
-cut-bits n s page pattern Idle w = refl
-cut-bits n s page pattern WritesStatus w = absurd (true≢false w)
-cut-bits n s page pattern Programs w = refl
-cut-bits n s page pattern ErasesSector w = refl
-cut-bits n s page pattern ErasesHalf w = refl
-cut-bits n s page pattern ErasesBlock w = refl
-cut-bits n s page pattern ErasesChip w = refl
+cut-bits : (n : ℕ) (s : State) (page pattern : List ℕ) (op : Option Operation) → is_write op ≡ false → cut_bits n op s page pattern ≡ s
+cut-bits n s page pattern None w = refl
+cut-bits n s page pattern (Some WritesStatus) w = absurd (true≢false w)
+cut-bits n s page pattern (Some Programs) w = refl
+cut-bits n s page pattern (Some ErasesSector) w = refl
+cut-bits n s page pattern (Some ErasesHalf) w = refl
+cut-bits n s page pattern (Some ErasesBlock) w = refl
+cut-bits n s page pattern (Some ErasesChip) w = refl
 
 later-keeps : (s : State) (us : ℕ) → Kept s (later s us)
 unfolding later tb_of
@@ -76,7 +77,7 @@ unfolding cycled
 cycled-keeps s = kept refl refl (cycle-keeps-tb s)
 
 -- the chip is idle, or no status write runs
-abbrev NoWrite : Operation → Address → Type 0
+abbrev NoWrite : Option Operation → Address → Type 0
 NoWrite op at = is_write op ≡ false
 
 module _ (rec : Record) (x : Chip) (m : Mood rec NoWrite x.state) where
@@ -120,7 +121,7 @@ record Guarding (rec : Record) (start s : State) : Type 0 where
 
 module _ (rec : Record) (start : State) (locked : start.srwd ≡ true) where
   -- with SRWD 1 and WP# low no frame starts one
-  no_write : (op : Operation) (wp : Bool) → wp ≡ false → (is_write op ≡ true → (true && not wp) ≡ false) → is_write op ≡ false
+  no_write : (op : Option Operation) (wp : Bool) → wp ≡ false → (is_write op ≡ true → (true && not wp) ≡ false) → is_write op ≡ false
   no_write op wp w h = go (is_write op) refl
     where
       go : (b : Bool) → is_write op ≡ b → b ≡ false

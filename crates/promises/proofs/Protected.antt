@@ -1,4 +1,5 @@
 -- The protected area: what a frame can start, and an invariant that every call keeps while BP and TB stay.
+use Rattle.std.specs.Prelude.{Option, Some, None}
 use mathlib.Core.Path.{◌≡◌, refl, sym, ap, ◌∙◌}
 use mathlib.Core.Bool.{Bool, true, false, not, ◌&&◌, ◌||◌, cond, true≢false, false≢true}
 use mathlib.Core.List.{List, [], ◌∷◌}
@@ -17,7 +18,7 @@ use Rattle.commands.specs.Commands.{decode_of, traits_of, operation_of, started_
 use Rattle.commands.specs.declared.Command.{Command}
 use Rattle.commands.specs.declared.Command.TheVariants.{WriteEnable, WriteDisable, ReadStatus, ReadConfig, WriteStatus, Read, FastRead, EraseSector, EraseHalf, EraseBlock, EraseChip, Program, ReadId, Wake, ReadMaker, Sleep, Unknown, Withdrawn, ReadSfdp}
 use Rattle.commands.specs.declared.Operation.{Operation}
-use Rattle.commands.specs.declared.Operation.TheVariants.{Idle, WritesStatus, Programs, ErasesSector, ErasesHalf, ErasesBlock, ErasesChip}
+use Rattle.commands.specs.declared.Operation.TheVariants.{WritesStatus, Programs, ErasesSector, ErasesHalf, ErasesBlock, ErasesChip}
 use Rattle.commands.proofs.Rows.{none-started}
 use Rattle.states.specs.States.{tb_of, state_ok, no_address, Chip, chip_of}
 use Rattle.states.specs.declared.Record.{Record}
@@ -49,17 +50,17 @@ outside-by u k h = go (ltb k u.start) refl (ltb k (u.start + u.size)) refl
     go false p true q = absurd (h (ltb-false k u.start p) (ltb-true k (u.start + u.size) q))
     go false p false q = inr (ltb-false k (u.start + u.size) q)
 
-abbrev pub is_write : Operation → Bool
-is_write Idle = false
-is_write WritesStatus = true
-is_write Programs = false
-is_write ErasesSector = false
-is_write ErasesHalf = false
-is_write ErasesBlock = false
-is_write ErasesChip = false
+abbrev pub is_write : Option Operation → Bool
+is_write None = false
+is_write (Some WritesStatus) = true
+is_write (Some Programs) = false
+is_write (Some ErasesSector) = false
+is_write (Some ErasesHalf) = false
+is_write (Some ErasesBlock) = false
+is_write (Some ErasesChip) = false
 
 -- what an accepted frame can start: nothing in the area that the state protects, and a status write only where it is not locked
-pub record Starts (rec : Record) (s : State) (wp : Bool) (op : Operation) (at : Address) : Type 0 where
+pub record Starts (rec : Record) (s : State) (wp : Bool) (op : Option Operation) (at : Address) : Type 0 where
   pub outside : Spares rec s op at
   pub unlocked : is_write op ≡ true → (s.srwd && not wp) ≡ false
 
@@ -83,7 +84,7 @@ module _ (rec : Record) (s : State) (wp : Bool) where
 
   module _ (at : Address) (bytes wear out : List ℕ) where
     -- an operation on the unit of an address that is not protected
-    begins-unit : (op : Operation) (time : ℕ) → started_by rec.model (get_or bytes 0 0) ≡ op → is_write op ≡ false
+    begins-unit : (op : Option Operation) (time : ℕ) → started_by rec.model (get_or bytes 0 0) ≡ op → is_write op ≡ false
         → ((n k : ℕ) → (at.0 / 65536 ≡ k / 65536 → ⊥) → Outside (unit_of op at n) k)
         → (is_protected rec.model (tb_of s) s.bp (block_of at) || false) ≡ false → Next rec s wp (starting s (get_or bytes 0 0) at.0 time)
     begins-unit op time e w o free =
@@ -91,14 +92,14 @@ module _ (rec : Record) (s : State) (wp : Bool) where
         (rw e (record { outside = λ k a. o _ k (other_block at (neither _ false free).0 k a); unlocked = λ i. absurd (false≢true (sym w ∙ i)) }))
 
     -- a chip erase: BP is 0, and nothing is protected
-    begins-whole : (time : ℕ) → started_by rec.model (get_or bytes 0 0) ≡ ErasesChip → not (eqb s.bp 0) ≡ false → Next rec s wp (starting s (get_or bytes 0 0) no_address time)
+    begins-whole : (time : ℕ) → started_by rec.model (get_or bytes 0 0) ≡ Some ErasesChip → not (eqb s.bp 0) ≡ false → Next rec s wp (starting s (get_or bytes 0 0) no_address time)
     begins-whole time e free =
         let z : s.bp ≡ 0 = eqb-true s.bp 0 (not-false _ free) in
         begins (get_or bytes 0 0) no_address time
         (rw e (record { outside = λ k a. absurd (true≢false (sym a ∙ ap (λ (b : ℕ). is_protected rec.model (tb_of s) b (record { 0 = k / 65536 })) z ∙ unprotected rec.model (tb_of s) (record { 0 = k / 65536 }))); unlocked = λ i. absurd (false≢true i) }))
 
     -- a status write has no cells
-    begins-write : (place time : ℕ) → started_by rec.model (get_or bytes 0 0) ≡ WritesStatus → (s.srwd && not wp) ≡ false → Next rec s wp (starting s (get_or bytes 0 0) place time)
+    begins-write : (place time : ℕ) → started_by rec.model (get_or bytes 0 0) ≡ Some WritesStatus → (s.srwd && not wp) ≡ false → Next rec s wp (starting s (get_or bytes 0 0) place time)
     begins-write place time e l = begins (get_or bytes 0 0) place time (rw e (record { outside = λ k a. inr (omega arith); unlocked = λ i. l }))
 
     -- an accepted frame, by its command
@@ -113,11 +114,11 @@ module _ (rec : Record) (s : State) (wp : Bool) where
     accepted-next WriteStatus m l f page cells = begins-write _ _ (ap operation_of m) l
     accepted-next Read m l f page cells = remains
     accepted-next FastRead m l f page cells = remains
-    accepted-next EraseSector m l f page cells = begins-unit ErasesSector _ (ap operation_of m) refl (λ n k d. outside-by _ k (λ a b. d (omega arith))) f
-    accepted-next EraseHalf m l f page cells = begins-unit ErasesHalf _ (ap operation_of m) refl (λ n k d. outside-by _ k (λ a b. d (omega arith))) f
-    accepted-next EraseBlock m l f page cells = begins-unit ErasesBlock _ (ap operation_of m) refl (λ n k d. outside-by _ k (λ a b. d (omega arith))) f
+    accepted-next EraseSector m l f page cells = begins-unit (Some ErasesSector) _ (ap operation_of m) refl (λ n k d. outside-by _ k (λ a b. d (omega arith))) f
+    accepted-next EraseHalf m l f page cells = begins-unit (Some ErasesHalf) _ (ap operation_of m) refl (λ n k d. outside-by _ k (λ a b. d (omega arith))) f
+    accepted-next EraseBlock m l f page cells = begins-unit (Some ErasesBlock) _ (ap operation_of m) refl (λ n k d. outside-by _ k (λ a b. d (omega arith))) f
     accepted-next EraseChip m l f page cells = begins-whole _ (ap operation_of m) f
-    accepted-next Program m l f page cells = begins-unit Programs _ (ap operation_of m) refl (λ n k d. outside-by _ k (λ a b. d (omega arith))) f
+    accepted-next Program m l f page cells = begins-unit (Some Programs) _ (ap operation_of m) refl (λ n k d. outside-by _ k (λ a b. d (omega arith))) f
     accepted-next ReadId m l f page cells = remains
     accepted-next Wake m l f page cells = rests false _
     accepted-next ReadMaker m l f page cells = remains
@@ -136,10 +137,10 @@ frame-next rec x f =
     (λ d. refused-next rec x.state f.wp (refused-moves rec x f))
 
 -- an idle chip with a valid state runs nothing, and nothing has no cells
-pub idle-runs : (rec : Record) (s : State) → state_ok rec s ≡ true → s.busy ≡ 0 → runs rec.model s ≡ Idle
+pub idle-runs : (rec : Record) (s : State) → state_ok rec s ≡ true → s.busy ≡ 0 → runs rec.model s ≡ None
 idle-runs rec s v z = ⊎_elim (λ q. ap (started_by rec.model) q.command ∙ none-started rec.model) (λ q. absurd (omega (arith, q.busy))) (sound rec s v).mood
 
-nothing-spared : (rec : Record) (p s : State) → runs rec.model s ≡ Idle → Spares rec p (runs rec.model s) (runs_at s)
+nothing-spared : (rec : Record) (p s : State) → runs rec.model s ≡ None → Spares rec p (runs rec.model s) (runs_at s)
 nothing-spared rec p s e k a = rw e (inr (omega arith))
 
 taken-valid : (rec : Record) (x : Chip) (f : Sent) → is_done (frame_of rec x f).reply.answer ≡ true → state_ok rec x.state ≡ true
@@ -147,7 +148,7 @@ taken-valid rec x f =
     frame-cases rec x f (λ (e : Effect). is_done e.reply.answer ≡ true → state_ok rec x.state ≡ true)
     (λ d g. (passed rec x.state (head rec x f) d).valid) (λ d g. absurd (false≢true (sym d ∙ g)))
 
-next-spares : {rec : Record} {s t : State} {wp : Bool} → runs rec.model s ≡ Idle → Next rec s wp t → Spares rec s (runs rec.model t) (runs_at t)
+next-spares : {rec : Record} {s t : State} {wp : Bool} → runs rec.model s ≡ None → Next rec s wp t → Spares rec s (runs rec.model t) (runs_at t)
 unfolding latched dozing starting
 next-spares {rec} {s} e remains = nothing-spared rec s s e
 next-spares {rec} {s} e (enables b) = nothing-spared rec s s e
@@ -158,11 +159,11 @@ pub starts-outside : StartsOutside
 starts-outside rec x f z d = next-spares (idle-runs rec x.state (taken-valid rec x f d) z) (frame-next rec x f)
 
 -- ---- what is so of an idle chip, and of what runs otherwise, is so after every call, if it is of what a frame starts
-module _ (rec : Record) (Q : Operation → Address → Type 0) where
+module _ (rec : Record) (Q : Option Operation → Address → Type 0) where
   abbrev pub Mood : State → Type 0
   Mood s = (s.busy ≡ 0) ⊎ Q (runs rec.model s) (runs_at s)
 
-  next-mood : {s t : State} {wp : Bool} → ((op : Operation) (at : Address) → Starts rec s wp op at → Q op at) → Mood s → Next rec s wp t → Mood t
+  next-mood : {s t : State} {wp : Bool} → ((op : Option Operation) (at : Address) → Starts rec s wp op at → Q op at) → Mood s → Next rec s wp t → Mood t
   unfolding latched dozing starting
   next-mood h m remains = m
   next-mood h m (enables b) = m
@@ -193,7 +194,7 @@ module _ (rec : Record) (Q : Operation → Address → Type 0) where
   cut-mood x pattern m =
       by (λ (y : Chip). Mood y.state) (is_done (cut_refusal rec x pattern)) x (cut_off rec.model x pattern) (λ d. m) (λ d. inl refl)
 
-  pub call-mood : (c : Call) (x : Chip) → ((f : Sent) → c ≡ sends f → (op : Operation) (at : Address) → Starts rec x.state f.wp op at → Q op at) → Mood x.state
+  pub call-mood : (c : Call) (x : Chip) → ((f : Sent) → c ≡ sends f → (op : Option Operation) (at : Address) → Starts rec x.state f.wp op at → Q op at) → Mood x.state
       → Mood (after ours rec [] c x).state
   unfolding after
   call-mood (sends f) x h m = next-mood (h f refl) m (frame-next rec x f)

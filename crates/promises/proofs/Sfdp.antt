@@ -1,4 +1,5 @@
 -- The statements of `specs/Sfdp.antt`.
+use Rattle.std.specs.Prelude.{Err}
 use mathlib.Core.Path.{◌≡◌, refl, ap, subst, ◌∙◌}
 use mathlib.Core.List.{List, [], ◌∷◌}
 use mathlib.Core.Logic.{⊎_elim}
@@ -14,7 +15,8 @@ use Rattle.sfdp.specs.Sfdp.{table_refusal, entry_of}
 use Rattle.sfdp.proofs.Promises.{hosts-view}
 use Rattle.units.specs.Kinds.{sfdp_address}
 use Rattle.models.specs.Models.{model_of}
-use Rattle.answers.specs.declared.Answer.TheVariants.{Done, NoCommand, BadLength}
+use Rattle.answers.specs.Answers.{Done}
+use Rattle.answers.specs.declared.Refusal.TheVariants.{NoCommand, BadLength}
 use Rattle.commands.specs.Commands.{decode_of, traits_of, length_ok}
 use Rattle.commands.specs.declared.Command.{Command}
 use Rattle.commands.specs.declared.Command.TheVariants.{ReadSfdp, Unknown}
@@ -76,10 +78,10 @@ module _ (rec : Record) (x : Chip) (f : Sent) (c : Clear21 rec x f) where
         taken rec x c.bench f c.short c.tail c.roomy c.tabled (said l) clear
         ∙ ap (λ (k : Command). accepted_of rec x k (head_of rec x f).address f.bytes f.wear f.out) means
 
-    short : length f.bytes < 5 → refusal rec x f ≡ BadLength
+    short : length f.bytes < 5 → refusal rec x f ≡ Err BadLength
     unfolding said_of head_for traits_of length_ok
     short l =
-        stopped_by rec x c.bench f BadLength refl c.short c.tail c.roomy c.tabled
+        stopped_by rec x c.bench f (Err BadLength) refl c.short c.tail c.roomy c.tabled
         (rw (
           means,
           ne_eqb (length f.bytes) 0 (some f.bytes b.1),
@@ -89,22 +91,22 @@ module _ (rec : Record) (x : Chip) (f : Sent) (c : Clear21 rec x f) where
           lt-leb 5 (length f.bytes) l,
         ))
 
-  unknown : decode_of rec.model (get_or f.bytes 0 0) ≡ Unknown → get_or f.bytes 0 0 ≡ 0x5A → refusal rec x f ≡ NoCommand
+  unknown : decode_of rec.model (get_or f.bytes 0 0) ≡ Unknown → get_or f.bytes 0 0 ≡ 0x5A → refusal rec x f ≡ Err NoCommand
   unfolding said_of head_for traits_of
   unknown m e =
-      stopped_by rec x c.bench f NoCommand refl c.short c.tail c.roomy c.tabled
+      stopped_by rec x c.bench f (Err NoCommand) refl c.short c.tail c.roomy c.tabled
       (rw (m, ne_eqb (length f.bytes) 0 (some f.bytes e), eq-eqb x.state.settle 0 c.settled, eq-eqb x.state.busy 0 c.idle, c.awake))
 
 pub sfdp-taken : SfdpTaken
 sfdp-taken rec x f b c l = accepted rec x f c b l
 
 pub sfdp-short : SfdpShort
-sfdp-short rec x f b c l = ap (λ (e : Effect). e.reply.answer) (refused-frame rec x f BadLength (short rec x f c b l) refl)
+sfdp-short rec x f b c l = ap (λ (e : Effect). e.reply.answer) (refused-frame rec x f (Err BadLength) (short rec x f c b l) refl)
 
 pub sfdp-unknown : SfdpUnknown
 sfdp-unknown rec x f m e c =
     let means = ⊎_elim (λ q. on-1 rec.model (get_or f.bytes 0 0) q e) (λ q. on-3 rec.model (get_or f.bytes 0 0) q e) m in
-    ap (λ (r : Effect). r.reply.answer) (refused-frame rec x f NoCommand (unknown rec x f c means e) refl)
+    ap (λ (r : Effect). r.reply.answer) (refused-frame rec x f (Err NoCommand) (unknown rec x f c means e) refl)
 
 -- ---- the bytes that a host sees
 seen-from : (s : State) (bytes page wear out : List ℕ) (n : ℕ) → length bytes ≡ 5 + n → length bytes ≤ length out

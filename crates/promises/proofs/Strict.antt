@@ -1,4 +1,5 @@
 -- The statements of `specs/Strict.antt`.
+use Rattle.std.specs.Prelude.{Option, Some, None, Err, Ok}
 use mathlib.Core.Path.{◌≡◌, refl, sym, ap, subst, ◌∙◌}
 use mathlib.Core.Bool.{Bool, true, false, not, ◌&&◌, cond, true≢false, false≢true}
 use mathlib.Core.List.{List}
@@ -22,14 +23,13 @@ use Rattle.fold.proofs.Fold.{page_after-at}
 use Rattle.fold.proofs.Strict.{reads-back, erased-accepts}
 use Rattle.flash.specs.Arrays.{sector_erased, programmed}
 use Rattle.flash.proofs.Arrays.{part-sector_erased}
-use Rattle.answers.specs.Answers.{number_of, is_done}
-use Rattle.answers.specs.declared.Answer.{Answer}
-use Rattle.answers.specs.declared.Answer.TheVariants.{Done, NotErased, WornOut}
+use Rattle.answers.specs.Answers.{Answer, Done, number_of, is_done}
+use Rattle.answers.specs.declared.Refusal.TheVariants.{NotErased, WornOut}
 use Rattle.commands.specs.Commands.{traits_of, started_by, operation_of}
 use Rattle.commands.specs.declared.Command.{Command}
 use Rattle.commands.specs.declared.Command.TheVariants.{Program}
 use Rattle.commands.specs.declared.Operation.{Operation}
-use Rattle.commands.specs.declared.Operation.TheVariants.{Idle, WritesStatus, Programs, ErasesSector, ErasesHalf, ErasesBlock, ErasesChip}
+use Rattle.commands.specs.declared.Operation.TheVariants.{WritesStatus, Programs, ErasesSector, ErasesHalf, ErasesBlock, ErasesChip}
 use Rattle.counts.specs.Counts.{covered, worn_out}
 use Rattle.states.specs.States.{page_ok, blank_page, Chip, chip_of}
 use Rattle.states.specs.declared.Record.{Record}
@@ -59,10 +59,14 @@ module _ (rec : Record) (x : Chip) (f : Sent) where
   pub taken-passes : is_done (frame_of rec x f).reply.answer ≡ true → is_done (refusal rec x f) ≡ true
   taken-passes = frame-cases rec x f (λ (e : Effect). is_done e.reply.answer ≡ true → is_done (refusal rec x f) ≡ true) (λ d q. d) (λ d q. q)
 
+  no-number : (a : Answer) → is_done a ≡ true → number_of a ≡ 0
+  no-number (Ok u) e = refl
+  no-number (Err r) e = absurd (false≢true e)
+
   answered-19 : number_of (frame_of rec x f).reply.answer ≡ 19 → number_of (refusal rec x f) ≡ 19
   answered-19 =
       frame-cases rec x f (λ (e : Effect). number_of e.reply.answer ≡ 19 → number_of (refusal rec x f) ≡ 19)
-      (λ d q. let z : number_of (accepted rec x f).reply.answer ≡ 0 = eqb-true (number_of (accepted rec x f).reply.answer) 0 (is-done (sort rec x f)) in absurd (omega arith)) (λ d q. q)
+      (λ d q. let z : number_of (accepted rec x f).reply.answer ≡ 0 = no-number (accepted rec x f).reply.answer (is-done (sort rec x f)) in absurd (omega arith)) (λ d q. q)
 
   -- 19 is answered only where the frame goes over old data
   pub never : over_by rec.model x.cells f ≡ false → number_of (frame_of rec x f).reply.answer ≡ 19 → ⊥
@@ -106,7 +110,7 @@ module _ (rec : Record) (x : Chip) (f : Sent) where
   same-said = refl
 
   -- where they let it pass and the cells speak against it
-  refused-19 : is_done (given_of rec x.state (saying false)) ≡ true → is_done (said_of rec x.state (saying false)) ≡ true → refused-by true ≡ NotErased
+  refused-19 : is_done (given_of rec x.state (saying false)) ≡ true → is_done (said_of rec x.state (saying false)) ≡ true → refused-by true ≡ Err NotErased
   unfolding head_for refused-by
   refused-19 p q = goes_on rec x.state (saying true) (ap is_done same-given ∙ p) (ap is_done same-said ∙ q) ∙ data_is rec x.state (saying true)
 
@@ -114,22 +118,22 @@ module _ (rec : Record) (x : Chip) (f : Sent) where
   unfolding refused-by head_for
   off-passes d = ap (λ (o : Bool). is_done (refusal_of rec x.state (saying o))) (sym (off-over rec x f)) ∙ taken-passes rec x (under false f) d
 
-  on-refused : is_done (off_of rec x f).reply.answer ≡ true → is_over rec x f ≡ true → on_of rec x f ≡ state_only NotErased x.state x.page f.wear f.out
+  on-refused : is_done (off_of rec x f).reply.answer ≡ true → is_over rec x f ≡ true → on_of rec x f ≡ state_only (Err NotErased) x.state x.page f.wear f.out
   unfolding refused-by
   on-refused d o =
       let p = both-pass rec x.state (saying false) (off-passes d) in
-      frame-by true ∙ ap (λ (b : Bool). by (refused-by b)) o ∙ ap by (refused-19 p.0 p.1) ∙ ap (λ (s : State). state_only NotErased s x.page f.wear f.out) (leaves_all rec.model NotErased x.state refl)
+      frame-by true ∙ ap (λ (b : Bool). by (refused-by b)) o ∙ ap by (refused-19 p.0 p.1) ∙ ap (λ (s : State). state_only (Err NotErased) s x.page f.wear f.out) (leaves_all rec.model (Err NotErased) x.state refl)
 
   -- a program counts no sector
-  unworn : (op : Operation) (at to : Address) → goes_over op true at x.cells f.bytes ≡ true → worn_out op to f.wear ≡ false
+  unworn : (op : Option Operation) (at to : Address) → goes_over op true at x.cells f.bytes ≡ true → worn_out op to f.wear ≡ false
   unfolding worn_out covered
-  unworn Idle at to e = absurd (false≢true e)
-  unworn WritesStatus at to e = absurd (false≢true e)
-  unworn Programs at to e = refl
-  unworn ErasesSector at to e = absurd (false≢true e)
-  unworn ErasesHalf at to e = absurd (false≢true e)
-  unworn ErasesBlock at to e = absurd (false≢true e)
-  unworn ErasesChip at to e = absurd (false≢true e)
+  unworn None at to e = absurd (false≢true e)
+  unworn (Some WritesStatus) at to e = absurd (false≢true e)
+  unworn (Some Programs) at to e = refl
+  unworn (Some ErasesSector) at to e = absurd (false≢true e)
+  unworn (Some ErasesHalf) at to e = absurd (false≢true e)
+  unworn (Some ErasesBlock) at to e = absurd (false≢true e)
+  unworn (Some ErasesChip) at to e = absurd (false≢true e)
 
   -- a frame that is refused off is refused on, by the same row
   same-refusal : is_done (refused-by false) ≡ false → is_over rec x f ≡ true → refused-by true ≡ refused-by false
@@ -141,7 +145,7 @@ module _ (rec : Record) (x : Chip) (f : Sent) where
       go true p false q = stops-said rec x.state (saying true) (ap is_done same-given ∙ p) (ap is_done same-said ∙ q) ∙ same-said ∙ sym (stops-said rec x.state (saying false) p q)
       go true p true q =
           let worn = unworn (started_by rec.model (get_or f.bytes 0 0)) _ (saying false).address o in
-          absurd (false≢true (sym d ∙ ap is_done (goes_on rec x.state (saying false) p q ∙ data_is rec x.state (saying false) ∙ ap (λ (w : Bool). cond w WornOut Done) worn)))
+          absurd (false≢true (sym d ∙ ap is_done (goes_on rec x.state (saying false) p q ∙ data_is rec x.state (saying false) ∙ ap (λ (w : Bool). cond w (Err WornOut) Done) worn)))
 
   off-stops : is_done (off_of rec x f).reply.answer ≡ false → is_done (refused-by false) ≡ false
   unfolding head_for
@@ -174,18 +178,18 @@ module _ (rec : Record) (x : Chip) (f : Sent) (b : Bytes f.bytes) where
   abbrev cleared : List ℕ
   cleared = sector_erased x.cells (sector_of aim)
 
-  erased-under : sector_start (sector_of aim) + 4096 ≤ length x.cells → (op : Operation) (strict : Bool) → goes_over op strict aim cleared f.bytes ≡ false
+  erased-under : sector_start (sector_of aim) + 4096 ≤ length x.cells → (op : Option Operation) (strict : Bool) → goes_over op strict aim cleared f.bytes ≡ false
   unfolding programs_over
   erased-under w op false = off op aim cleared f.bytes
-  erased-under w Idle true = refl
-  erased-under w WritesStatus true = refl
-  erased-under w Programs true =
+  erased-under w None true = refl
+  erased-under w (Some WritesStatus) true = refl
+  erased-under w (Some Programs) true =
       ap (over_old (page_offset aim) (drop 4 f.bytes)) (part-sector_erased x.cells (sector_of aim) w (page_start aim) 256 (omega arith) (omega arith))
       ∙ erased-accepts (page_offset aim) (drop 4 f.bytes) (bytes_drop 4 b)
-  erased-under w ErasesSector true = refl
-  erased-under w ErasesHalf true = refl
-  erased-under w ErasesBlock true = refl
-  erased-under w ErasesChip true = refl
+  erased-under w (Some ErasesSector) true = refl
+  erased-under w (Some ErasesHalf) true = refl
+  erased-under w (Some ErasesBlock) true = refl
+  erased-under w (Some ErasesChip) true = refl
 
 pub erased-never : ErasedNever
 unfolding head_for

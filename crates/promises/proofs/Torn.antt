@@ -1,4 +1,5 @@
 -- The statements of `specs/Torn.antt`.
+use Rattle.std.specs.Prelude.{Option, Some, None}
 use mathlib.Core.Path.{◌≡◌, refl, sym, ap, ap₂, ◌∙◌}
 use mathlib.Core.Bool.{Bool, true, false, not, false≢true}
 use mathlib.Core.List.{List, [], ◌∷◌}
@@ -19,7 +20,7 @@ use Rattle.cells.specs.Cell.{bit}
 use Rattle.cells.proofs.Cell.{torn-bit}
 use Rattle.answers.specs.Answers.{is_done}
 use Rattle.commands.specs.declared.Operation.{Operation}
-use Rattle.commands.specs.declared.Operation.TheVariants.{Idle, WritesStatus, Programs, ErasesSector, ErasesHalf, ErasesBlock, ErasesChip}
+use Rattle.commands.specs.declared.Operation.TheVariants.{WritesStatus, Programs, ErasesSector, ErasesHalf, ErasesBlock, ErasesChip}
 use Rattle.states.specs.States.{flag, tb_of, status_of, place_ok, Chip}
 use Rattle.states.specs.declared.Record.{Record}
 use Rattle.states.specs.declared.State.{State}
@@ -37,20 +38,20 @@ module _ (n : ℕ) (at : Address) (page cells pattern : List ℕ) (e : length ce
   in_array : ltb at.0 (model_of n).length ≡ true → at.0 < length cells
   in_array p = omega (arith, ltb-true at.0 (model_of n).length p)
 
-  program-bits : length page ≡ 256 → place_ok n Programs at.0 ≡ true → (k b : ℕ) → k < 256
-      → bit b (get_or (part (cut_cells Programs at page pattern cells) (page_start at) 256) k 0)
-      ≡ bit_left (bit b (get_or (part cells (page_start at) 256) k 0)) (bit b (get_or (part (finished_cells Programs at page cells) (page_start at) 256) k 0)) (bit b (get_or pattern k 0))
+  program-bits : length page ≡ 256 → place_ok n (Some Programs) at.0 ≡ true → (k b : ℕ) → k < 256
+      → bit b (get_or (part (cut_cells (Some Programs) at page pattern cells) (page_start at) 256) k 0)
+      ≡ bit_left (bit b (get_or (part cells (page_start at) 256) k 0)) (bit b (get_or (part (finished_cells (Some Programs) at page cells) (page_start at) 256) k 0)) (bit b (get_or pattern k 0))
   program-bits l p k b m = ap (bit b) (torn-at cells at page (page-fits n cells at (in_array p) e) l pattern k m) ∙ torn-bit b _ _ _
 
-  erased-unit : (op : Operation) → is_erase op ≡ true → place_ok n op at.0 ≡ true → length pattern ≡ pattern_length op at.0 (length cells)
+  erased-unit : (op : Option Operation) → is_erase op ≡ true → place_ok n op at.0 ≡ true → length pattern ≡ pattern_length op at.0 (length cells)
       → part (cut_cells op at page pattern cells) (unit_of op at (length cells)).start (unit_of op at (length cells)).size ≡ pattern
-  erased-unit Idle i p l = absurd (false≢true i)
-  erased-unit WritesStatus i p l = absurd (false≢true i)
-  erased-unit Programs i p l = absurd (false≢true i)
-  erased-unit ErasesSector i p l = laid-part cells (sector_start (sector_of at)) 4096 (sector-fits n cells at (in_array p) e).1 pattern l
-  erased-unit ErasesHalf i p l = laid-part cells (half_block_start (half_block_of at)) 32768 (half-block-fits n cells at (in_array p) e).1 pattern l
-  erased-unit ErasesBlock i p l = laid-part cells (block_start (block_of at)) 65536 (block-fits n cells at (in_array p) e).1 pattern l
-  erased-unit ErasesChip i p l = laid-part cells 0 (length cells) (omega arith) pattern l
+  erased-unit None i p l = absurd (false≢true i)
+  erased-unit (Some WritesStatus) i p l = absurd (false≢true i)
+  erased-unit (Some Programs) i p l = absurd (false≢true i)
+  erased-unit (Some ErasesSector) i p l = laid-part cells (sector_start (sector_of at)) 4096 (sector-fits n cells at (in_array p) e).1 pattern l
+  erased-unit (Some ErasesHalf) i p l = laid-part cells (half_block_start (half_block_of at)) 32768 (half-block-fits n cells at (in_array p) e).1 pattern l
+  erased-unit (Some ErasesBlock) i p l = laid-part cells (block_start (block_of at)) 65536 (block-fits n cells at (in_array p) e).1 pattern l
+  erased-unit (Some ErasesChip) i p l = laid-part cells 0 (length cells) (omega arith) pattern l
 
 -- ---- the kept bits
 tb-flag : (s : State) → flag (tb_of s) 1 ≡ bit 3 s.config
@@ -83,17 +84,17 @@ same_bits : (s : State) (pattern : List ℕ) → KeptBits s (forgotten s) patter
 same_bits s pattern = kept_by s s s pattern (sym (not-changed _ _)) (λ b. sym (not-changed _ _)) (sym (not-changed _ _))
 
 module _ (n : ℕ) (s : State) (page pattern : List ℕ) (level : s.bp ≤ (model_of n).highest_bp) where
-  kept-bits : (op : Operation) → KeptBits s (forgotten (finished_bits n op s page)) pattern (cycled (cut_bits n op s page pattern))
+  kept-bits : (op : Option Operation) → KeptBits s (forgotten (finished_bits n op s page)) pattern (cycled (cut_bits n op s page pattern))
   unfolding torn_bits
-  kept-bits Idle = same_bits s pattern
-  kept-bits WritesStatus =
+  kept-bits None = same_bits s pattern
+  kept-bits (Some WritesStatus) =
       kept_by s (written n s page) (torn_bits n s page pattern) pattern (torn-srwd n s page pattern level) (λ b. ap (bit b) (torn-bp n s page pattern level) ∙ torn-bit b _ _ _)
       (torn-bit 3 s.config (written n s page).config (get_or pattern 1 0))
-  kept-bits Programs = same_bits s pattern
-  kept-bits ErasesSector = same_bits s pattern
-  kept-bits ErasesHalf = same_bits s pattern
-  kept-bits ErasesBlock = same_bits s pattern
-  kept-bits ErasesChip = same_bits s pattern
+  kept-bits (Some Programs) = same_bits s pattern
+  kept-bits (Some ErasesSector) = same_bits s pattern
+  kept-bits (Some ErasesHalf) = same_bits s pattern
+  kept-bits (Some ErasesBlock) = same_bits s pattern
+  kept-bits (Some ErasesChip) = same_bits s pattern
 
 -- ---- all of it
 module _ (rec : Record) (x : Chip) (pattern : List ℕ) (d : is_done (power_cut_of rec x pattern).answer ≡ true) where
@@ -144,11 +145,11 @@ unfolding cycled
 cycled-by s t p q r = rw (p, q, r)
 
 -- a status write has a data byte
-some_byte : (n place : ℕ) → place_ok n WritesStatus place ≡ true → 0 < place
+some_byte : (n place : ℕ) → place_ok n (Some WritesStatus) place ≡ true → 0 < place
 some_byte n place p =
     ⊎_elim (λ e. omega (arith, eqb-true place 1 e)) (λ e. omega (arith, eqb-true place 2 (both (model_of n).register (eqb place 2) e).1)) (either (eqb place 1) _ p)
 
-module _ (rec : Record) (x : Chip) (pattern : List ℕ) (e : runs rec.model x.state ≡ WritesStatus) (d : is_done (power_cut_of rec x pattern).answer ≡ true) where
+module _ (rec : Record) (x : Chip) (pattern : List ℕ) (e : runs rec.model x.state ≡ Some WritesStatus) (d : is_done (power_cut_of rec x pattern).answer ≡ true) where
   abbrev s : State
   s = x.state
 

@@ -1,4 +1,5 @@
 -- The statements of `specs/Withdrawn.antt`.
+use Rattle.std.specs.Prelude.{Option, Some, None, Err}
 use mathlib.Core.Path.{◌≡◌, refl, sym, ap, subst, ◌∙◌}
 use mathlib.Core.Bool.{Bool, true, false, not, ◌||◌, true≢false, false≢true}
 use mathlib.Core.List.{List, [], ◌∷◌}
@@ -10,16 +11,15 @@ use lib.ListN.{length, get_or}
 use borrow.Author.Tests.{eqb-true, eq-eqb, ne_eqb, ltb-false, not-false}
 use Rattle.units.proofs.Bools.{both, neither, only_if}
 use Rattle.models.specs.Models.{is_model, model_of}
-use Rattle.answers.specs.Answers.{number_of, is_done}
+use Rattle.answers.specs.Answers.{Answer, number_of, is_done}
 use Rattle.answers.specs.Tables.{Rung}
-use Rattle.answers.specs.declared.Answer.{Answer}
-use Rattle.answers.specs.declared.Answer.TheVariants.{BadRecord, BadArray, BadTable, BadState, BadFrame, ShortOut, Settling, Busy, Asleep, Withdrawn}
+use Rattle.answers.specs.declared.Refusal.{Refusal}
+use Rattle.answers.specs.declared.Refusal.TheVariants.{BadRecord, BadArray, BadTable, BadState, BadFrame, ShortOut, Settling, Busy, Asleep, Withdrawn}
 use Rattle.answers.proofs.Tables.{test_of, before, by-then, earlier-clear, row-holds}
 use Rattle.commands.specs.Commands.{decode_of, traits_of, operation_of, started_by}
 use Rattle.commands.specs.declared.Command.{Command}
 use Rattle.commands.specs.declared.Command.TheVariants.{Withdrawn as Command-as-Withdrawn}
 use Rattle.commands.specs.declared.Operation.{Operation}
-use Rattle.commands.specs.declared.Operation.TheVariants.{Idle}
 use Rattle.commands.proofs.Rows.{means-withdrawn, only-52}
 use Rattle.states.specs.States.{record_ok, state_ok, page_ok, operation_time, Chip}
 use Rattle.states.specs.declared.Record.{Record}
@@ -69,26 +69,26 @@ module _ (rec : Record) (x : Chip) (f : Sent) where
     unfolding refusal_of head_for traits_of
     by-21 = by-then (Refuses withdrawn_numbers) Withdrawn rows refl (ap (λ (c : Command). (traits_of (model_of rec.model).register c).withdrawn) means)
 
-    says-21 : Clear21 rec x f → refusal rec x f ≡ Withdrawn
+    says-21 : Clear21 rec x f → refusal rec x f ≡ Err Withdrawn
     unfolding said_of head_for traits_of
     says-21 c =
-        stopped_by rec x c.bench f Withdrawn refl c.short c.tail c.roomy c.tabled
+        stopped_by rec x c.bench f (Err Withdrawn) refl c.short c.tail c.roomy c.tabled
         (rw (means, ne_eqb (length f.bytes) 0 (some f.bytes b.1), eq-eqb x.state.settle 0 c.settled, eq-eqb x.state.busy 0 c.idle, c.awake))
 
   -- ---- the other way round: what a frame that is answered 21 has shown
-  module _ (e : (frame_of rec x f).reply.answer ≡ Withdrawn) where
-    refused-21 : refusal rec x f ≡ Withdrawn
+  module _ (e : (frame_of rec x f).reply.answer ≡ Err Withdrawn) where
+    refused-21 : refusal rec x f ≡ Err Withdrawn
     refused-21 =
-        frame-cases rec x f (λ (r : Effect). r.reply.answer ≡ Withdrawn → refusal rec x f ≡ Withdrawn)
+        frame-cases rec x f (λ (r : Effect). r.reply.answer ≡ Err Withdrawn → refusal rec x f ≡ Err Withdrawn)
         (λ d q. absurd (true≢false (sym (is-done (sort rec x f)) ∙ ap is_done q))) (λ d q. q) e
 
-    clear : (a : Answer) → test_of a (before Withdrawn rows) ≡ false
+    clear : (a : Refusal) → test_of a (before Withdrawn rows) ≡ false
     unfolding refusal_of
-    clear = earlier-clear Withdrawn refl rows (ap (λ (a : Answer). eqb (number_of a) 21) refused-21)
+    clear = earlier-clear Withdrawn rows (ap (λ (a : Answer). eqb (number_of a) 21) refused-21)
 
     holds : (asks rec (head rec x f)).withdrawn ≡ true
     unfolding refusal_of
-    holds = row-holds Withdrawn refl rows refl (ap (λ (a : Answer). eqb (number_of a) 21) refused-21)
+    holds = row-holds Withdrawn rows refl (ap (λ (a : Answer). eqb (number_of a) 21) refused-21)
 
     begins : Begins52 rec f
     unfolding head_for record_ok
@@ -123,7 +123,7 @@ module _ (rec : Record) (x : Chip) (f : Sent) where
         }
 
 pub withdrawn-when : WithdrawnWhen
-withdrawn-when rec x f b c = ap (λ (e : Effect). e.reply.answer) (refused-frame rec x f Withdrawn (says-21 rec x f b c) refl)
+withdrawn-when rec x f b c = ap (λ (e : Effect). e.reply.answer) (refused-frame rec x f (Err Withdrawn) (says-21 rec x f b c) refl)
 
 pub withdrawn-only : WithdrawnOnly
 withdrawn-only rec x f e = (begins rec x f e, cleared rec x f e)
@@ -137,7 +137,7 @@ withdrawn-stays rec x f b = stays_all rec x f withdrawn_numbers (by-21 rec x f b
 -- ---- the state
 -- it starts no operation, so no time is left of one
 none_runs : (rec : Record) (s : State) → SmallChip rec → s.command ≡ 0x52 → state_ok rec s ≡ true → ⊥
-none_runs rec s m c e = ⊎_elim (λ q. other (sym c ∙ q.command)) (λ q. over q.busy (subst (λ (op : Operation). s.busy ≤ operation_time rec op) starts q.time)) (sound rec s e).mood
+none_runs rec s m c e = ⊎_elim (λ q. other (sym c ∙ q.command)) (λ q. over q.busy (subst (λ (op : Option Operation). s.busy ≤ operation_time rec op) starts q.time)) (sound rec s e).mood
   where
     other : ◌≡◌ {A = ℕ} 0x52 0xFF → ⊥
     other z = omega (arith, z)
@@ -145,7 +145,7 @@ none_runs rec s m c e = ⊎_elim (λ q. other (sym c ∙ q.command)) (λ q. over
     over : 0 < s.busy → s.busy ≤ 0 → ⊥
     over p q = omega (arith, p, q)
 
-    starts : started_by rec.model s.command ≡ Idle
+    starts : started_by rec.model s.command ≡ None
     starts = ap (started_by rec.model) c ∙ ap operation_of (means-withdrawn rec.model (not-3 rec m))
 
 pub withdrawn-idle : WithdrawnIdle

@@ -1,11 +1,11 @@
 -- Laws of the model that are worth having in their own right.
-use Rattle.std.specs.Prelude.{◌≡◌, Bool, false, true, ◌&&◌, ◌||◌, cond, List, [], ◌∷◌, ◌⊎◌, ℕ, ◌+◌, ◌≤◌, ◌<◌, eqb, length, get_or}
+use Rattle.std.specs.Prelude.{◌≡◌, Bool, false, true, ◌&&◌, ◌||◌, cond, List, [], ◌∷◌, ◌⊎◌, ℕ, ◌+◌, ◌≤◌, ◌<◌, eqb, length, get_or, Option, Some, None, Result}
 use Rattle.units.specs.declared.Address.{Address}
 use Rattle.models.specs.Models.{model_of}
 use Rattle.commands.specs.Commands.{decode_of, operation_of}
 use Rattle.cells.specs.Cell.{bit}
-use Rattle.answers.specs.Answers.{number_of, is_done}
-use Rattle.answers.specs.declared.Answer.{Answer}
+use Rattle.answers.specs.Answers.{Answer, number_of, is_done}
+use Rattle.answers.specs.declared.Refusal.{Refusal}
 use Rattle.states.specs.States.{tb_of, Chip}
 use Rattle.states.specs.declared.Record.{Record}
 use Rattle.states.specs.declared.State.{State}
@@ -15,7 +15,6 @@ use Rattle.parts.specs.Parts.{part}
 use Rattle.counts.specs.Counts.{counted}
 use Rattle.counts.specs.ContractForms.{Counting}
 use Rattle.effects.specs.declared.Reply.{Reply}
-use Rattle.time.specs.declared.After.{After}
 use Rattle.effects.specs.Effects.{Effect, Shown, Started, latched, refusal_leaves, state_only}
 use Rattle.effects.specs.ContractForms.{Gives, Shows, Starts}
 use Rattle.ladder.specs.declared.Head.{Head}
@@ -24,7 +23,7 @@ use Rattle.chip.specs.Driven.{driven_bytes, fold_of}
 use Rattle.chip.specs.ContractForms.{Does}
 use Rattle.operations.specs.Operations.{Extent, unit_of, runs, runs_at, finished}
 use Rattle.operations.specs.ContractForms.{Left}
-use Rattle.time.specs.Time.{Aftermath, wait_of, power_of, power_cut_of}
+use Rattle.time.specs.Time.{Aftermath, ended, wait_of, power_of, power_cut_of}
 use Rattle.time.specs.ContractForms.{Ends}
 use Rattle.calls.specs.Calls.{Call, ours, after}
 
@@ -107,7 +106,7 @@ CutsOnlyItsUnit = (rec : Record) (x : Chip) (pattern : List ℕ) (k : ℕ) → O
 -- cells only fall under a program: no bit b of any cell k rises when it has finished (of a cut one `torn-falls` says it, in `cells`)
 abbrev pub ProgramFalls : Type 0
 ProgramFalls =
-    (rec : Record) (x : Chip) (us b k : ℕ) → runs rec.model x.state ≡ Programs → bit b (get_or (wait_of rec x us).chip.cells k 0) ≤ bit b (get_or x.cells k 0)
+    (rec : Record) (x : Chip) (us b k : ℕ) → runs rec.model x.state ≡ Some Programs → bit b (get_or (wait_of rec x us).chip.cells k 0) ≤ bit b (get_or x.cells k 0)
 
 -- the cells change when the time has run out, and not before
 abbrev pub NotBefore : Type 0
@@ -156,7 +155,7 @@ OneDone = (e : Effect) (r t : Reply) (page page' os ps : List ℕ) → Does e r 
 
 -- `Counting`, of the wear table
 abbrev pub OneCounting : Type 0
-OneCounting = (op : Operation) (at : Address) (before : List ℕ) (r t : Bool) (xs ys : List ℕ) → Counting op at before r xs → Counting op at before t ys → (r ≡ t) × (xs ≡ ys)
+OneCounting = (op : Option Operation) (at : Address) (before : List ℕ) (r t : Bool) (xs ys : List ℕ) → Counting op at before r xs → Counting op at before t ys → (r ≡ t) × (xs ≡ ys)
 
 -- `Left`, of an operation that has finished or was cut
 abbrev pub OneLeft : Type 0
@@ -165,11 +164,11 @@ OneLeft = (x : Chip) (s t : State) (page page' xs ys : List ℕ) → Left x s pa
 -- `Ends`, of a wait and of a cut
 abbrev pub OneEnd : Type 0
 OneEnd =
-    (o : Aftermath) (r t : After) (page page' xs ys : List ℕ) → Ends o r page xs → Ends o t page' ys
+    (o : Aftermath) (r t : Result State Refusal) (page page' xs ys : List ℕ) → Ends o r page xs → Ends o t page' ys
     → (r ≡ t) × (page ≡ page') × (xs ≡ ys)
 
 abbrev pub OneCycle : Type 0
-OneCycle = (rec : Record) (s : State) (page : List ℕ) (r t : After) → r ≡ power_of rec s page → t ≡ power_of rec s page → r ≡ t
+OneCycle = (rec : Record) (s : State) (page : List ℕ) (r t : Result State Refusal) → r ≡ ended (power_of rec s page) → t ≡ ended (power_of rec s page) → r ≡ t
 
 -- a made-up number of driven bytes falls: what satisfies the contract of a frame drives as many as the command and the length say
 abbrev pub NumberFixed : Type 0

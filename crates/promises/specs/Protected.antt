@@ -1,5 +1,5 @@
 -- A protected cell does not change, on each model and whatever WP# is: 01, "Commands", Protected, and Req 01.
-use Rattle.std.specs.Prelude.{◌≡◌, Bool, true, List, [], ◌∷◌, ◌⊎◌, ℕ, get_or}
+use Rattle.std.specs.Prelude.{◌≡◌, Bool, true, List, [], ◌∷◌, ◌⊎◌, ℕ, get_or, Option, Some, None}
 use Rattle.units.specs.declared.Address.{Address}
 use Rattle.units.specs.Kinds.{block_of}
 use Rattle.models.specs.Models.{model_of, is_protected}
@@ -19,7 +19,7 @@ abbrev pub in_area : Record → State → ℕ → Bool
 in_area rec s k = is_protected rec.model (tb_of s) s.bp (block_of (record { 0 = k }))
 
 -- an operation leaves the area alone that s protects: no cell of it is in the unit, in an array of the model's length (no other is taken)
-abbrev pub Spares : Record → State → Operation → Address → Type 0
+abbrev pub Spares : Record → State → Option Operation → Address → Type 0
 Spares rec s op at = (k : ℕ) → in_area rec s k ≡ true → Outside (unit_of op at (model_of rec.model).length) k
 
 -- ---- an accepted frame starts nothing in the area that is protected at that moment: 60 and C7 run only with BP 0, where no cell is. A busy chip takes only reads

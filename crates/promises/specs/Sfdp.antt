@@ -1,11 +1,12 @@
 -- 5A: model 2 drives its SFDP table, and a host that reads it from address 0 on finds the sheet's record (002 L534, Req 12); proofs/Sfdp.antt proves each under its name in small letters.
-use Rattle.std.specs.Prelude.{List, ◌⊎◌, ◌≡◌, ℕ, ◌+◌, ◌≤◌, ◌<◌, length, get_or}
+use Rattle.std.specs.Prelude.{Err, List, ◌⊎◌, ◌≡◌, ℕ, ◌+◌, ◌≤◌, ◌<◌, length, get_or}
 use Rattle.parts.specs.Parts.{part}
 use Rattle.sfdp_image.specs.Image.{sfdp_from}
 use Rattle.sfdp.specs.Sfdp.{table_refusal, entry_of}
 use Rattle.sfdp.specs.Promises.{own_entry}
 use Rattle.units.specs.Kinds.{sfdp_address}
-use Rattle.answers.specs.declared.Answer.TheVariants.{Done, NoCommand, BadLength}
+use Rattle.answers.specs.Answers.{Done}
+use Rattle.answers.specs.declared.Refusal.TheVariants.{NoCommand, BadLength}
 use Rattle.states.specs.States.{Chip}
 use Rattle.states.specs.declared.Record.{Record}
 use Rattle.effects.specs.Effects.{Effect, shown, read_sfdp}
@@ -24,13 +25,13 @@ SfdpTaken =
 
 -- shorter it is answered 14
 abbrev pub SfdpShort : Type 0
-SfdpShort = (rec : Record) (x : Chip) (f : Sent) → Begins5A rec f → Clear21 rec x f → length f.bytes < 5 → (frame_of rec x f).reply.answer ≡ BadLength
+SfdpShort = (rec : Record) (x : Chip) (f : Sent) → Begins5A rec f → Clear21 rec x f → length f.bytes < 5 → (frame_of rec x f).reply.answer ≡ Err BadLength
 
 -- and on models 1 and 3 it is answered 13, whatever its length
 abbrev pub SfdpUnknown : Type 0
 SfdpUnknown =
     (rec : Record) (x : Chip) (f : Sent) → (rec.model ≡ 1) ⊎ (rec.model ≡ 3) → get_or f.bytes 0 0 ≡ 0x5A → Clear21 rec x f
-    → (frame_of rec x f).reply.answer ≡ NoCommand
+    → (frame_of rec x f).reply.answer ≡ Err NoCommand
 
 -- ---- the bytes that a host sees of a frame
 abbrev pub seen_by : Effect → List ℕ

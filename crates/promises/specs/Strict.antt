@@ -1,5 +1,5 @@
 -- The strict setting, over whole frames (02, Req 08). Each statement is proved in `proofs/Strict.antt`, under the same name in small letters.
-use Rattle.std.specs.Prelude.{◌≡◌, Bool, true, false, cond, List, ◌⊎◌, ℕ, ◌+◌, ◌≤◌, ◌<◌, length, get_or, drop}
+use Rattle.std.specs.Prelude.{Err, ◌≡◌, Bool, true, false, cond, List, ◌⊎◌, ℕ, ◌+◌, ◌≤◌, ◌<◌, length, get_or, drop}
 use Rattle.parts.specs.Parts.{Bytes}
 use Rattle.units.specs.declared.Address.{Address}
 use Rattle.units.specs.Kinds.{sector_of, sector_start, page_start, page_offset}
@@ -7,7 +7,7 @@ use Rattle.fold.specs.Fold.{counts}
 use Rattle.fold.specs.Strict.{reached}
 use Rattle.flash.specs.Arrays.{sector_erased}
 use Rattle.answers.specs.Answers.{number_of, is_done}
-use Rattle.answers.specs.declared.Answer.TheVariants.{NotErased}
+use Rattle.answers.specs.declared.Refusal.TheVariants.{NotErased}
 use Rattle.commands.specs.declared.Command.TheVariants.{Program}
 use Rattle.states.specs.States.{Chip, chip_of}
 use Rattle.states.specs.declared.Record.{Record}
@@ -40,7 +40,7 @@ OffNever = (rec : Record) (x : Chip) (f : Sent) → number_of (off_of rec x f).r
 abbrev pub OnRefuses : Type 0
 OnRefuses =
     (rec : Record) (x : Chip) (f : Sent) → is_done (off_of rec x f).reply.answer ≡ true → is_over rec x f ≡ true
-    → on_of rec x f ≡ state_only NotErased x.state x.page f.wear f.out
+    → on_of rec x f ≡ state_only (Err NotErased) x.state x.page f.wear f.out
 
 -- and every other frame does what it does off
 abbrev pub OnElse : Type 0

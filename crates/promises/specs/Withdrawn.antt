@@ -1,8 +1,8 @@
 -- 52 on models 1 and 2, withdrawn by Req 11 against the sheets that list it (000 L158, L327, 002 L304); proofs/Withdrawn.antt proves each under its name in small letters.
-use Rattle.std.specs.Prelude.{true, false, List, [], ◌∷◌, ◌≡◌, ℕ, ◌≤◌, length, get_or}
+use Rattle.std.specs.Prelude.{Err, true, false, List, [], ◌∷◌, ◌≡◌, ℕ, ◌≤◌, length, get_or}
 use Rattle.models.specs.Models.{model_of}
 use Rattle.answers.specs.Answers.{number_of}
-use Rattle.answers.specs.declared.Answer.TheVariants.{BadState, Withdrawn}
+use Rattle.answers.specs.declared.Refusal.TheVariants.{BadState, Withdrawn}
 use Rattle.states.specs.States.{record_ok, state_ok, Chip}
 use Rattle.states.specs.declared.Record.{Record}
 use Rattle.states.specs.declared.State.{State}
@@ -30,11 +30,11 @@ pub record Clear21 (rec : Record) (x : Chip) (f : Sent) : Type 0 where
 
 -- then it is answered 21, whatever its length, tail and data, WP#, WEL, SRWD, BP, the cells and the counts
 abbrev pub WithdrawnWhen : Type 0
-WithdrawnWhen = (rec : Record) (x : Chip) (f : Sent) → Begins52 rec f → Clear21 rec x f → (frame_of rec x f).reply.answer ≡ Withdrawn
+WithdrawnWhen = (rec : Record) (x : Chip) (f : Sent) → Begins52 rec f → Clear21 rec x f → (frame_of rec x f).reply.answer ≡ Err Withdrawn
 
 -- and nothing else is
 abbrev pub WithdrawnOnly : Type 0
-WithdrawnOnly = (rec : Record) (x : Chip) (f : Sent) → (frame_of rec x f).reply.answer ≡ Withdrawn → Begins52 rec f × Clear21 rec x f
+WithdrawnOnly = (rec : Record) (x : Chip) (f : Sent) → (frame_of rec x f).reply.answer ≡ Err Withdrawn → Begins52 rec f × Clear21 rec x f
 
 -- where a row before 21 applies, that one answers: never 14 or a later one, and it is never carried out
 abbrev pub withdrawn_numbers : List ℕ
@@ -57,4 +57,4 @@ WithdrawnIdle = (rec : Record) (s : State) → SmallChip rec → s.command ≡ 0
 abbrev pub WithdrawnStored : Type 0
 WithdrawnStored =
     (rec : Record) (x : Chip) (us : ℕ) (pattern : List ℕ) → SmallChip rec → x.state.command ≡ 0x52 → record_ok rec ≡ true → length x.cells ≡ (model_of rec.model).length
-    → ((wait_of rec x us).answer ≡ BadState) × ((power_cut_of rec x pattern).answer ≡ BadState) × ((power_of rec x.state x.page).answer ≡ BadState)
+    → ((wait_of rec x us).answer ≡ Err BadState) × ((power_cut_of rec x pattern).answer ≡ Err BadState) × ((power_of rec x.state x.page).answer ≡ Err BadState)

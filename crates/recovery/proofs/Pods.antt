@@ -8,14 +8,13 @@ use native.Mathlib.Omega.{arith}
 use lib.Dec.{eqb, lit≤, lit<}
 use lib.ListN.{get_or, replicate, length-replicate, get_or-replicate}
 use borrow.Author.Tests.{eqb-true, eqb-false}
+use Rattle.answers.specs.Answers.{Answer, Done}
 use Rattle.models.specs.Models.{is_model, part_of, address_of}
 use Rattle.cells.specs.Cell.{FF}
 use Rattle.parts.proofs.Bytes.{bytes-replicate}
 use Rattle.parts.proofs.Lay.{part_at}
 use Rattle.states.specs.States.{in_range, half_ok, record_ok, bench_kh25l512, Chip}
 use Rattle.states.specs.declared.Record.{Record}
-use Rattle.answers.specs.declared.Answer.{Answer}
-use Rattle.answers.specs.declared.Answer.TheVariants.{Done}
 use Rattle.counts.specs.Counts.{sector_at}
 use Rattle.effects.specs.Effects.{Effect}
 use Rattle.calls.specs.Calls.{Call, sends, waits, cycles, cuts, Pod, after, answer, run, tables, effect_after, Bench}

@@ -1,4 +1,5 @@
 -- The first wait cannot be shorter: calls from power-on lead to a chip that is then still busy or settling.
+use Rattle.std.specs.Prelude.{Option, Some, None}
 use mathlib.Core.Path.{◌≡◌, refl, sym, ap, subst}
 use mathlib.Core.Bool.{true, false}
 use mathlib.Core.List.{List, [], ◌∷◌}
@@ -6,6 +7,7 @@ use Prim.Native.Nat.{ℕ, ◌-◌, ◌<◌}
 use native.Mathlib.Omega.{arith}
 use lib.Dec.{lit≤}
 use lib.ListN.{length, replicate, length-replicate}
+use Rattle.answers.specs.Answers.{Done}
 use Rattle.units.specs.declared.Address.{Address}
 use Rattle.commands.specs.declared.Operation.{Operation}
 use Rattle.counts.specs.Counts.{worn_out, counted}
@@ -15,7 +17,6 @@ use Rattle.states.specs.States.{record_ok, longest_of, no_command, no_address, b
 use Rattle.commands.specs.declared.Operation.TheVariants.{Programs, ErasesSector, ErasesHalf, ErasesBlock, ErasesChip}
 use Rattle.states.specs.declared.Record.{Record}
 use Rattle.states.specs.declared.State.{State}
-use Rattle.answers.specs.declared.Answer.TheVariants.{Done}
 use Rattle.states.proofs.States.{times, has-half, longest-in-range, by-longest}
 use Rattle.effects.specs.Effects.{Effect, state_only, turned, started, shown, drives, dozing, starting, waking_time, wake, write_status, erase_starts, nowhere, program_page}
 use Rattle.effects.proofs.Strict.{off}
@@ -51,7 +52,7 @@ module _ (rec : Record) (cells : List ℕ) (j : Job) (e : record_ok rec ≡ true
   new-fits : length new ≡ (model_of rec.model).sectors
   new-fits = length-replicate (model_of rec.model).sectors 0
 
-  unworn : (op : Operation) (at : Address) → worn_out op at new ≡ false
+  unworn : (op : Option Operation) (at : Address) → worn_out op at new ≡ false
   unworn op at = none-worn op at new (new-table (model_of rec.model).sectors)
 
   abbrev Reached : Type 0
@@ -85,33 +86,33 @@ module _ (rec : Record) (cells : List ℕ) (j : Job) (e : record_ok rec ≡ true
   unfolding program_page starting
   by-page m =
       by (0x02 ∷ 0 ∷ 0 ∷ 0 ∷ 0 ∷ []) (started new room (program_page rec (enabled 0) blank_page (address_of rec.model 0 0 0) (0x02 ∷ 0 ∷ 0 ∷ 0 ∷ 0 ∷ []))) rec.page
-      (program-taken rec armed arms.bench refl refl false new room new-fits 0 0 0 (0 ∷ []) refl refl refl (lit≤ tt) (lit≤ tt) (lit≤ tt) (off Programs _ _ _)) refl refl (times rec e).page m
+      (program-taken rec armed arms.bench refl refl false new room new-fits 0 0 0 (0 ∷ []) refl refl refl (lit≤ tt) (lit≤ tt) (lit≤ tt) (off (Some Programs) _ _ _)) refl refl (times rec e).page m
 
   by-sector : longest_of rec ≡ rec.sector → Reached
   unfolding erase_starts starting
   by-sector m =
-      by (0x20 ∷ 0 ∷ 0 ∷ 0 ∷ []) (turned blank_page (counted ErasesSector (address_of rec.model 0 0 0) new) room (erase_starts rec (enabled 0) ErasesSector (address_of rec.model 0 0 0) (0x20 ∷ 0 ∷ 0 ∷ 0 ∷ []))) rec.sector
-      (erase-taken rec armed arms.bench refl refl false new room new-fits 0 0 0 refl refl refl (lit≤ tt) (unworn ErasesSector _)) refl refl (times rec e).sector m
+      by (0x20 ∷ 0 ∷ 0 ∷ 0 ∷ []) (turned blank_page (counted (Some ErasesSector) (address_of rec.model 0 0 0) new) room (erase_starts rec (enabled 0) (Some ErasesSector) (address_of rec.model 0 0 0) (0x20 ∷ 0 ∷ 0 ∷ 0 ∷ []))) rec.sector
+      (erase-taken rec armed arms.bench refl refl false new room new-fits 0 0 0 refl refl refl (lit≤ tt) (unworn (Some ErasesSector) _)) refl refl (times rec e).sector m
 
   by-block : longest_of rec ≡ rec.block → Reached
   unfolding erase_starts starting
   by-block m =
-      by (0xD8 ∷ 0 ∷ 0 ∷ 0 ∷ []) (turned blank_page (counted ErasesBlock (address_of rec.model 0 0 0) new) room (erase_starts rec (enabled 0) ErasesBlock (address_of rec.model 0 0 0) (0xD8 ∷ 0 ∷ 0 ∷ 0 ∷ []))) rec.block
-      (block-taken rec armed arms.bench refl refl false new room new-fits 0 0 0 refl refl refl (lit≤ tt) (unworn ErasesBlock _)) refl refl (times rec e).block m
+      by (0xD8 ∷ 0 ∷ 0 ∷ 0 ∷ []) (turned blank_page (counted (Some ErasesBlock) (address_of rec.model 0 0 0) new) room (erase_starts rec (enabled 0) (Some ErasesBlock) (address_of rec.model 0 0 0) (0xD8 ∷ 0 ∷ 0 ∷ 0 ∷ []))) rec.block
+      (block-taken rec armed arms.bench refl refl false new room new-fits 0 0 0 refl refl refl (lit≤ tt) (unworn (Some ErasesBlock) _)) refl refl (times rec e).block m
 
   by-chip : longest_of rec ≡ rec.chip → Reached
   unfolding erase_starts starting
   by-chip m =
-      by (0xC7 ∷ []) (turned blank_page (counted ErasesChip nowhere new) room (erase_starts rec (enabled 0) ErasesChip nowhere (0xC7 ∷ []))) rec.chip
-      (chip-taken rec armed arms.bench refl refl false new room new-fits refl refl refl (lit≤ tt) (unworn ErasesChip _)) refl refl (times rec e).chip m
+      by (0xC7 ∷ []) (turned blank_page (counted (Some ErasesChip) nowhere new) room (erase_starts rec (enabled 0) (Some ErasesChip) nowhere (0xC7 ∷ []))) rec.chip
+      (chip-taken rec armed arms.bench refl refl false new room new-fits refl refl refl (lit≤ tt) (unworn (Some ErasesChip) _)) refl refl (times rec e).chip m
 
   -- a model that has the sixth time has that erase
   by-half : longest_of rec ≡ rec.half → Reached
   unfolding erase_starts starting
   by-half m =
       let t : 0 < rec.half = subst (λ (us : ℕ). 0 < us) m (longest-in-range rec e).some in
-      by (0x52 ∷ 0 ∷ 0 ∷ 0 ∷ []) (turned blank_page (counted ErasesHalf (address_of rec.model 0 0 0) new) room (erase_starts rec (enabled 0) ErasesHalf (address_of rec.model 0 0 0) (0x52 ∷ 0 ∷ 0 ∷ 0 ∷ []))) rec.half
-      (half-taken rec armed arms.bench refl refl false new room new-fits 0 0 0 (has-half rec e t) refl refl refl (lit≤ tt) (unworn ErasesHalf _)) refl refl t m
+      by (0x52 ∷ 0 ∷ 0 ∷ 0 ∷ []) (turned blank_page (counted (Some ErasesHalf) (address_of rec.model 0 0 0) new) room (erase_starts rec (enabled 0) (Some ErasesHalf) (address_of rec.model 0 0 0) (0x52 ∷ 0 ∷ 0 ∷ 0 ∷ []))) rec.half
+      (half-taken rec armed arms.bench refl refl false new room new-fits 0 0 0 (has-half rec e t) refl refl refl (lit≤ tt) (unworn (Some ErasesHalf) _)) refl refl t m
 
   -- ---- from power-on: B9, and AB after it
   abbrev fallen : ℕ → State

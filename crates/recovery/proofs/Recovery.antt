@@ -1,4 +1,5 @@
 -- The listed calls win the chip back.
+use Rattle.std.specs.Prelude.{Option, Some, None}
 use mathlib.Core.Path.{◌≡◌, refl, sym, ap, subst, ◌∙◌}
 use mathlib.Core.Bool.{Bool, true, false, ◌&&◌, ◌||◌, and-false, cond}
 use mathlib.Core.List.{List, [], ◌∷◌}
@@ -9,6 +10,7 @@ use native.Mathlib.Omega.{arith}
 use lib.Dec.{eqb, ltb}
 use lib.ListN.{length, get_or}
 use borrow.Author.Tests.{eqb-false, eq-eqb, ne_eqb, le-ltb, lt-ltb}
+use Rattle.answers.specs.Answers.{Done}
 use Rattle.units.specs.declared.Address.{Address}
 use Rattle.units.specs.Kinds.{sector_of, page_start, page_offset}
 use Rattle.units.proofs.Bools.{neither}
@@ -30,7 +32,6 @@ use Rattle.commands.specs.declared.Operation.TheVariants.{ErasesSector}
 use Rattle.states.specs.States.{longest_of, no_command, no_address, blank_page, Chip, chip_of}
 use Rattle.states.specs.declared.Record.{Record}
 use Rattle.states.specs.declared.State.{State}
-use Rattle.answers.specs.declared.Answer.TheVariants.{Done}
 use Rattle.states.proofs.States.{Resting, sound, times, busy-le, busy-le-all, settle-le-all, blank-page}
 use Rattle.effects.specs.Effects.{Effect, quiet, state_only, turned, started, shown, drives, latched, dozing, starting, write_status, erase_starts as Effects·erase, program_page, programs_over, read_from}
 use Rattle.counts.specs.Counts.{counted}
@@ -227,7 +228,7 @@ module _ (rec : Record) (j : Job) (x : Chip) (b : Bench rec x) (f : JobFits rec 
   pub worn-table : length j.worn ≡ (model_of rec.model).sectors
   worn-table = f.after.same ∙ f.table
 
-  erase-counts : turned blank_page (counted ErasesSector to j.wear) j.outs.erase (Effects·erase rec (enabled v) ErasesSector to (erase j).bytes)
+  erase-counts : turned blank_page (counted (Some ErasesSector) to j.wear) j.outs.erase (Effects·erase rec (enabled v) (Some ErasesSector) to (erase j).bytes)
       ≡ turned blank_page j.worn j.outs.erase (quiet Done (running v 0x20 to.0 rec.sector))
   unfolding Effects·erase starting
   erase-counts = ap (λ (ws : List ℕ). turned blank_page ws j.outs.erase (quiet Done (running v 0x20 to.0 rec.sector))) (sector-counted to j.wear j.worn counted-in f.after)

@@ -1,4 +1,5 @@
 -- No wait of the list can be a microsecond shorter.
+use Rattle.std.specs.Prelude.{Err}
 use mathlib.Core.Path.{◌≡◌, refl, sym, ◌∙◌}
 use mathlib.Core.Bool.{Bool, true, false, cond, false≢true}
 use mathlib.Core.List.{List, [], ◌∷◌}
@@ -12,8 +13,8 @@ use Rattle.models.specs.Models.{model_of}
 use Rattle.commands.specs.Commands.{decode_of, traits_of}
 use Rattle.states.specs.States.{longest_of, Chip, chip_of}
 use Rattle.states.specs.declared.Record.{Record}
-use Rattle.answers.specs.declared.Answer.{Answer}
-use Rattle.answers.specs.declared.Answer.TheVariants.{Busy}
+use Rattle.answers.specs.Answers.{Answer}
+use Rattle.answers.specs.declared.Refusal.TheVariants.{Busy}
 use Rattle.states.proofs.States.{sound, times}
 use Rattle.chip.specs.Frames.{Sent}
 use Rattle.effects.specs.Effects.{dozing, starting}
@@ -41,7 +42,7 @@ module _ (rec : Record) (x : Chip) (time : ℕ) (p : 0 < time) (t : x.state.busy
   busy-still = omega arith
 
   pub refused : (bytes : List ℕ) (strict : Bool) (wear out : List ℕ) → 0 < length bytes → length bytes ≤ 65541 → Roomy (frame bytes strict wear out) → Tabled rec (frame bytes strict wear out)
-      → (traits_of (model_of rec.model).register (decode_of rec.model (get_or bytes 0 0))).while_busy ≡ false → answer ours rec [] (sends (frame bytes strict wear out)) almost ≡ Busy
+      → (traits_of (model_of rec.model).register (decode_of rec.model (get_or bytes 0 0))).while_busy ≡ false → answer ours rec [] (sends (frame bytes strict wear out)) almost ≡ Err Busy
   refused bytes strict wear out some l r k w = while-busy rec almost short-wait.bench bytes strict wear out busy-still some l r k w
 
 pub shorter-unlock : ShorterUnlock

@@ -1,8 +1,8 @@
 -- Worthless pods: 01, "How tight a promise is". Each is a kind of pod, and no pod of that kind wins chips back.
+use Rattle.answers.specs.Answers.{Done}
 use Rattle.std.specs.Prelude.{◌≡◌, Bool, true, false, List, [], ◌∷◌, ◌⊎◌, ℕ, ◌+◌, ◌<◌, get_or}
 use Rattle.cells.specs.Cell.{FF}
 use Rattle.states.specs.declared.Record.{Record}
-use Rattle.answers.specs.declared.Answer.TheVariants.{Done}
 use Rattle.effects.specs.Effects.{Effect, state_only}
 use Rattle.chip.specs.Frames.{Sent}
 use Rattle.states.specs.States.{Chip}

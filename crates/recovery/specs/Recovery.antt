@@ -1,5 +1,6 @@
 -- The calls that win a chip back, whatever firmware did to it: 01, "The twelve calls", and the wait after AB, which makes them thirteen. The first wait may
 -- end an operation that runs, so the array is compared with what that wait left (Req 05).
+use Rattle.answers.specs.Answers.{Done}
 use Rattle.std.specs.Prelude.{◌≡◌, Bool, List, [], ◌∷◌, ◌++◌, ℕ, ◌+◌, ◌≤◌, ◌<◌, length, get_or, replicate}
 use Rattle.units.specs.declared.Address.{Address}
 use Rattle.units.specs.Kinds.{sector_of, sector_start}
@@ -8,7 +9,6 @@ use Rattle.cells.specs.Cell.{FF}
 use Rattle.parts.specs.Parts.{Bytes, part}
 use Rattle.states.specs.States.{longest_of, Chip}
 use Rattle.states.specs.declared.Record.{Record}
-use Rattle.answers.specs.declared.Answer.TheVariants.{Done}
 use Rattle.effects.specs.Effects.{Effect}
 use Rattle.counts.specs.Counts.{top_count, count_of, OneMore}
 use Rattle.chip.specs.Frames.{Sent}

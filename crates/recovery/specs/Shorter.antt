@@ -1,10 +1,10 @@
 -- No wait of the list can be a microsecond shorter: 01, "The twelve calls", which are thirteen with the wait after AB.
-use Rattle.std.specs.Prelude.{◌≡◌, true, List, [], ◌∷◌, ◌++◌, ◌⊎◌, ℕ, ◌-◌, length, replicate}
+use Rattle.std.specs.Prelude.{Err, ◌≡◌, true, List, [], ◌∷◌, ◌++◌, ◌⊎◌, ℕ, ◌-◌, length, replicate}
 use Rattle.models.specs.Models.{model_of}
 use Rattle.states.specs.States.{record_ok, longest_of, Chip}
 use Rattle.states.specs.declared.Record.{Record}
-use Rattle.answers.specs.declared.Answer.{Answer}
-use Rattle.answers.specs.declared.Answer.TheVariants.{Done, Settling, Busy}
+use Rattle.answers.specs.Answers.{Answer, Done}
+use Rattle.answers.specs.declared.Refusal.TheVariants.{Settling, Busy}
 use Rattle.chip.specs.Frames.{Sent}
 use Rattle.calls.specs.Calls.{Call, sends, waits, ours, run, answers, Bench}
 use Rattle.recovery.specs.Histories.{factory}
@@ -15,13 +15,13 @@ abbrev pub Then : Answer → Record → List Call → Sent → Chip → Type 0
 Then a rec cs f x = answers ours rec [] (cs ++ (sends f ∷ [])) x ≡ replicate (length cs) Done ++ (a ∷ [])
 
 abbrev pub ThenBusy : Record → List Call → Sent → Chip → Type 0
-ThenBusy = Then Busy
+ThenBusy = Then (Err Busy)
 
 -- with the wait after AB shortened by one, the next call is answered 22, for every chip that was asleep
 abbrev pub ShorterWake : Type 0
 ShorterWake =
     (rec : Record) (j : Job) (x : Chip) → Bench rec x → JobFits rec j → x.state.asleep ≡ true
-    → Then Settling rec (wait_longest rec j ∷ sends (wake_up j) ∷ waits (rec.wake - 1) ∷ []) (enable_unlock j) x
+    → Then (Err Settling) rec (wait_longest rec j ∷ sends (wake_up j) ∷ waits (rec.wake - 1) ∷ []) (enable_unlock j) x
 
 -- with the wait after an operation shortened by one, the next call is answered 11, for every record and state
 abbrev pub ShorterUnlock : Type 0
@@ -42,7 +42,7 @@ ShorterProgram =
 -- with the first wait shortened by one, AB is answered 11 or 22 on some chip
 abbrev pub TooShort : Record → Job → Chip → Type 0
 TooShort rec j x =
-    Then Busy rec (waits (longest_of rec - 1) ∷ []) (wake_up j) x ⊎ Then Settling rec (waits (longest_of rec - 1) ∷ []) (wake_up j) x
+    Then (Err Busy) rec (waits (longest_of rec - 1) ∷ []) (wake_up j) x ⊎ Then (Err Settling) rec (waits (longest_of rec - 1) ∷ []) (wake_up j) x
 
 -- there is a chip with a valid state for which it is
 abbrev pub ShorterFirst : Type 0

@@ -9,8 +9,9 @@ use lib.ListN.{length, get_or, drop}
 use borrow.Author.Tests.{eqb-true}
 use Rattle.parts.specs.Parts.{Bytes, lay}
 use Rattle.text.specs.Text.{ascii}
+use Rattle.std.specs.Prelude.{Option, Some, None}
 use Rattle.script.specs.declared.Line.{Line}
-use Rattle.script.specs.declared.Line.TheVariants.{Frame, Bad}
+use Rattle.script.specs.declared.Line.TheVariants.{Frame}
 use Rattle.script.specs.Grammar.{frame_text, Says}
 use Rattle.script.specs.Grammar.Says.{frame, wait, power}
 use Rattle.script.specs.Hex.{hex_bytes}
@@ -29,15 +30,12 @@ one_more {b} {bytes} l p = record { below = go }
     go (suc k) = p.below k
 
 -- ---- the lines that change
-never : {l : Line} → says_frame l ≡ true → l ≡ Bad → ⊥
-never e f = false≢true (sym (ap says_frame f) ∙ e)
-
 of-52 : (wp : Bool) (tail : ℕ) (bytes : List ℕ) → tail ≤ 7 → length bytes ≤ 300 → Bytes bytes → get_or bytes 0 0 ≡ 0x52 → FrameOf52 (frame_text wp tail bytes)
 of-52 wp tail [] lt ln b e = absurd (omega arith)
 of-52 wp tail (x ∷ bytes) lt ln b e =
     record { wp = wp; tail = tail; bytes = bytes; few = lt; most = ln; are = record { below = λ k. b.below (suc k) }; is = ap (λ (z : ℕ). frame_text wp tail (z ∷ bytes)) e }
 
-said-52 : {line : List ℕ} {l : Line} → Says line l → says_frame l ≡ true → get_or (hex_bytes (drop 6 line)) 0 0 ≡ 0x52 → FrameOf52 line
+said-52 : {line : List ℕ} {l : Line} → Says line l → says_frame (Some l) ≡ true → get_or (hex_bytes (drop 6 line)) 0 0 ≡ 0x52 → FrameOf52 line
 said-52 (frame wp tail bytes lt ln b) e f = of-52 wp tail bytes lt ln b (sym (ap (λ (z : List ℕ). get_or z 0 0) (frame-spells wp tail bytes b)) ∙ f)
 said-52 (wait us l) e f = absurd (false≢true e)
 said-52 power e f = absurd (false≢true e)
@@ -45,13 +43,15 @@ said-52 power e f = absurd (false≢true e)
 pub only-these : OnlyThese
 unfolding begins52
 only-these line e =
-    let first : Bool = eqb (get_or (hex_bytes (drop 6 line)) 0 0) 0x52 in
-    let says : says_frame (line_of line) ≡ true = and_left (says_frame (line_of line)) first e in
-    said-52 (read-written line (never says)) says (eqb-true _ _ (and_right (says_frame (line_of line)) first e))
+    go (line_of line) refl (and_left (says_frame (line_of line)) (eqb (get_or (hex_bytes (drop 6 line)) 0 0) 0x52) e)
+  where
+    go : (o : Option Line) → line_of line ≡ o → says_frame o ≡ true → FrameOf52 line
+    go (Some l) r h = said-52 (read-written line l r) h (eqb-true _ _ (and_right (says_frame (line_of line)) (eqb (get_or (hex_bytes (drop 6 line)) 0 0) 0x52) e))
+    go None r h = absurd (false≢true h)
 
 -- ---- what they become
 module _ (wp : Bool) (tail b : ℕ) (bytes : List ℕ) (few : tail ≤ 7) (most : length (b ∷ bytes) ≤ 300) (small : b < 256) (are : Bytes bytes) where
-  reads_as : line_of (frame_text wp tail (b ∷ bytes)) ≡ Frame wp tail (length (b ∷ bytes))
+  reads_as : line_of (frame_text wp tail (b ∷ bytes)) ≡ Some (Frame wp tail (length (b ∷ bytes)))
   reads_as = written_read (frame wp tail (b ∷ bytes) few most (one_more small are))
 
   spells : hex_bytes (drop 6 (frame_text wp tail (b ∷ bytes))) ≡ b ∷ bytes
@@ -60,7 +60,7 @@ module _ (wp : Bool) (tail b : ℕ) (bytes : List ℕ) (few : tail ≤ 7) (most 
   begins-as : begins52 (frame_text wp tail (b ∷ bytes)) ≡ eqb b 0x52
   unfolding begins52
   begins-as =
-      ap (λ (z : Line). says_frame z && eqb (get_or (hex_bytes (drop 6 (frame_text wp tail (b ∷ bytes)))) 0 0) 0x52) reads_as ∙ ap (λ (z : List ℕ). eqb (get_or z 0 0) 0x52) spells
+      ap (λ (z : Option Line). says_frame z && eqb (get_or (hex_bytes (drop 6 (frame_text wp tail (b ∷ bytes)))) 0 0) 0x52) reads_as ∙ ap (λ (z : List ℕ). eqb (get_or z 0 0) 0x52) spells
 
 module _ {line : List ℕ} (f : FrameOf52 line) where
   abbrev old : List ℕ
@@ -111,7 +111,7 @@ stays line e = rw e
 
 pub bad-stays : BadStays
 unfolding begins52
-bad-stays line e = stays line (ap (λ (z : Line). says_frame z && eqb (get_or (hex_bytes (drop 6 line)) 0 0) 0x52) e)
+bad-stays line e = stays line (ap (λ (z : Option Line). says_frame z && eqb (get_or (hex_bytes (drop 6 line)) 0 0) 0x52) e)
 
 -- ---- what any line says then
 pub says-the-same : SaysTheSame
@@ -134,7 +134,7 @@ frame-replaced line wp tail count e = go (begins52 line) refl
         let f = only-these line p in
         ap (λ (z : List ℕ). hex_bytes (drop 6 z)) (becomes f) ∙ same_bytes f ∙ ap (λ (z : List ℕ). first_replaced (hex_bytes (drop 6 z))) (sym f.is)
     go false p =
-        let q : eqb (get_or (hex_bytes (drop 6 line)) 0 0) 0x52 ≡ false = sym (ap (λ (z : Line). says_frame z && eqb (get_or (hex_bytes (drop 6 line)) 0 0) 0x52) e) ∙ p in
+        let q : eqb (get_or (hex_bytes (drop 6 line)) 0 0) 0x52 ≡ false = sym (ap (λ (z : Option Line). says_frame z && eqb (get_or (hex_bytes (drop 6 line)) 0 0) 0x52) e) ∙ p in
         ap (λ (z : List ℕ). hex_bytes (drop 6 z)) (stays line p) ∙ other-first (hex_bytes (drop 6 line)) q
 
 -- ---- rewritten once

@@ -12,6 +12,7 @@ use Rattle.text.specs.Text.{ascii, decimal_text, newline}
 use Rattle.text.specs.Put.{Put}
 use Rattle.text.proofs.PutLaws.{put-none, put_then}
 use Rattle.text.proofs.TextLaws.{decimal-few}
+use Rattle.std.specs.Prelude.{Option}
 use Rattle.script.specs.declared.Line.{Line}
 use Rattle.script.specs.Hex.{hex_bytes, Unhexed}
 use Rattle.script.specs.Reading.{line_of}
@@ -27,11 +28,7 @@ front_of (b ∷ bytes) e r n h = ap (λ (z : List ℕ). get_or z 0 0) (h ∙ ap 
 pub first_read : (digits e : List ℕ) (r : ℕ) → Unhexed digits (0 ∷ []) e r → get_or e 0 0 ≡ get_or (hex_bytes digits) 0 0
 first_read digits e r u = front_of (hex_bytes digits) e r u.count u.is
 
-pub begins-frame : (line : List ℕ) (b : ℕ) {l : Line} → l ≡ line_of line → says_frame l ≡ true → b ≡ get_or (hex_bytes (drop 6 line)) 0 0 → eqb b 0x52 ≡ begins52 line
-unfolding begins52
-begins-frame line b e f h = rw (← e, f, h)
-
-pub begins-other : (line : List ℕ) {l : Line} → l ≡ line_of line → says_frame l ≡ false → false ≡ begins52 line
+pub begins-other : (line : List ℕ) {l : Option Line} → l ≡ line_of line → says_frame l ≡ false → false ≡ begins52 line
 unfolding begins52
 begins-other line e f = rw (← e, f)
 
@@ -41,9 +38,9 @@ some_byte : (bytes : List ℕ) (v : ℕ) → get_or bytes 0 0 ≡ v → 0 < v �
 some_byte [] v e l = omega arith
 some_byte (b ∷ bytes) v e l = omega arith
 
-pub begins-long : (line : List ℕ) → begins52 line ≡ true → 8 ≤ length line
+pub begins_long : (line : List ℕ) → begins52 line ≡ true → 8 ≤ length line
 unfolding begins52
-begins-long line e =
+begins_long line e =
     let digits : List ℕ = drop 6 line in
     let first : Bool = eqb (get_or (hex_bytes digits) 0 0) 0x52 in
     let b : get_or (hex_bytes digits) 0 0 ≡ 0x52 = eqb-true _ _ (and_right (says_frame (line_of line)) first e) in
@@ -57,7 +54,7 @@ unfolding rewritten_line
 length-rewritten_line line = go (begins52 line) refl
   where
     go : (t : Bool) → begins52 line ≡ t → length (rewritten_line line) ≡ length line
-    go true p = rw p (length-lay line 6 (ascii "D8") (omega (arith, begins-long line p)))
+    go true p = rw p (length-lay line 6 (ascii "D8") (omega (arith, begins_long line p)))
     go false p = rw p
 
 pub length-ended_line : (long : Bool) (line : List ℕ) → length (ended_line long line) ≡ length line
@@ -70,7 +67,7 @@ number-few true number line = omega arith
 number-few false number line = go (begins52 line) refl
   where
     go : (t : Bool) → begins52 line ≡ t → 3 * length (numbers_text (changed_line number line)) ≤ 7 * (length line + 1)
-    go true p = rw (p, length-append) (omega (arith, decimal-few number, begins-long line p))
+    go true p = rw (p, length-append) (omega (arith, decimal-few number, begins_long line p))
     go false p = rw p (omega arith)
 
 -- ---- the three ways of a line

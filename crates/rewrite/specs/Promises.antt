@@ -1,9 +1,9 @@
 -- What holds of every script that is rewritten.
-use Rattle.std.specs.Prelude.{◌≡◌, Bool, true, false, cond, ◌&&◌, ◌||◌, List, [], ◌∷◌, ◌++◌, map, ◌⊎◌, ℕ, zero, suc, ◌+◌, ◌≤◌, ◌<◌, eqb, ltb, length, get_or, drop}
+use Rattle.std.specs.Prelude.{◌≡◌, Bool, true, false, cond, ◌&&◌, ◌||◌, List, [], ◌∷◌, ◌++◌, map, ◌⊎◌, ℕ, zero, suc, ◌+◌, ◌≤◌, ◌<◌, eqb, ltb, length, get_or, drop, Some, None}
 use Prim.Native.Char.{code}
 use Rattle.parts.specs.Parts.{Bytes}
 use Rattle.text.specs.Text.{newline}
-use Rattle.script.specs.declared.Line.TheVariants.{Frame, Bad}
+use Rattle.script.specs.declared.Line.TheVariants.{Frame}
 use Rattle.script.specs.Grammar.{longest_frame, frame_text}
 use Rattle.script.specs.Hex.{hex_bytes}
 use Rattle.script.specs.Reading.{line_of}
@@ -31,7 +31,7 @@ BecomesD8 = (line : List ℕ) (f : FrameOf52 line) → (begins52 line ≡ true) 
 
 -- a bad line stays, however long it is
 abbrev pub BadStays : Type 0
-BadStays = (line : List ℕ) → line_of line ≡ Bad → rewritten_line line ≡ line
+BadStays = (line : List ℕ) → line_of line ≡ None → rewritten_line line ≡ line
 
 -- for whoever plays it: a rewritten line says what the line said
 abbrev pub SaysTheSame : Type 0
@@ -43,7 +43,7 @@ first_replaced [] = []
 first_replaced (b ∷ bytes) = cond (eqb b 0x52) 0xD8 b ∷ bytes
 
 abbrev pub FrameReplaced : Type 0
-FrameReplaced = (line : List ℕ) (wp : Bool) (tail count : ℕ) → line_of line ≡ Frame wp tail count → hex_bytes (drop 6 (rewritten_line line)) ≡ first_replaced (hex_bytes (drop 6 line))
+FrameReplaced = (line : List ℕ) (wp : Bool) (tail count : ℕ) → line_of line ≡ Some (Frame wp tail count) → hex_bytes (drop 6 (rewritten_line line)) ≡ first_replaced (hex_bytes (drop 6 line))
 
 -- ---- a script
 abbrev pub LengthStays : Type 0

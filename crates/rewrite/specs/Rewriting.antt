@@ -1,20 +1,20 @@
 -- What a script becomes for models 1 and 2, which do not take 52 any more (Req 11): D8 in its place, as the first byte of a frame.
-use Rattle.std.specs.Prelude.{◌≡◌, Bool, true, false, cond, ◌&&◌, List, [], ◌∷◌, ◌++◌, ℕ, ◌+◌, ◌%◌, eqb, get_or, drop}
+use Rattle.std.specs.Prelude.{◌≡◌, Bool, true, false, cond, ◌&&◌, List, [], ◌∷◌, ◌++◌, ℕ, ◌+◌, ◌%◌, eqb, get_or, drop, Option, Some, None}
 use Rattle.parts.specs.Parts.{lay}
 use Rattle.text.specs.Text.{ascii, newline, decimal_text}
 use Rattle.text.specs.Put.{Put}
 use Rattle.script.specs.declared.Line.{Line}
-use Rattle.script.specs.declared.Line.TheVariants.{Frame, Wait, Power, Bad}
+use Rattle.script.specs.declared.Line.TheVariants.{Frame, Wait, Power}
 use Rattle.script.specs.Hex.{hex_bytes}
 use Rattle.script.specs.Reading.{line_of}
 
 -- ---- a line
 -- a line that is well formed and a frame's
-abbrev pub says_frame : Line → Bool
-says_frame (Frame wp tail count) = true
-says_frame (Wait us) = false
-says_frame Power = false
-says_frame Bad = false
+abbrev pub says_frame : Option Line → Bool
+says_frame (Some (Frame wp tail count)) = true
+says_frame (Some (Wait us)) = false
+says_frame (Some Power) = false
+says_frame None = false
 
 -- a well-formed `F` line whose first frame byte is 52
 unfoldable pub begins52 : List ℕ → Bool

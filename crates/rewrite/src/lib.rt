@@ -6,6 +6,7 @@ ghost use Rattle.script.specs.Hex.{hex_bytes};
 ghost use Rattle.rewrite.specs.Rewriting.{begins52, LineRewritten};
 
 use script::Line;
+use text::Sheet;
 
 // The first byte of a frame's line, and 0 where it has none.
 fn first_byte(line: &[u8]) -> u8
@@ -17,41 +18,32 @@ fn first_byte(line: &[u8]) -> u8
 }
 
 // Whether a line is a well-formed frame's that begins with 52.
+#[tactic(auto, unfolding(crate::specs::Rewriting::begins52))]
 fn begins_52(line: &[u8]) -> bool
     ensures { result ≡ begins52 line.now }
 {
-    let said = script::read_line(line);
-    match said {
-        Line::Frame {
-            wp: _,
-            tail: _,
-            count: _,
-        } => first_byte(line) == 0x52,
-        Line::Wait(_) => false,
-        Line::Power => false,
-        Line::Bad => false,
+    match script::read_line(line) {
+        Some(Line::Frame { .. }) => first_byte(line) == 0x52,
+        _ => false,
     }
 }
 
-// Rewrites a line in place, without its newline; where it changes, its number goes into the report behind the first `told` bytes. What comes back
-// is the place past it. The rest of a long line, whose first bytes went before, stays.
-pub fn rewrite_line(
-    line: &mut [u8],
-    long: bool,
-    number: u64,
-    report: &mut [u8],
-    told: usize,
-) -> usize
-    requires { (told ≤ length report.old) × (8 ≤ length line.old → told + 21 ≤ length report.old) }
-    ensures { LineRewritten long number line.old report.old told result line.new report.new }
+// Rewrites a line in place, without its newline; where it changes, its number goes onto the report. The rest of a long line, whose first bytes
+// went before, stays.
+#[tactic(auto, using(crate::proofs::Lines::begins_long))]
+pub fn rewrite_line(line: &mut [u8], long: bool, number: u64, report: &mut Sheet)
+    requires { (report.old.at ≤ length report.old.out.now) × (8 ≤ length line.old → report.old.at + 21 ≤ length report.old.out.now) }
+    ensures same_buffer { report.new.out.ghost_name ≡ report.old.out.ghost_name }
+    ensures same_length { length report.new.out.now ≡ length report.old.out.now }
+    ensures rewritten { LineRewritten long number line.old report.old.out.now report.old.at report.new.at line.new report.new.out.now }
 {
     if long {
-        return told;
+        return;
     }
     if !begins_52(line) {
-        return told;
+        return;
     }
-    text::put_all(b"D8", line, 6);
-    let next = text::put_number(number, report, told);
-    text::put_byte(b'\n', report, next)
+    line[6..8].copy_from_slice(b"D8");
+    report.number(number);
+    report.byte(b'\n');
 }

@@ -1,5 +1,5 @@
 -- The lines of a block, one after the other. No contract cites this file.
-use Rattle.std.proofs.Common.{◌≡◌, ℕ, suc, ◌+◌, ◌-◌, ◌*◌, ◌/◌, ◌<◌, ◌≤◌, Bool, true, false, eqb, List, [], ◌∷◌, ◌++◌, length, take, drop, sym, refl, ap, ◌∙◌, subst, append_assoc, append-nil, not-suc-le-zero, arith, length-append, length-drop, take-append-drop, length-take-le, drop-drop, take_at, take-add, drop_at, eqb-true}
+use Rattle.std.proofs.Common.{◌≡◌, ℕ, suc, ◌+◌, ◌-◌, ◌*◌, ◌/◌, ◌<◌, ◌≤◌, Bool, true, false, eqb, List, [], ◌∷◌, ◌++◌, length, take, drop, sym, refl, ap, ◌∙◌, subst, subst₂, append_assoc, append-nil, not-suc-le-zero, arith, length-append, length-drop, take-append-drop, length-take-le, drop-drop, take_at, take-add, drop_at, eqb-true}
 use native.Mathlib.Nat.{sub-zero}
 use lib.Seq.{append_snoc}
 use borrow.Rule.Slice.PartMut.{put_mid}
@@ -80,9 +80,9 @@ pub record Going (p : Passage) (bytes report : List ℕ) (now told_in : List ℕ
   pub few : 3 * told ≤ 7 * at
   pub same : p ≡ behind text changed (passage rest number (take (from - at) (drop at bytes)) (drop from bytes))
 
-pub going-none : (long : Bool) (number : ℕ) (bytes report : List ℕ) (held end : ℕ) → held ≤ length bytes → end ≡ end_of bytes held
-    → Going (passage long number (take held bytes) (drop held bytes)) bytes report bytes report 0 number long 0 end
-going-none long number bytes report held end l e =
+pub going-none : (long : Bool) (number : ℕ) (bytes report : List ℕ) (held end : ℕ) {told_in : List ℕ} {told : ℕ} → held ≤ length bytes → end ≡ end_of bytes held → told_in ≡ report → told ≡ 0
+    → Going (passage long number (take held bytes) (drop held bytes)) bytes report bytes told_in 0 number long told end
+going-none long number bytes report held end {told_in} {told} l e same none =
     record {
       from = held;
       text = [];
@@ -92,7 +92,7 @@ going-none long number bytes report held end l e =
       ends = e;
       front = refl;
       is = refl;
-      put = put-none report 0 (omega arith);
+      put = rw (same, none) (put-none report 0 (omega arith));
       few = omega arith;
       same = rw sub-zero;
     }
@@ -217,7 +217,7 @@ module _ {p : Passage} {bytes report now told_in : List ℕ} {at number : ℕ} {
         }
 
   -- no line ended any more
-  pub going-all : length bytes ≤ end → LinesRewritten p report (record { at = at; number = number; long = rest; told = told }) now told_in
+  going-all : length bytes ≤ end → LinesRewritten p report (record { at = at; number = number; long = rest; told = told }) now told_in
   going-all l =
       let n : end ≡ g.from + length fresh = g.ends in
       let h : length (drop g.from bytes) ≡ length bytes - g.from = length-drop g.from bytes in
@@ -235,3 +235,7 @@ module _ {p : Passage} {bytes report now told_in : List ℕ} {at number : ℕ} {
         is = g.is ∙ ap (λ (z : Passage). z.text ++ z.line) (sym q);
         put = put_as g.put (ap (λ (z : Passage). numbers_text z.changed) (sym q));
       }
+
+  -- the same, where the report was lent to a sheet
+  pub going-done : {told' : ℕ} {report' : List ℕ} → length bytes ≤ end → told' ≡ told → report' ≡ told_in → LinesRewritten p report (record { at = at; number = number; long = rest; told = told' }) now report'
+  going-done l t r = subst₂ (λ (x : ℕ) (y : List ℕ). LinesRewritten p report (record { at = at; number = number; long = rest; told = x }) now y) (sym t) (sym r) (going-all l)

@@ -1,5 +1,5 @@
 -- A block, and the input's end. No contract cites this file.
-use Rattle.std.proofs.Common.{◌≡◌, ℕ, ◌+◌, ◌-◌, ◌*◌, ◌/◌, ◌≤◌, Bool, true, false, ◌&&◌, eqb, leb, List, [], ◌∷◌, ◌++◌, length, take, drop, sym, refl, ap, ◌∙◌, subst, append-nil, arith, length-append, take_at, drop_at, leb-true}
+use Rattle.std.proofs.Common.{◌≡◌, ℕ, ◌+◌, ◌-◌, ◌*◌, ◌/◌, ◌≤◌, Bool, true, false, ◌&&◌, eqb, leb, List, [], ◌∷◌, ◌++◌, length, take, drop, sym, refl, ap, ◌∙◌, subst, subst₂, append-nil, arith, length-append, take_at, drop_at, leb-true}
 use lib.Seq.{drop-length}
 use borrow.Rule.Slice.PartMut.{put_mid}
 use Rattle.parts.specs.Parts.{lay}
@@ -10,7 +10,7 @@ use Rattle.text.proofs.PutLaws.{put_then}
 use Rattle.script.proofs.HexLaws.{and_left, and_right}
 use Rattle.rewrite_blocks.specs.declared.Progress.{Progress}
 use Rattle.rewrite_blocks.specs.declared.Passed.{Passed}
-use Rattle.rewrite_blocks.specs.declared.Step.TheVariants.{Took, NoRoom}
+use Rattle.std.specs.Prelude.{Option, Some, None}
 use Rattle.rewrite.specs.Rewriting.{number_after, numbers_text, ended_line, ended_number, LineRewritten}
 use Rattle.rewrite_blocks.specs.Blocks.{Passage, passage, held_start, progress_at, block_fits, block_rewrite, last_rewrite, LinesRewritten, MovedDown, Rewrites}
 use Rattle.rewrite.proofs.Lines.{length-ended_line}
@@ -51,11 +51,11 @@ fits run n out report e =
       told = leb-true _ _ (and_right (leb (run.end - run.at + n) out) (leb (run.end - run.at + n) (report / 7 * 3)) b);
     }
 
-pub block_none : (run : Progress) (block out report : List ℕ) → block_fits run (length block) (length out) (length report) ≡ false → Rewrites (block_rewrite run block out report) NoRoom out report
+pub block_none : (run : Progress) (block out report : List ℕ) → block_fits run (length block) (length out) (length report) ≡ false → Rewrites (block_rewrite run block out report) None out report
 unfolding block_rewrite
 block_none run block out report e = record { step' = rw e; out' = rw e; report' = rw e }
 
-pub last_none : (run : Progress) (out report : List ℕ) → block_fits run 0 (length out) (length report) ≡ false → Rewrites (last_rewrite run out report) NoRoom out report
+pub last_none : (run : Progress) (out report : List ℕ) → block_fits run 0 (length out) (length report) ≡ false → Rewrites (last_rewrite run out report) None out report
 unfolding last_rewrite
 last_none run out report e = record { step' = rw e; out' = rw e; report' = rw e }
 
@@ -104,7 +104,7 @@ pub block-some : (run : Progress) (block out report : List ℕ) {held e : ℕ} {
     → MovedDown out run.at run.end held out₁ → Put block out₁ held out₂ e
     → LinesRewritten (passage run.long run.number (take held (take (e - 0) (drop 0 out₂))) (drop held (take (e - 0) (drop 0 out₂)))) report q bytes report'
     → r ≡ progress_at q.number q.long q.at e q.told
-    → Rewrites (block_rewrite run block out report) (Took r) (put_mid 0 (e - 0) out₂ bytes) report'
+    → Rewrites (block_rewrite run block out report) (Some r) (put_mid 0 (e - 0) out₂ bytes) report'
 unfolding block_rewrite
 block-some run block out report {held} {e} {out₁} {out₂} {bytes} {report'} {q} {r} f d b l g =
     let t = fits run (length block) (length out) (length report) f in
@@ -124,7 +124,7 @@ block-some run block out report {held} {e} {out₁} {out₂} {bytes} {report'} {
     let told : q.told ≡ length (numbers_text p.changed) = omega (arith, m.put.next) in
     record {
       step' =
-          rw f (ap Took (g ∙ ap (λ (z : ℕ). progress_at z q.long q.at e q.told) m.number' ∙ ap (λ (z : Bool). progress_at p.number z q.at e q.told) m.long'
+          rw f (ap Some (g ∙ ap (λ (z : ℕ). progress_at z q.long q.at e q.told) m.number' ∙ ap (λ (z : Bool). progress_at p.number z q.at e q.told) m.long'
           ∙ ap (λ (z : ℕ). progress_at p.number p.long z e q.told) m.at' ∙ ap (λ (z : ℕ). progress_at p.number p.long (length p.text) z q.told) end
           ∙ ap (λ (z : ℕ). progress_at p.number p.long (length p.text) (length (p.text ++ p.line)) z) told));
       out' = rw f (front-back bytes w (ap length m.is ∙ n) ∙ ap (lay out 0) m.is);
@@ -143,7 +143,7 @@ last-ready run out report {held} {out₁} f d =
 
 pub last_some : (run : Progress) (out report : List ℕ) {held told : ℕ} {out₁ bytes report' : List ℕ} → block_fits run 0 (length out) (length report) ≡ true
     → MovedDown out run.at run.end held out₁ → LineRewritten run.long run.number (take (held - 0) (drop 0 out₁)) report 0 told bytes report'
-    → Rewrites (last_rewrite run out report) (Took (record { number = run.number; long = run.long; at = held; end = held; told = told })) (put_mid 0 (held - 0) out₁ bytes) report'
+    → Rewrites (last_rewrite run out report) (Some (record { number = run.number; long = run.long; at = held; end = held; told = told })) (put_mid 0 (held - 0) out₁ bytes) report'
 unfolding last_rewrite
 last_some run out report {held} {told} {out₁} {bytes} {report'} f d l =
     let t = fits run 0 (length out) (length report) f in
@@ -153,8 +153,17 @@ last_some run out report {held} {told} {out₁} {bytes} {report'} f d l =
     let n : told ≡ length (numbers_text (ended_number run.long run.number start)) = omega (arith, m.put.next) in
     record {
       step' =
-          rw f (ap (λ (z : ℕ). Took (record { number = run.number; long = run.long; at = z; end = z; told = told })) d.count
-          ∙ ap (λ (z : ℕ). Took (record { number = run.number; long = run.long; at = run.end - run.at; end = run.end - run.at; told = z })) n);
+          rw f (ap (λ (z : ℕ). Some (record { number = run.number; long = run.long; at = z; end = z; told = told })) d.count
+          ∙ ap (λ (z : ℕ). Some (record { number = run.number; long = run.long; at = run.end - run.at; end = run.end - run.at; told = z })) n);
       out' = rw f (front-back bytes h (ap length m.is ∙ length-ended_line run.long start) ∙ ap (lay out 0) m.is);
       report' = rw f m.put.is;
     }
+
+-- the same, where the report was lent to a sheet
+pub last-on : (run : Progress) (out report : List ℕ) {held told at at' : ℕ} {out₁ bytes report₁ report₂ report' : List ℕ} → block_fits run 0 (length out) (length report) ≡ true
+    → MovedDown out run.at run.end held out₁ → report₁ ≡ report → at ≡ 0 → told ≡ at' → report' ≡ report₂
+    → LineRewritten run.long run.number (take (held - 0) (drop 0 out₁)) report₁ at at' bytes report₂
+    → Rewrites (last_rewrite run out report) (Some (record { number = run.number; long = run.long; at = held; end = held; told = told })) (put_mid 0 (held - 0) out₁ bytes) report'
+last-on run out report {held} {told} {at} {at'} {out₁} {bytes} {report₁} {report₂} {report'} f d s n t r w =
+    let lent = subst₂ (λ (x : List ℕ) (y : ℕ). LineRewritten run.long run.number (take (held - 0) (drop 0 out₁)) x y at' bytes report₂) s n w in
+    last_some run out report f d (subst₂ (λ (x : ℕ) (y : List ℕ). LineRewritten run.long run.number (take (held - 0) (drop 0 out₁)) report 0 x bytes y) (sym t) (sym r) lent)

@@ -12,7 +12,7 @@ use Rattle.rewrite.proofs.Lines.{begins-other, number-few, length-ended_line}
 use Rattle.rewrite.proofs.Frames.{stays}
 use Rattle.rewrite.proofs.Scripts.{empty-begins}
 use Rattle.rewrite_blocks.specs.declared.Progress.{Progress}
-use Rattle.rewrite_blocks.specs.declared.Step.TheVariants.{Took, NoRoom}
+use Rattle.std.specs.Prelude.{Option, Some, None}
 use Rattle.rewrite_blocks.specs.Blocks.{Passage, after_line, passage, first_progress, held_start, long_by, progress_of, block_fits, Rewrote, passage_rewrite, block_rewrite, last_taken, last_rewrite}
 use Rattle.rewrite_blocks.specs.Promises.{nothing_more, written_then, written_blocks, AllWithin, WholeScriptRewritten, HoldsFew, OneRewrites, OneLinesRewritten, OneMovedDown}
 use Rattle.rewrite_blocks.specs.Promises.AllWithin.{none, more}
@@ -315,11 +315,11 @@ holds-few run r block out report e = go (block_fits run (length block) (length o
 
     go : (t : Bool) → block_fits run (length block) (length out) (length report) ≡ t → r.end - r.at ≤ longest_line
     go true f =
-        let q : Took (progress_of p) ≡ Took r = rw f at e in
+        let q : Some (progress_of p) ≡ Some r = rw f at e in
         let s : progress_of p ≡ r = cc in
         subst (λ (z : Progress). z.end - z.at ≤ longest_line) s (leaves p out).few
     go false f =
-        let q : NoRoom ≡ Took r = rw f at e in
+        let q : None ≡ Some r = rw f at e in
         absurd (let z : ◌≡◌ {A = ℕ} 0 1 = cc in omega arith)
 
 -- ---- no second answer

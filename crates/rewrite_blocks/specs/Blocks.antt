@@ -1,14 +1,12 @@
 -- A script that comes in blocks. What is there of a line at a block's end is held for the next one, unless it has over 640 bytes: then it is bad however
 -- it goes on (01, "Script and log"), and is written as it is.
-use Rattle.std.specs.Prelude.{◌≡◌, ℕ, ◌+◌, ◌-◌, ◌*◌, ◌/◌, Bool, false, cond, ◌&&◌, ◌||◌, List, [], ◌∷◌, ◌++◌, length, ◌==◌, nat_le, nat_lt}
+use Rattle.std.specs.Prelude.{◌≡◌, ℕ, ◌+◌, ◌-◌, ◌*◌, ◌/◌, Bool, false, cond, ◌&&◌, ◌||◌, List, [], ◌∷◌, ◌++◌, length, ◌==◌, nat_le, nat_lt, Option, Some, None}
 use Rattle.parts.specs.Parts.{part, lay}
 use Rattle.text.specs.Text.{newline}
 use Rattle.text.specs.Put.{Put}
 use Rattle.script.specs.Grammar.{longest_line}
 use Rattle.rewrite_blocks.specs.declared.Progress.{Progress}
 use Rattle.rewrite_blocks.specs.declared.Passed.{Passed}
-use Rattle.rewrite_blocks.specs.declared.Step.{Step}
-use Rattle.rewrite_blocks.specs.declared.Step.TheVariants.{Took, NoRoom}
 use Rattle.rewrite.specs.Rewriting.{number_after, numbers_text, ended_line, ended_number}
 
 -- ---- the lines of a block
@@ -57,15 +55,15 @@ block_fits run n out report =
 
 -- the answer, and the output and the report after
 pub record Rewrote : Type 0 where
-  pub step : Step
+  pub step : Option Progress
   pub out : List ℕ
   pub report : List ℕ
 
 abbrev pub refused_rewrite : List ℕ → List ℕ → Rewrote
-refused_rewrite out report = record { step = NoRoom; out = out; report = report }
+refused_rewrite out report = record { step = None; out = out; report = report }
 
 abbrev pub passage_rewrite : Passage → List ℕ → List ℕ → Rewrote
-passage_rewrite p out report = record { step = Took (progress_of p); out = lay out 0 (p.text ++ p.line); report = lay report 0 (numbers_text p.changed) }
+passage_rewrite p out report = record { step = Some (progress_of p); out = lay out 0 (p.text ++ p.line); report = lay report 0 (numbers_text p.changed) }
 
 unfoldable pub block_rewrite : Progress → List ℕ → List ℕ → List ℕ → Rewrote
 block_rewrite run block out report =
@@ -80,7 +78,7 @@ last_progress run numbers = record { number = run.number; long = run.long; at = 
 abbrev pub last_taken : Progress → List ℕ → List ℕ → Rewrote
 last_taken run out report =
     record {
-      step = Took (last_progress run (ended_number run.long run.number (held_start run out)));
+      step = Some (last_progress run (ended_number run.long run.number (held_start run out)));
       out = lay out 0 (ended_line run.long (held_start run out));
       report = lay report 0 (numbers_text (ended_number run.long run.number (held_start run out)));
     }
@@ -102,7 +100,7 @@ pub record MovedDown (out : List ℕ) (at end r : ℕ) (out' : List ℕ) : Type 
   pub count : r ≡ end - at
   pub is : out' ≡ lay out 0 (part out at (end - at))
 
-pub record Rewrites (w : Rewrote) (r : Step) (out report : List ℕ) : Type 0 where
+pub record Rewrites (w : Rewrote) (r : Option Progress) (out report : List ℕ) : Type 0 where
   pub step' : r ≡ w.step
   pub out' : out ≡ w.out
   pub report' : report ≡ w.report

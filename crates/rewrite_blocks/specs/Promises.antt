@@ -1,12 +1,10 @@
 -- A whole script, cut into blocks anyhow: what is written is the script rewritten, and what is told are the numbers of the lines that changed.
-use Rattle.std.specs.Prelude.{◌≡◌, ℕ, ◌+◌, ◌-◌, ◌*◌, ◌/◌, ◌≤◌, List, [], ◌∷◌, ◌++◌, length, take}
+use Rattle.std.specs.Prelude.{◌≡◌, ℕ, ◌+◌, ◌-◌, ◌*◌, ◌/◌, ◌≤◌, List, [], ◌∷◌, ◌++◌, length, take, Option, Some, None}
 use Rattle.script.specs.Grammar.{longest_line}
 use Rattle.lines.specs.Lines.{lines_from, joined_up}
 use Rattle.rewrite.specs.Rewriting.{rewritten, changed_lines, numbers_text}
 use Rattle.rewrite_blocks.specs.declared.Progress.{Progress}
 use Rattle.rewrite_blocks.specs.declared.Passed.{Passed}
-use Rattle.rewrite_blocks.specs.declared.Step.{Step}
-use Rattle.rewrite_blocks.specs.declared.Step.TheVariants.{Took, NoRoom}
 use Rattle.rewrite_blocks.specs.Blocks.{Passage, first_progress, Rewrote, block_rewrite, last_rewrite, LinesRewritten, MovedDown, Rewrites}
 
 -- ---- what is written
@@ -18,9 +16,9 @@ abbrev pub nothing_more : Written
 nothing_more = record { text = []; told = [] }
 
 -- the output up to `at` and the report up to `told`, and then what follows; where there is no room it ends
-abbrev pub written_then : Step → List ℕ → List ℕ → (Progress → Written) → Written
-written_then (Took run) out report rest = record { text = take run.at out ++ (rest run).text; told = take run.told report ++ (rest run).told }
-written_then NoRoom out report rest = nothing_more
+abbrev pub written_then : Option Progress → List ℕ → List ℕ → (Progress → Written) → Written
+written_then (Some run) out report rest = record { text = take run.at out ++ (rest run).text; told = take run.told report ++ (rest run).told }
+written_then None out report rest = nothing_more
 
 -- block after block, and the input's end
 abbrev pub written_blocks : Progress → List ℕ → List ℕ → List (List ℕ) → Written
@@ -42,11 +40,11 @@ WholeScriptRewritten = (most : ℕ) (out report : List ℕ) (blocks : List (List
 
 -- at most 640 bytes are held from block to block
 abbrev pub HoldsFew : Type 0
-HoldsFew = (run r : Progress) (block out report : List ℕ) → (block_rewrite run block out report).step ≡ Took r → r.end - r.at ≤ longest_line
+HoldsFew = (run r : Progress) (block out report : List ℕ) → (block_rewrite run block out report).step ≡ Some r → r.end - r.at ≤ longest_line
 
 -- ---- no second answer
 abbrev pub OneRewrites : Type 0
-OneRewrites = (w : Rewrote) (r r₂ : Step) (out out₂ report report₂ : List ℕ) → Rewrites w r out report → Rewrites w r₂ out₂ report₂ → (r ≡ r₂) × (out ≡ out₂) × (report ≡ report₂)
+OneRewrites = (w : Rewrote) (r r₂ : Option Progress) (out out₂ report report₂ : List ℕ) → Rewrites w r out report → Rewrites w r₂ out₂ report₂ → (r ≡ r₂) × (out ≡ out₂) × (report ≡ report₂)
 
 abbrev pub OneLinesRewritten : Type 0
 OneLinesRewritten = (p : Passage) (report : List ℕ) (r r₂ : Passed) (bytes bytes₂ report' report₂ : List ℕ) → LinesRewritten p report r bytes report' → LinesRewritten p report r₂ bytes₂ report₂

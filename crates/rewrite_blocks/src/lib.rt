@@ -5,6 +5,8 @@
 ghost use Rattle.std.specs.Prelude.{◌≡◌, ◌*◌, ◌/◌, ◌≤◌, length, take, drop};
 ghost use Rattle.rewrite_blocks.specs.Blocks.{first_progress, passage, progress_at, block_fits, block_rewrite, last_rewrite, LinesRewritten, MovedDown, Rewrites};
 
+use text::Sheet;
+
 // What goes on from block to block: the number of the line that is open, and whether its first bytes, over 640, are written already. The output
 // is to be written up to `at`, and from there up to `end` it is held; the report is filled up to `told`.
 #[derive(Clone, Copy)]
@@ -16,14 +18,7 @@ pub struct Progress {
     pub told: usize,
 }
 
-// A block was taken, or a lent buffer is too short and nothing was done.
-#[derive(Clone, Copy)]
-pub enum Step {
-    Took(Progress),
-    NoRoom,
-}
-
-// The lines that ended in some bytes: where they end, and what is known of the line after them.
+// The lines that ended in some bytes: where they end, and what is known of the line after them. It has no `end`, and so is no Progress yet.
 #[derive(Clone, Copy)]
 struct Passed {
     at: usize,
@@ -52,15 +47,16 @@ fn rewrite_lines(bytes: &mut [u8], held: usize, long: bool, first: u64, report: 
     requires { (held ≤ length bytes.old) × (length bytes.old ≤ length report.old / 7 * 3) }
     ensures { LinesRewritten (passage long first (take held bytes.old) (drop held bytes.old)) report.old result bytes.new report.new }
 {
+    let mut sheet = Sheet::new(report, 0);
     let mut at = 0;
     let mut number = first;
     let mut rest = long;
-    let mut told = 0;
     let mut end = lines::line_end(bytes, held);
+    // No iterator: where a line ends is found anew each turn, in bytes that the turn before wrote to.
     while end < bytes.len() {
-        told = rewrite::rewrite_line(&mut bytes[at..end], rest, number, report, told);
+        rewrite::rewrite_line(&mut bytes[at..end], rest, number, &mut sheet);
         rest = false;
-        number = std::num::wrapping_add_u64(number, 1);
+        number = number.wrapping_add(1);
         at = end + 1;
         end = lines::line_end(bytes, at);
     }
@@ -68,7 +64,7 @@ fn rewrite_lines(bytes: &mut [u8], held: usize, long: bool, first: u64, report: 
         at,
         number,
         long: rest,
-        told,
+        told: sheet.end(),
     }
 }
 
@@ -96,13 +92,8 @@ fn move_down(out: &mut [u8], at: usize, end: usize) -> usize
     requires { (at ≤ end) × (end ≤ length out.old) }
     ensures { MovedDown out.old at end result out.new }
 {
-    let n = end - at;
-    let mut i = 0;
-    while i < n {
-        out[i] = out[at + i];
-        i += 1;
-    }
-    n
+    out.copy_within(at..end, 0);
+    end - at
 }
 
 // How far it came in `end` bytes. A line that is open is held, unless it is long by now.
@@ -111,14 +102,10 @@ fn progress_of(passed: Passed, end: usize) -> Progress
     ensures { result ≡ progress_at passed.number passed.long passed.at end passed.told }
 {
     let long = passed.long | (640 < end - passed.at);
-    let mut at = passed.at;
-    if long {
-        at = end;
-    }
     Progress {
         number: passed.number,
         long,
-        at,
+        at: if long { end } else { passed.at },
         end,
         told: passed.told,
     }
@@ -127,33 +114,40 @@ fn progress_of(passed: Passed, end: usize) -> Progress
 // ---- a block
 
 // Rewrites the lines that end in a block behind what is held: the output is to be written then up to `at`, and the report up to `told`. Where a
-// lent buffer is too short nothing is done.
-pub fn rewrite_block(run: Progress, block: &[u8], out: &mut [u8], report: &mut [u8]) -> Step
+// lent buffer is too short nothing is done, and None comes back.
+pub fn rewrite_block(
+    run: Progress,
+    block: &[u8],
+    out: &mut [u8],
+    report: &mut [u8],
+) -> Option<Progress>
     ensures { Rewrites (block_rewrite run block.now out.old report.old) result out.new report.new }
 {
     if !block_fits(run, block.len(), out.len(), report.len()) {
-        return Step::NoRoom;
+        return None;
     }
     let held = move_down(out, run.at, run.end);
-    let end = text::put_all(block, out, held);
+    let end = held + block.len();
+    out[held..end].copy_from_slice(block);
     let passed = rewrite_lines(&mut out[0..end], held, run.long, run.number, report);
-    Step::Took(progress_of(passed, end))
+    Some(progress_of(passed, end))
 }
 
 // The input has ended: what is held is the last line, without its newline. Output and report are to be written as after a block.
-pub fn finish(run: Progress, out: &mut [u8], report: &mut [u8]) -> Step
+pub fn finish(run: Progress, out: &mut [u8], report: &mut [u8]) -> Option<Progress>
     ensures { Rewrites (last_rewrite run out.old report.old) result out.new report.new }
 {
     if !block_fits(run, 0, out.len(), report.len()) {
-        return Step::NoRoom;
+        return None;
     }
     let end = move_down(out, run.at, run.end);
-    let told = rewrite::rewrite_line(&mut out[0..end], run.long, run.number, report, 0);
-    Step::Took(Progress {
+    let mut sheet = Sheet::new(report, 0);
+    rewrite::rewrite_line(&mut out[0..end], run.long, run.number, &mut sheet);
+    Some(Progress {
         number: run.number,
         long: run.long,
         at: end,
         end,
-        told,
+        told: sheet.end(),
     })
 }

@@ -1,52 +1,52 @@
 // Bytes read round and round: reads that go on at the first address after the last, and patterns over and over.
 #![tactic(auto)]
 
-ghost use Rattle.std.specs.Prelude.{◌≡◌, ◌-◌, ◌%◌, ◌≤◌, ◌<◌, length};
-ghost use Rattle.parts.specs.Parts.{lay};
+ghost use Rattle.std.specs.Prelude.{◌≡◌, ◌%◌, ◌≤◌, ◌<◌, length};
 ghost use Rattle.rings.specs.Ring.{ring};
 
-// The bytes of out from index from up to end become those of src from an index on, and after its last those from its first on: straight runs to
-// the end of src, and a last one. The rest of out stays.
-pub fn read_ring(src: &[u8], first: usize, out: &mut [u8], from: usize, end: usize)
-    requires { (first < length src.now) × (from ≤ end) × (end ≤ length out.old) }
-    ensures { out.new ≡ lay out.old from (ring src.now first (end - from)) }
+// Fills out with the bytes of src from an index on, and after its last with those from its first on: straight runs to the end of src, and a last one.
+#[tactic(auto, using(crate::proofs::Runs::read_last))]
+pub fn read_ring(src: &[u8], first: usize, out: &mut [u8])
+    requires { first < length src.now }
+    ensures { out.new ≡ ring src.now first (length out.old) }
 {
-    let size = src.len();
-    let mut at = first;
-    let mut i = from;
-    while size - at < end - i {
-        let next = i + (size - at);
-        parts::copy(&mut out[i..next], &src[at..size]);
-        i = next;
-        at = 0;
+    // An index: of a slice lent piece by piece (`split_at_mut`, `chunks_mut`) a proof would know only the length.
+    let mut run = &src[first..];
+    let mut done = 0;
+    while run.len() < out.len() - done {
+        let next = done + run.len();
+        out[done..next].copy_from_slice(run);
+        done = next;
+        run = src;
     }
-    let stop = at + (end - i);
-    parts::copy(&mut out[i..end], &src[at..stop]);
+    let last = out.len() - done;
+    out[done..].copy_from_slice(&run[..last]);
 }
 
-// The bytes of out from index from up to end become the pattern over and over, its first byte at from. The rest of out stays.
-// A long part is read out of a block of 24 bytes, which 1, 2 and 3 divide.
-pub fn repeat_part(out: &mut [u8], from: usize, end: usize, pattern: &[u8])
-    requires { (from ≤ end) × (end ≤ length out.old) × (0 < length pattern.now) × (length pattern.now ≤ 3) }
-    ensures { out.new ≡ lay out.old from (ring pattern.now 0 (end - from)) }
+// Fills out with the pattern over and over. A long one is read out of a block of 24 bytes, which 1, 2 and 3 divide.
+#[tactic(auto, using(crate::proofs::Runs::block_read))]
+pub fn repeat(out: &mut [u8], pattern: &[u8])
+    requires { (0 < length pattern.now) × (length pattern.now ≤ 3) }
+    ensures { out.new ≡ ring pattern.now 0 (length out.old) }
 {
-    if end - from <= 24 {
-        repeat(&mut out[from..end], pattern);
+    if out.len() <= 24 {
+        step_through(out, pattern);
     } else {
         let mut block = [0u8; 24];
-        repeat(&mut block, pattern);
-        read_ring(&block, 0, out, from, end);
+        step_through(&mut block, pattern);
+        read_ring(&block, 0, out);
     }
 }
 
 // Every byte of out becomes the pattern's next, over and over.
-fn repeat(out: &mut [u8], pattern: &[u8])
+fn step_through(out: &mut [u8], pattern: &[u8])
     requires { 0 < length pattern.now }
     ensures { out.new ≡ ring pattern.now 0 (length out.old) }
 {
+    // A place that steps: `%` would be a division a byte.
     let mut k = 0;
-    for i in 0..out.len() {
-        out[i] = pattern[k];
+    for byte in out.iter_mut() {
+        *byte = pattern[k];
         k = wrap(k + 1, pattern.len());
     }
 }

@@ -2,73 +2,61 @@
 // lines that changed go to standard error.
 #![tactic(auto)]
 
-use rewrite_blocks::{Progress, Step};
+use rewrite_blocks::Progress;
 use std::io::Read;
 
-// How far it came, and whether to go on.
-#[derive(Clone, Copy)]
-struct Next {
-    run: Progress,
-    on: bool,
-}
-
-// Writes the first bytes of the output; whether they were taken. Where they were not, standard error says so.
-fn write_script(rt: HostRuntime, out: &[u8], n: usize) -> bool {
-    if n <= out.len() {
-        match rt.write_all(&out[0..n]) {
-            Ok(()) => return true,
-            Err(error) => words::fail(&rt, "rewrite: standard output", error),
+// Writes a part of the new script; whether it was taken. Where it was not, standard error says so.
+fn write_script(rt: HostRuntime, part: &[u8]) -> bool {
+    match rt.write_all(part) {
+        Ok(()) => true,
+        Err(error) => {
+            words::fail(&rt, "rewrite: standard output", error);
+            false
         }
-    }
-    false
-}
-
-// Writes the first bytes of the report. Where standard error does not take them the script goes on all the same.
-fn write_report(rt: HostRuntime, report: &[u8], n: usize) {
-    if n <= report.len() {
-        let _ = rt.stderr().write_all(&report[0..n]);
     }
 }
 
 // A block; an empty one is the input's end.
-fn rewrite_next(run: Progress, block: &[u8], out: &mut [u8], report: &mut [u8]) -> Step {
-    if block.len() == 0 {
+fn rewrite_next(
+    run: Progress,
+    block: &[u8],
+    out: &mut [u8],
+    report: &mut [u8],
+) -> Option<Progress> {
+    if block.is_empty() {
         rewrite_blocks::finish(run, out, report)
     } else {
         rewrite_blocks::rewrite_block(run, block, out, report)
     }
 }
 
-// Reads a block, and writes what comes of it.
+// Reads a block, and writes what comes of it; None where the script does not go on. Where standard error does not take the report the
+// script goes on all the same.
 fn read_block(
     rt: HostRuntime,
     run: Progress,
     block: &mut [u8],
     out: &mut [u8],
     report: &mut [u8],
-) -> Next {
+) -> Option<Progress> {
     let n = match rt.stdin().read(block) {
         Ok(n) => n,
         Err(error) => {
             words::fail(&rt, "rewrite: standard input", error);
-            return Next { run, on: false };
+            return None;
         }
     };
-    let step = rewrite_next(run, &block[..n], out, report);
-    let Step::Took(next) = step else {
+    let Some(next) = rewrite_next(run, &block[..n], out, report) else {
         let _ = rt.stderr().write_all(b"rewrite: a buffer is too short\n");
-        return Next { run, on: false };
+        return None;
     };
-    let end = next.at;
-    let told = next.told;
-    let taken = write_script(rt, out, end);
-    if taken {
-        write_report(rt, report, told);
+    if !write_script(rt, out.get(..next.at)?) {
+        return None;
     }
-    Next {
-        run: next,
-        on: taken & (n > 0),
+    if let Some(told) = report.get(..next.told) {
+        let _ = rt.stderr().write_all(told);
     }
+    if n > 0 { Some(next) } else { None }
 }
 
 // Block after block.
@@ -78,11 +66,10 @@ fn rewrite_input(rt: HostRuntime) {
     let mut report = [0u8; 65536];
     let mut run = rewrite_blocks::first();
     for _ in 0..u64::MAX {
-        let next = read_block(rt, run, &mut block, &mut out, &mut report);
-        run = next.run;
-        if !next.on {
+        let Some(next) = read_block(rt, run, &mut block, &mut out, &mut report) else {
             return;
-        }
+        };
+        run = next;
     }
 }
 

@@ -2,6 +2,8 @@
 // setting is off, unless the word strict asks for it.
 #![tactic(auto)]
 
+use play::Bench;
+
 fn main(rt: HostRuntime) {
     let wish = words::asked(&rt);
     if words::answered(
@@ -22,10 +24,17 @@ reaches would not end up holding the byte that was sent to it.
     ) {
         return;
     }
-    let strict = words::is_strict(wish);
     let mut page = [0xFFu8; 256];
     let mut array = [0xFFu8; 65536];
     let mut wear = [0u32; 16];
-    let rec = states::bench_kh25l512();
-    input::play_input(&rt, rec, strict, &mut page, &mut array, &mut wear, true);
+    // The bench is made here, since page data, array and wear table are this function's own.
+    let mut bench = Bench {
+        rec: states::bench_kh25l512(),
+        strict: words::is_strict(wish),
+        state: states::power_on(),
+        page: &mut page,
+        array: &mut array,
+        wear: &mut wear,
+    };
+    input::play_input(&rt, &mut bench, true);
 }

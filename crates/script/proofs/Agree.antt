@@ -11,8 +11,9 @@ use borrow.Author.Tests.{leb-true, leb-false, le-leb, lt-leb, le-ltb, lt-ltb, lt
 use Rattle.parts.specs.Parts.{Bytes}
 use Rattle.text.specs.Text.{tab, digit_of, hex_text, decimal_text}
 use Rattle.text.proofs.TextLaws.{length-hex_text, decimal-few}
+use Rattle.std.specs.Prelude.{Option, Some, None}
 use Rattle.script.specs.declared.Line.{Line}
-use Rattle.script.specs.declared.Line.TheVariants.{Frame, Wait, Power, Bad}
+use Rattle.script.specs.declared.Line.TheVariants.{Frame, Wait, Power}
 use Rattle.script.specs.Grammar.{F, W, P, level_of, frame_text, wait_text, power_text, Says}
 use Rattle.script.specs.Grammar.Says.{frame, wait, power}
 use Rattle.script.specs.Hex.{is_hex, is_digit, is_capital, nibble_of, hex_bytes}
@@ -116,25 +117,25 @@ unfolding is_frame frame_head
 is-frame wp t bytes lt ln b =
     rw (level-digit wp, le-leb 48 (48 + t) (omega arith), le-leb (48 + t) 55 (omega arith), frame-size wp t bytes, eq-eqb ((6 + 2 * length bytes) % 2) 0 (omega arith), le-leb (6 + 2 * length bytes) 606 (omega arith), hex-all bytes b)
 
-read-frame : (wp : Bool) (t : ℕ) (bytes : List ℕ) → t ≤ 7 → length bytes ≤ 300 → Bytes bytes → line_of (frame_text wp t bytes) ≡ Frame wp t (length bytes)
+read-frame : (wp : Bool) (t : ℕ) (bytes : List ℕ) → t ≤ 7 → length bytes ≤ 300 → Bytes bytes → line_of (frame_text wp t bytes) ≡ Some (Frame wp t (length bytes))
 unfolding line_of
 read-frame wp t bytes lt ln b =
     let x : (6 + 2 * length bytes - 6) / 2 ≡ length bytes = omega arith in
     let y : 48 + t - 48 ≡ t = omega arith in
     rw (is-frame wp t bytes lt ln b, frame-size wp t bytes, le-ltb 640 (6 + 2 * length bytes) (omega arith), x, y, level-high wp)
 
-read-wait : (us : ℕ) → us ≤ 4294967295 → line_of (wait_text us) ≡ Wait us
+read-wait : (us : ℕ) → us ≤ 4294967295 → line_of (wait_text us) ≡ Some (Wait us)
 unfolding line_of is_frame frame_head other_line is_wait wait_head
 read-wait us l =
     let f : length (decimal_text us) ≤ 20 = decimal-few us in
     rw (le-ltb 640 (suc (suc (length (decimal_text us)))) (omega arith), decimal-plain us (omega arith), decimal-digits us (omega arith), decimal-value us (omega arith), le-leb us 4294967295 l)
 
-read-power : line_of power_text ≡ Power
+read-power : line_of power_text ≡ Some Power
 unfolding line_of is_frame frame_head other_line is_wait wait_head is_power
 read-power = refl
 
 -- a line of the grammar is read as what it says
-pub written_read : {s : List ℕ} {l : Line} → Says s l → line_of s ≡ l
+pub written_read : {s : List ℕ} {l : Line} → Says s l → line_of s ≡ Some l
 written_read (frame wp t bytes lt ln b) = read-frame wp t bytes lt ln b
 written_read (wait us l) = read-wait us l
 written_read power = read-power
@@ -201,53 +202,40 @@ power-says [] e = absurd (let z : ◌≡◌ {A = ℕ} 0 1 = cc in omega arith)
 power-says (a ∷ []) e = says-as (ap (λ (z : ℕ). z ∷ []) (eqb-true a P e)) refl power
 power-says (a ∷ b ∷ s) e = absurd (let n : suc (suc (length s)) ≡ 1 = eqb-true (suc (suc (length s))) 1 (and_left (eqb (suc (suc (length s))) 1) (eqb a P) e) in omega arith)
 
--- a line that is not bad is one of the grammar, and says what is read
-pub read-written : (s : List ℕ) → (line_of s ≡ Bad → ⊥) → Says s (line_of s)
+-- what is read of a line is what the grammar has it say
+says-some : {s : List ℕ} {l m : Line} → Some l ≡ Some m → Says s l → Says s m
+says-some {s} {l} {m} e p = let h : l ≡ m = cc in subst (Says s) h p
+
+pub read-written : (s : List ℕ) (l : Line) → line_of s ≡ Some l → Says s l
 unfolding line_of other_line
-read-written s b = go (ltb 640 (length s)) refl (is_frame s) refl (is_wait s) refl (is_power s) refl
+read-written s l r = go (ltb 640 (length s)) refl (is_frame s) refl (is_wait s) refl (is_power s) refl
   where
-    go : (t : Bool) → ltb 640 (length s) ≡ t → (f : Bool) → is_frame s ≡ f → (w : Bool) → is_wait s ≡ w → (p : Bool) → is_power s ≡ p → Says s (line_of s)
-    go true e f ef w ew p ep = absurd (b (rw e))
-    go false e true ef w ew p ep = rw (e, ef) (frame-says s (frame-parts s ef))
-    go false e false ef true ew p ep = rw (e, ef, ew) (wait-says s ew)
-    go false e false ef false ew true ep = rw (e, ef, ew, ep) (power-says s ep)
-    go false e false ef false ew false ep = absurd (b (rw (e, ef, ew, ep)))
+    go : (t : Bool) → ltb 640 (length s) ≡ t → (f : Bool) → is_frame s ≡ f → (w : Bool) → is_wait s ≡ w → (p : Bool) → is_power s ≡ p → Says s l
+    go true e f ef w ew p ep = let z : None ≡ Some l = rw e at r in absurd cc
+    go false e true ef w ew p ep = says-some (rw (e, ef) at r) (frame-says s (frame-parts s ef))
+    go false e false ef true ew p ep = says-some (rw (e, ef, ew) at r) (wait-says s ew)
+    go false e false ef false ew true ep = says-some (rw (e, ef, ew, ep) at r) (power-says s ep)
+    go false e false ef false ew false ep = let z : None ≡ Some l = rw (e, ef, ew, ep) at r in absurd cc
 
-says-not-bad : {s : List ℕ} {l : Line} → Says s l → l ≡ Bad → ⊥
-says-not-bad (frame wp t bytes lt ln b) e = let z : ◌≡◌ {A = ℕ} 0 1 = cc in omega arith
-says-not-bad (wait us l) e = let z : ◌≡◌ {A = ℕ} 0 1 = cc in omega arith
-says-not-bad power e = let z : ◌≡◌ {A = ℕ} 0 1 = cc in omega arith
-
--- and a bad line is none of them
-pub bad-unwritten : (s : List ℕ) → line_of s ≡ Bad → (l : Line) → Says s l → ⊥
-bad-unwritten s b l p = says-not-bad p (sym (written_read p) ∙ b)
+-- and a bad line says nothing
+pub bad-unwritten : (s : List ℕ) → line_of s ≡ None → (l : Line) → Says s l → ⊥
+bad-unwritten s b l p = let z : Some l ≡ None = sym (written_read p) ∙ b in cc
 
 -- both in one, for the reader's contract
-pub reads : (s : List ℕ) (r : Line) → r ≡ line_of s → Reads s r
-reads s r e = record {
-  is = e;
-  written = λ l p. e ∙ written_read p;
-  nothing-else = λ b. subst (Says s) (sym e) (read-written s (λ f. b (e ∙ f)));
-}
+pub reads : (s : List ℕ) (r : Option Line) → r ≡ line_of s → Reads s r
+reads s r e = record { is = e; written = λ l p. e ∙ written_read p; nothing-else = λ l b. read-written s l (sym e ∙ b) }
 
 pub one-reads : OneReads
 one-reads s r r' p q = p.is ∙ sym q.is
 
 -- the grammar alone decides
 pub grammar-decides : GrammarDecides
-grammar-decides s r w n = go r refl
+grammar-decides s r w n = go r refl (line_of s) refl
   where
-    other : (k : Line) → line_of s ≡ k → r ≡ Bad → r ≡ line_of s
-    other (Frame wp t m) f e = w (line_of s) (read-written s (λ b. let z : ◌≡◌ {A = ℕ} 0 1 = cc in omega arith))
-    other (Wait us) f e = w (line_of s) (read-written s (λ b. let z : ◌≡◌ {A = ℕ} 0 1 = cc in omega arith))
-    other Power f e = w (line_of s) (read-written s (λ b. let z : ◌≡◌ {A = ℕ} 0 1 = cc in omega arith))
-    other Bad f e = e ∙ sym f
-
-    go : (k : Line) → r ≡ k → r ≡ line_of s
-    go (Frame wp t m) e = sym (written_read (n (λ b. let z : ◌≡◌ {A = ℕ} 0 1 = cc in omega arith)))
-    go (Wait us) e = sym (written_read (n (λ b. let z : ◌≡◌ {A = ℕ} 0 1 = cc in omega arith)))
-    go Power e = sym (written_read (n (λ b. let z : ◌≡◌ {A = ℕ} 0 1 = cc in omega arith)))
-    go Bad e = other (line_of s) refl e
+    go : (k : Option Line) → r ≡ k → (f : Option Line) → line_of s ≡ f → r ≡ line_of s
+    go (Some l) e f g = e ∙ sym (written_read (n l e))
+    go None e (Some m) g = w m (read-written s m g) ∙ sym g
+    go None e None g = e ∙ sym g
 
 -- ---- what follows for whoever runs a script
 -- the bytes of a frame's line are those that it was written from
@@ -265,8 +253,8 @@ frame-facts (wait us l) w u n e = absurd (let z : ◌≡◌ {A = ℕ} 0 1 = cc i
 frame-facts power w u n e = absurd (let z : ◌≡◌ {A = ℕ} 0 1 = cc in omega arith)
 
 -- a line that is read as a frame has as many bytes as it says, at most 300
-pub frame-count : (s : List ℕ) (wp : Bool) (t n : ℕ) → line_of s ≡ Frame wp t n → (t ≤ 7) × (n ≤ 300) × (length (hex_bytes (drop 6 s)) ≡ n) × (length s ≤ 606)
-frame-count s wp t n e = frame-facts (read-written s (λ b. let z : ◌≡◌ {A = ℕ} 0 1 = cc in omega arith)) wp t n e
+pub frame-count : (s : List ℕ) (wp : Bool) (t n : ℕ) → line_of s ≡ Some (Frame wp t n) → (t ≤ 7) × (n ≤ 300) × (length (hex_bytes (drop 6 s)) ≡ n) × (length s ≤ 606)
+frame-count s wp t n e = frame-facts (read-written s (Frame wp t n) e) wp t n refl
 
 -- a line over 640 bytes is known by any start of it that is over 640 bytes
 pub clipped : (m : ℕ) (s : List ℕ) → 640 < m → line_of (take m s) ≡ line_of s

@@ -41,10 +41,6 @@ pub nibble-capital : (b : ℕ) → is_digit b ≡ false → is_capital b ≡ tru
 unfolding nibble_of
 nibble-capital b e f = rw (e, f)
 
-pub nibble-none : (b : ℕ) → is_digit b ≡ false → is_capital b ≡ false → 0 ≡ nibble_of b
-unfolding nibble_of
-nibble-none b e f = rw (e, f)
-
 -- ---- the bytes of digits
 pub length-hex_bytes : (s : List ℕ) → length (hex_bytes s) ≡ length s / 2
 length-hex_bytes [] = refl
@@ -76,15 +72,6 @@ unhexed-count s d n e =
     let h : length (hex_bytes s) ≡ length s / 2 = length-hex_bytes s in
     let l : length (take (length d) (hex_bytes s)) ≡ min (length d) (length (hex_bytes s)) = length-take (length d) (hex_bytes s) in
     omega arith
-
--- nothing of a line that is too short for digits from `from` on, and all of the part that starts there
-pub unhexed-none : (s d : List ℕ) (from : ℕ) → length s ≤ from → Unhexed (drop from s) d d 0
-unhexed-none s d from l = rw (drop_of_length-le s l) (record { count = rw (take-nil (length d)); is = refl; within = omega arith })
-
-pub unhexed-part : (s d e : List ℕ) (from r : ℕ) → Unhexed (take (length s - from) (drop from s)) d e r → Unhexed (drop from s) d e r
-unhexed-part s d e from r p =
-    let n : length (drop from s) ≡ length s - from = length-drop from s in
-    subst (λ (z : List ℕ). Unhexed z d e r) (take_all (length s - from) (drop from s) (omega arith)) p
 
 pub one-unhexed : OneUnhexed
 one-unhexed digits d e e' r r' p q =

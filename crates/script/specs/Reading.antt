@@ -1,9 +1,10 @@
 -- How a line is told: the grammar as a test of its bytes. `byte_at s i` is byte i of the line, 0 past its end.
-use Rattle.std.specs.Prelude.{◌≡◌, Bool, true, not, ◌&&◌, ◌||◌, cond, List, [], ◌∷◌, ℕ, ◌+◌, ◌-◌, ◌*◌, ◌/◌, ◌%◌, eqb, ltb, leb, length, get_or, drop}
+use Rattle.std.specs.Prelude.{◌≡◌, Bool, true, not, ◌&&◌, ◌||◌, cond, List, [], ◌∷◌, ℕ, ◌+◌, ◌-◌, ◌*◌, ◌/◌, ◌%◌, eqb, ltb, leb, length, get_or, drop, Option, Some, None}
 use Prim.Native.Char.{code}
+use Rattle.std.specs.List.{list_all}
 use Rattle.text.specs.Text.{tab}
 use Rattle.script.specs.declared.Line.{Line}
-use Rattle.script.specs.declared.Line.TheVariants.{Frame, Wait, Power, Bad}
+use Rattle.script.specs.declared.Line.TheVariants.{Frame, Wait, Power}
 use Rattle.script.specs.Grammar.{F, W, P, longest_line, Says}
 use Rattle.script.specs.Hex.{is_digit, is_hex}
 
@@ -11,8 +12,7 @@ abbrev pub byte_at : List ℕ → ℕ → ℕ
 byte_at s i = get_or s i 0
 
 abbrev pub all_hex : List ℕ → Bool
-all_hex [] = true
-all_hex (b ∷ s) = is_hex b && all_hex s
+all_hex s = list_all is_hex s
 
 abbrev pub all_digits : List ℕ → Bool
 all_digits [] = true
@@ -47,27 +47,27 @@ is_wait s = wait_head s && (all_digits (drop 2 s) && leb (value_from 0 (drop 2 s
 unfoldable pub is_power : List ℕ → Bool
 is_power s = eqb (length s) 1 && eqb (byte_at s 0) P
 
--- What a line that is no frame says: `Bad`, which is answer 20, where it is nothing of these.
-unfoldable pub other_line : List ℕ → Line
-other_line s = cond (is_wait s) (Wait (value_from 0 (drop 2 s))) (cond (is_power s) Power Bad)
+-- What a line that is no frame says: `None`, which is answer 20, where it is nothing of these.
+unfoldable pub other_line : List ℕ → Option Line
+other_line s = cond (is_wait s) (Some (Wait (value_from 0 (drop 2 s)))) (cond (is_power s) (Some Power) None)
 
 -- What a line says.
-unfoldable pub line_of : List ℕ → Line
-line_of s = cond (ltb longest_line (length s)) Bad (cond (is_frame s) (Frame (eqb (byte_at s 2) (code "1")) (byte_at s 4 - code "0") ((length s - 6) / 2)) (other_line s))
+unfoldable pub line_of : List ℕ → Option Line
+line_of s = cond (ltb longest_line (length s)) None (cond (is_frame s) (Some (Frame (eqb (byte_at s 2) (code "1")) (byte_at s 4 - code "0") ((length s - 6) / 2))) (other_line s))
 
--- the value of digits after others that spell n; 4294967296 where a byte is no digit or the value is larger than a wait can be
-unfoldable pub numbered : ℕ → List ℕ → ℕ
-numbered n s = cond (all_digits s && leb (value_from n s) 4294967295) (value_from n s) 4294967296
+-- the value of digits after others that spell n; `None` where a byte is no digit or the value is larger than a wait can be
+unfoldable pub numbered : ℕ → List ℕ → Option ℕ
+numbered n s = cond (all_digits s && leb (value_from n s) 4294967295) (Some (value_from n s)) None
 
--- What is read of a line: what it says where the grammar has it, `Bad` where it has not; and `line_of` tells which.
-pub record Reads (s : List ℕ) (r : Line) : Type 0 where
+-- What is read of a line: what it says where the grammar has it, `None` where it has not; and `line_of` tells which.
+pub record Reads (s : List ℕ) (r : Option Line) : Type 0 where
   pub is : r ≡ line_of s
-  pub written : (l : Line) → Says s l → r ≡ l
-  pub nothing-else : (r ≡ Bad → ⊥) → Says s r
+  pub written : (l : Line) → Says s l → r ≡ Some l
+  pub nothing-else : (l : Line) → r ≡ Some l → Says s l
 
 -- no second answer; and the grammar alone decides, without `line_of`
 abbrev pub OneReads : Type 0
-OneReads = (s : List ℕ) (r r' : Line) → Reads s r → Reads s r' → r ≡ r'
+OneReads = (s : List ℕ) (r r' : Option Line) → Reads s r → Reads s r' → r ≡ r'
 
 abbrev pub GrammarDecides : Type 0
-GrammarDecides = (s : List ℕ) (r : Line) → ((l : Line) → Says s l → r ≡ l) → ((r ≡ Bad → ⊥) → Says s r) → r ≡ line_of s
+GrammarDecides = (s : List ℕ) (r : Option Line) → ((l : Line) → Says s l → r ≡ Some l) → ((l : Line) → r ≡ Some l → Says s l) → r ≡ line_of s

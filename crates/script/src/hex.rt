@@ -1,49 +1,34 @@
 // Hex digits, in capitals.
 ghost use Rattle.std.specs.Prelude.{◌≡◌, ◌<◌};
-ghost use Rattle.script.specs.Hex.{is_digit, is_capital, is_hex, nibble_of, Unhexed};
+ghost use Rattle.script.specs.Hex.{is_hex, nibble_of, Unhexed};
 
-pub fn is_digit(b: u8) -> bool
-    ensures { result ≡ is_digit b }
-{
-    (b'0' <= b) & (b <= b'9')
-}
-
-fn is_capital(b: u8) -> bool
-    ensures { result ≡ is_capital b }
-{
-    (b'A' <= b) & (b <= b'F')
-}
-
+#[tactic(auto, unfolding(crate::specs::Hex::is_hex, crate::specs::Hex::is_digit, crate::specs::Hex::is_capital))]
 pub fn is_hex(b: u8) -> bool
     ensures { result ≡ is_hex b }
 {
-    is_digit(b) | is_capital(b)
+    matches!(b, b'0'..=b'9' | b'A'..=b'F')
 }
 
 // The value of a hex digit; 0 of any other byte.
+#[tactic(auto, unfolding(crate::specs::Hex::nibble_of, crate::specs::Hex::is_digit, crate::specs::Hex::is_capital))]
 fn nibble(b: u8) -> u8
-    ensures { (result ≡ nibble_of b) × (result < 16) }
+    ensures value { result ≡ nibble_of b }
+    ensures below { result < 16 }
 {
-    if is_digit(b) {
-        return b - b'0';
+    match b {
+        b'0'..=b'9' => b - b'0',
+        b'A'..=b'F' => b - 55,
+        _ => 0,
     }
-    if is_capital(b) {
-        return b - 55;
-    }
-    0
 }
 
 // The bytes of hex digits, at the start of out, as many as it has room for; and how many those are.
 pub fn unhex(digits: &[u8], out: &mut [u8]) -> usize
     ensures { Unhexed digits.now out.old out.new result }
 {
-    let n = parts::least(digits.len() / 2, out.len());
-    let mut k = 0;
-    while k < n {
-        let high = nibble(digits[2 * k]);
-        let low = nibble(digits[2 * k + 1]);
-        out[k] = high * 16 + low;
-        k += 1;
+    let n = out.len().min(digits.len() / 2);
+    for k in 0..n {
+        out[k] = nibble(digits[2 * k]) * 16 + nibble(digits[2 * k + 1]);
     }
     n
 }

@@ -7,11 +7,11 @@ ghost use Rattle.std.specs.Prelude.{◌≡◌, drop};
 ghost use Rattle.script.specs.Hex.{Unhexed};
 ghost use Rattle.script.specs.Reading.{numbered, all_hex, plain_number, frame_head, is_frame, wait_head, is_power, other_line, Reads};
 
+use hex::is_hex;
 pub use hex::unhex;
-use hex::{is_digit, is_hex};
 use parts::byte_at;
 
-// What a line says. A bad line is answered 20.
+// What a well-formed line says.
 #[derive(Clone, Copy)]
 pub enum Line {
     // WP# high or low, the tail bits, and how many bytes stand in hex from byte 6 of the line on
@@ -19,44 +19,24 @@ pub enum Line {
     // microseconds
     Wait(u32),
     Power,
-    Bad,
 }
 
-// Whether every byte from `from` on is a hex digit.
-fn all_hex(s: &[u8], from: usize) -> bool
-    ensures { result ≡ all_hex (drop from s.now) }
+// The number that the digits spell, where each is a digit and a wait can be as long.
+fn number(digits: &[u8]) -> Option<u32>
+    ensures { result ≡ numbered 0 digits.now }
 {
-    let mut i = from;
-    while i < s.len() {
-        if !is_hex(s[i]) {
-            return false;
+    let mut sum: u32 = 0;
+    for b in digits {
+        if !b.is_ascii_digit() {
+            return None;
         }
-        i += 1;
+        sum = sum.checked_mul(10)?.checked_add(u32::from(b - b'0'))?;
     }
-    true
-}
-
-// The number that the digits from `from` on spell; 4294967296 where one is no digit or the number is larger.
-fn number(s: &[u8], from: usize) -> u64
-    ensures { result ≡ numbered 0 (drop from s.now) }
-{
-    let mut sum: u64 = 0;
-    let mut i = from;
-    while i < s.len() {
-        let b = s[i];
-        if !is_digit(b) {
-            return 4294967296;
-        }
-        sum = sum * 10 + (b - b'0') as u64;
-        if sum > 4294967295 {
-            return 4294967296;
-        }
-        i += 1;
-    }
-    sum
+    Some(sum)
 }
 
 // All of a frame's line but its hex digits.
+#[tactic(auto, unfolding(crate::specs::Reading::frame_head))]
 fn frame_head(s: &[u8]) -> bool
     ensures { result ≡ frame_head s.now }
 {
@@ -68,13 +48,21 @@ fn frame_head(s: &[u8]) -> bool
         & ((((b'0' <= t) & (t <= b'7')) & (byte_at(s, 5) == b'\t')) & ((n % 2 == 0) & (n <= 606)))
 }
 
+fn all_hex(s: &[u8]) -> bool
+    ensures { result ≡ all_hex s.now }
+{
+    s.iter().all(|b| is_hex(*b))
+}
+
+#[tactic(auto, using(crate::proofs::ReadLaws::head_long), unfolding(crate::specs::Reading::is_frame))]
 fn is_frame(s: &[u8]) -> bool
     ensures { result ≡ is_frame s.now }
 {
-    if frame_head(s) { all_hex(s, 6) } else { false }
+    frame_head(s) && all_hex(&s[6..])
 }
 
 // Whether the digits from 2 on are at least one, and the first is no zero unless it is alone.
+#[tactic(auto, using(crate::proofs::ReadLaws::plain_is))]
 fn is_plain(s: &[u8]) -> bool
     ensures { result ≡ plain_number (drop 2 s.now) }
 {
@@ -83,12 +71,14 @@ fn is_plain(s: &[u8]) -> bool
 }
 
 // All of a wait's line but its digits.
+#[tactic(auto, unfolding(crate::specs::Reading::wait_head))]
 fn wait_head(s: &[u8]) -> bool
     ensures { result ≡ wait_head s.now }
 {
     (byte_at(s, 0) == b'W') & (byte_at(s, 1) == b'\t') & is_plain(s)
 }
 
+#[tactic(auto, unfolding(crate::specs::Reading::is_power))]
 fn is_power(s: &[u8]) -> bool
     ensures { result ≡ is_power s.now }
 {
@@ -96,35 +86,33 @@ fn is_power(s: &[u8]) -> bool
 }
 
 // What a line that is no frame says.
-fn read_wait(line: &[u8]) -> Line
+#[tactic(auto, using(crate::proofs::ReadLaws::wait_long))]
+fn read_wait(line: &[u8]) -> Option<Line>
     ensures { result ≡ other_line line.now }
 {
     if wait_head(line) {
-        let n = number(line, 2);
-        if n <= 4294967295 {
-            return Line::Wait(n as u32);
-        }
-        return Line::Bad;
+        let us = number(&line[2..])?;
+        return Some(Line::Wait(us));
     }
     if is_power(line) {
-        return Line::Power;
+        return Some(Line::Power);
     }
-    Line::Bad
+    None
 }
 
-// What a line says; the line is without its newline.
-pub fn read_line(line: &[u8]) -> Line
+// What a line says; the line is without its newline. None is a bad line, which is answered 20.
+pub fn read_line(line: &[u8]) -> Option<Line>
     ensures { Reads line.now result }
 {
     if line.len() > 640 {
-        return Line::Bad;
+        return None;
     }
     if is_frame(line) {
-        return Line::Frame {
+        return Some(Line::Frame {
             wp: byte_at(line, 2) == b'1',
             tail: byte_at(line, 4) - b'0',
             count: (line.len() - 6) / 2,
-        };
+        });
     }
     read_wait(line)
 }

@@ -1,16 +1,16 @@
 -- The laws of `specs/Row.antt` that the proofs cite. No contract cites this file.
 use mathlib.Core.Path.{◌≡◌, refl, sym, ◌∙◌}
 use mathlib.Core.Bool.{Bool, true, false}
-use mathlib.Core.List.{List}
+use mathlib.Core.List.{List, [], ◌∷◌, ◌++◌, append_assoc}
 use Prim.Native.Nat.{ℕ, ◌+◌, ◌-◌, ◌*◌, ◌/◌, ◌≤◌, ◌<◌}
 use native.Mathlib.Omega.{arith}
 use lib.Dec.{eqb, leb}
 use lib.ListN.{length, length-append}
 use borrow.Author.Tests.{le-leb, lt-leb, leb-true, leb-false}
 use Rattle.text.specs.Put.{Put}
-use Rattle.text.specs.Text.{hex_text, decimal_text}
+use Rattle.text.specs.Text.{tab, hex_text, decimal_text}
 use Rattle.text.proofs.TextLaws.{length-hex_text, decimal-few}
-use Rattle.script_log.specs.Row.{from_text, bytes_text, log_text, room_of, Rowed, OneRowed, note_text}
+use Rattle.script_log.specs.Row.{from_text, bytes_text, log_text, room_of, Rowed, OneRowed, note_text, last_text, row_of}
 
 pub fits_in : (at fixed n len : ℕ) → at ≤ len → fixed ≤ len - at → leb n ((len - at - fixed) / 2) ≡ leb (at + (2 * n + fixed)) len
 fits_in at fixed n len l m = go (leb (at + (2 * n + fixed)) len) refl
@@ -27,6 +27,10 @@ rowed-no most row d at p = record { is = rw p; next = rw p }
 
 pub rowed-yes : (most : ℕ) (row d : List ℕ) (at : ℕ) (e : List ℕ) (r : ℕ) → leb (at + most) (length d) ≡ true → Put row d at e r → Rowed most row d at e r
 rowed-yes most row d at e r p q = record { is = rw p q.is; next = rw p q.next }
+
+-- the fields one after the other
+pub fields-joined : (number answer from bytes : List ℕ) (fold : Bool) → ((((((number ++ (tab ∷ [])) ++ answer) ++ (tab ∷ [])) ++ from) ++ (tab ∷ [])) ++ bytes) ++ last_text fold ≡ row_of (number ∷ answer ∷ from ∷ bytes ∷ note_text fold ∷ [])
+fields-joined number answer from bytes fold = simp append_assoc
 
 -- ---- how long a row can be
 from-most : (from count : ℕ) → length (from_text from count) ≤ 20

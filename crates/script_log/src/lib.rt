@@ -5,6 +5,8 @@ ghost use Rattle.std.specs.Prelude.{◌+◌, ◌*◌, ◌≤◌, ◌≡◌, leng
 ghost use Rattle.text.specs.Put.{Put};
 ghost use Rattle.script_log.specs.Row.{header_text, from_text, bytes_text, last_text, log_text, room_of, Rowed};
 
+use text::Sheet;
+
 // The longest row of a script, `longest_row`: a log with less room left is written out first.
 pub const LONGEST_ROW: usize = 670;
 
@@ -23,72 +25,75 @@ fn fits(at: usize, fixed: usize, n: usize, len: usize) -> bool
 }
 
 // The header, from `at` on; the place past it. Where it does not fit nothing is put, and `at` comes back.
+#[tactic(auto, unfolding(crate::specs::Row::header_text))]
 pub fn put_header(out: &mut [u8], at: usize) -> usize
     ensures { Rowed 28 header_text out.old at out.new result }
 {
     if !fits(at, 28, 0, out.len()) {
         return at;
     }
-    text::put_all(b"line\tanswer\tfrom\tbytes\tnote\n", out, at)
+    let mut sheet = Sheet::new(out, at);
+    sheet.text(b"line\tanswer\tfrom\tbytes\tnote\n");
+    sheet.end()
 }
 
 // The first of `count` driven positions, or `-` where there is none.
-fn put_from(from: u32, count: usize, out: &mut [u8], at: usize) -> usize
-    requires { at + 20 ≤ length out.old }
-    ensures { Put (from_text from count) out.old at out.new result × (result ≤ at + 20) }
+fn put_from(from: u32, count: usize, sheet: &mut Sheet)
+    requires { sheet.old.at + 20 ≤ length sheet.old.out.now }
+    ensures same_buffer { sheet.new.out.ghost_name ≡ sheet.old.out.ghost_name }
+    ensures same_length { length sheet.new.out.now ≡ length sheet.old.out.now }
+    ensures put { Put (from_text from count) sheet.old.out.now sheet.old.at sheet.new.out.now sheet.new.at }
+    ensures most { sheet.new.at ≤ sheet.old.at + 20 }
 {
     if count == 0 {
-        text::put_byte(b'-', out, at)
+        sheet.byte(b'-');
     } else {
-        text::put_number(from as u64, out, at)
+        sheet.number(u64::from(from));
     }
 }
 
 // The driven bytes, or `-`.
-fn put_driven(driven: &[u8], out: &mut [u8], at: usize) -> usize
-    requires { at + 2 * length driven.now + 1 ≤ length out.old }
-    ensures { Put (bytes_text driven.now) out.old at out.new result × (result ≤ at + 2 * length driven.now + 1) }
+fn put_driven(driven: &[u8], sheet: &mut Sheet)
+    requires { sheet.old.at + 2 * length driven.now + 1 ≤ length sheet.old.out.now }
+    ensures same_buffer { sheet.new.out.ghost_name ≡ sheet.old.out.ghost_name }
+    ensures same_length { length sheet.new.out.now ≡ length sheet.old.out.now }
+    ensures put { Put (bytes_text driven.now) sheet.old.out.now sheet.old.at sheet.new.out.now sheet.new.at }
+    ensures most { sheet.new.at ≤ sheet.old.at + 2 * length driven.now + 1 }
 {
-    if driven.len() == 0 {
-        text::put_byte(b'-', out, at)
+    if driven.is_empty() {
+        sheet.byte(b'-');
     } else {
-        text::put_hex(driven, out, at)
+        sheet.hex(driven);
     }
 }
 
 // The last field and the row's end: `fold` where a program went past its page's end, else `-`.
-fn put_note(fold: bool, out: &mut [u8], at: usize) -> usize
-    requires { at + 6 ≤ length out.old }
-    ensures { Put (last_text fold) out.old at out.new result }
+fn put_note(fold: bool, sheet: &mut Sheet)
+    requires { sheet.old.at + 6 ≤ length sheet.old.out.now }
+    ensures same_buffer { sheet.new.out.ghost_name ≡ sheet.old.out.ghost_name }
+    ensures put { Put (last_text fold) sheet.old.out.now sheet.old.at sheet.new.out.now sheet.new.at }
 {
     if fold {
-        text::put_all(b"\tfold\n", out, at)
+        sheet.text(b"\tfold\n");
     } else {
-        text::put_all(b"\t-\n", out, at)
+        sheet.text(b"\t-\n");
     }
 }
 
 // The fields one after the other.
-fn put_fields(
-    number: u64,
-    answer: u32,
-    from: u32,
-    driven: &[u8],
-    fold: bool,
-    out: &mut [u8],
-    at: usize,
-) -> usize
-    requires { at + room_of (length driven.now) ≤ length out.old }
-    ensures { Put (log_text number answer from driven.now fold) out.old at out.new result }
+fn put_fields(number: u64, answer: u32, from: u32, driven: &[u8], fold: bool, sheet: &mut Sheet)
+    requires { sheet.old.at + room_of (length driven.now) ≤ length sheet.old.out.now }
+    ensures same_buffer { sheet.new.out.ghost_name ≡ sheet.old.out.ghost_name }
+    ensures put { Put (log_text number answer from driven.now fold) sheet.old.out.now sheet.old.at sheet.new.out.now sheet.new.at }
 {
-    let a = text::put_number(number, out, at);
-    let b = text::put_byte(b'\t', out, a);
-    let c = text::put_number(answer as u64, out, b);
-    let d = text::put_byte(b'\t', out, c);
-    let e = put_from(from, driven.len(), out, d);
-    let f = text::put_byte(b'\t', out, e);
-    let g = put_driven(driven, out, f);
-    put_note(fold, out, g)
+    sheet.number(number);
+    sheet.byte(b'\t');
+    sheet.number(u64::from(answer));
+    sheet.byte(b'\t');
+    put_from(from, driven.len(), sheet);
+    sheet.byte(b'\t');
+    put_driven(driven, sheet);
+    put_note(fold, sheet);
 }
 
 // The row of a script line, from `at` on; the place past it. Where the buffer lacks room for the longest row of as many driven bytes
@@ -107,5 +112,7 @@ pub fn put_row(
     if !fits(at, 70, driven.len(), out.len()) {
         return at;
     }
-    put_fields(number, answer, from, driven, fold, out, at)
+    let mut sheet = Sheet::new(out, at);
+    put_fields(number, answer, from, driven, fold, &mut sheet);
+    sheet.end()
 }

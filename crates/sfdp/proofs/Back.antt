@@ -4,17 +4,17 @@ use mathlib.Core.Bool.{true, ◌&&◌, false≢true}
 use mathlib.Core.List.{List, [], ◌∷◌, ◌++◌}
 use Prim.Native.Nat.{ℕ, zero, suc, ◌+◌, ◌*◌, ◌%◌, ◌^◌, ◌≤◌, ◌<◌}
 use native.Mathlib.Omega.{arith}
-use lib.Dec.{eqb, leb}
+use lib.Dec.{leb}
 use lib.ListN.{length, get_or}
 use borrow.Author.Tests.{leb-true, ne_eqb}
 use Rattle.parts.specs.Parts.{spelt, bytes_of}
 use Rattle.parts.proofs.Bytes.{spelt-bytes}
-use Rattle.answers.specs.declared.Answer.TheVariants.{Done}
+use Rattle.answers.specs.Answers.{Done}
 use Rattle.sfdp.specs.Sfdp.{EraseType, erase_type, entry, pairs, fits_slot, all_fit, is_list, image_of, words_of, pointer_of, table_refusal, existing, entry_of}
 use Rattle.sfdp.specs.Promises.{flat}
 use Rattle.units.proofs.Bools.{both}
 use Rattle.sfdp.proofs.Inside.{inside-taken}
-use Rattle.sfdp.proofs.Writer.{laid_of, page}
+use Rattle.sfdp.proofs.Writer.{list-fits_slot, laid_of, page}
 
 -- ---- the types that fit exist
 kept : (es : List EraseType) → all_fit es ≡ true → existing es ≡ es
@@ -23,11 +23,6 @@ kept (e ∷ es) h =
     let k = both (fits_slot e) (all_fit es) h in
     let some = leb-true 1 e.exponent (both (leb 1 e.exponent) (leb e.exponent 255 && leb e.opcode 255) k.0).0 in
     rw (ne_eqb e.exponent 0 (λ z. omega arith), kept es k.1)
-
-list-fits_slot : (ns : List ℕ) → is_list ns ≡ true → (length ns ≤ 8) × (all_fit (pairs ns) ≡ true)
-list-fits_slot ns t =
-    let k = both (leb (length ns) 8) (all_fit (pairs ns)) (both (eqb (length ns % 2) 0) (leb (length ns) 8 && all_fit (pairs ns)) t).1 in
-    (leb-true (length ns) 8 k.0, k.1)
 
 keeps : (ns : List ℕ) → is_list ns ≡ true → existing (pairs ns) ≡ pairs ns
 keeps ns t = kept (pairs ns) (list-fits_slot ns t).1

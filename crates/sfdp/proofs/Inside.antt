@@ -7,9 +7,11 @@ use native.Mathlib.Omega.{arith}
 use lib.Dec.{ltb}
 use lib.ListN.{length}
 use borrow.Author.Tests.{ltb-true, ltb-false, le-ltb, not-false}
-use Rattle.answers.specs.Answers.{is_done}
-use Rattle.answers.specs.declared.Answer.{Answer}
-use Rattle.answers.specs.declared.Answer.TheVariants.{Done, NoSignature, BadHeader, BadPointer}
+use Rattle.std.proofs.Common.{add-zero}
+use Rattle.std.specs.List.{list_any, range_with_len}
+use Rattle.std.proofs.Math.Bool.{or_comm, or_assoc}
+use Rattle.answers.specs.Answers.{Done, is_done}
+use Rattle.answers.specs.declared.Refusal.TheVariants.{NoSignature, BadHeader, BadPointer}
 use Rattle.answers.proofs.Tables.{row-clear}
 use Rattle.sfdp.specs.Sfdp.{is_signed, headers_of, header_at, words_of, pointer_of, is_long, is_out, some_below, table_rows, table_refusal}
 use Rattle.sfdp.specs.Promises.{TablesInside}
@@ -27,6 +29,19 @@ none-some f (suc n) e i l = let k = neither (some_below f n) (f n) e in go k.1 (
     go : f n ≡ false → (i < n → f i ≡ false) → (b : Bool) → ltb i n ≡ b → f i ≡ false
     go last before true m = before (ltb-true i n m)
     go last before false m = let same : i ≡ n = omega (arith, ltb-false i n m) in ap f same ∙ last
+
+-- a chain over their numbers asks the lowest first
+last-of_range : (f : ℕ → Bool) (a n : ℕ) → list_any f (range_with_len a (suc n)) ≡ (list_any f (range_with_len a n) || f (a + n))
+last-of_range f a zero = rw (add-zero a) (or_comm (f a) false)
+last-of_range f a (suc n) =
+    let k : a + suc n ≡ a + 1 + n = omega arith in
+    rw (k) (ap (λ (b : Bool). f a || b) (last-of_range f (a + 1) n) ∙ sym (or_assoc (f a) (list_any f (range_with_len (a + 1) n)) (f (a + 1 + n))))
+
+pub some-of_range : (f : ℕ → Bool) (n : ℕ) → list_any f (range_with_len 0 n) ≡ some_below f n
+some-of_range f zero = refl
+some-of_range f (suc n) =
+    let k : 0 + n ≡ n = omega arith in
+    last-of_range f 0 n ∙ rw (k, some-of_range f n)
 
 -- ---- bytes that are taken
 pub inside-taken : (xs : List ℕ) → TablesInside xs → table_refusal xs ≡ Done
@@ -46,9 +61,9 @@ unfolding table_refusal
 taken-inside xs e =
     let n = length xs in
     let long = some_below (is_long xs) (headers_of xs) || ltb (words_of xs 0) 9 in
-    let signed : (ltb n 8 || not (is_signed xs)) ≡ false = row-clear (table_rows xs) refl e NoSignature in
-    let header : (ltb n (header_at (headers_of xs)) || long) ≡ false = row-clear (table_rows xs) refl e BadHeader in
-    let pointer : some_below (is_out xs) (headers_of xs) ≡ false = row-clear (table_rows xs) refl e BadPointer in
+    let signed : (ltb n 8 || not (is_signed xs)) ≡ false = row-clear (table_rows xs) e NoSignature in
+    let header : (ltb n (header_at (headers_of xs)) || long) ≡ false = row-clear (table_rows xs) e BadHeader in
+    let pointer : some_below (is_out xs) (headers_of xs) ≡ false = row-clear (table_rows xs) e BadPointer in
     let k = neither (ltb n (header_at (headers_of xs))) long header in
     record {
       signed = not-false (is_signed xs) (neither (ltb n 8) (not (is_signed xs)) signed).1;
@@ -57,14 +72,6 @@ taken-inside xs e =
       tables = λ i m. ltb-false n (pointer_of xs i + 4 * words_of xs i) (none-some (is_out xs) (headers_of xs) pointer i m);
     }
 
--- ---- what the code reads after it has asked for the refusal
-pub record Held (xs : List ℕ) : Type 0 where
-  pub begins : 8 ≤ length xs
-  pub headers : 8 + 8 * headers_of xs ≤ length xs
-  pub table : pointer_of xs 0 + 36 ≤ length xs
-
-pub held : (xs : List ℕ) (answer : Answer) (done : Bool) → answer ≡ table_refusal xs → done ≡ is_done answer → not done ≡ false → Held xs
-held xs answer done e d z =
-    let h = taken-inside xs (ap is_done (sym e) ∙ sym d ∙ not-false done z) in
-    let t = h.tables 0 (omega arith) in
-    record { begins = omega (arith, h.headers); headers = h.headers; table = omega (arith, h.first) }
+-- so the first table, of nine double words at least, lies in them
+pub first_inside : (xs : List ℕ) (n : ℕ) → some_below (is_out xs) n ≡ false → 0 < n → 9 ≤ words_of xs 0 → pointer_of xs 0 + 36 ≤ length xs
+first_inside xs n e l w = omega (arith, ltb-false (length xs) (pointer_of xs 0 + 4 * words_of xs 0) (none-some (is_out xs) n e 0 l), w)

@@ -8,7 +8,6 @@ use lib.Dec.{eqb, leb}
 use lib.ListN.{length, drop, replicate}
 use lib.Seq.{drop_at}
 use borrow.Author.Tests.{eqb-true, le-leb}
-use Rattle.parts.specs.Parts.{lay}
 use Rattle.parts.proofs.Lay.{length-lay}
 use Rattle.units.proofs.Bools.{both}
 use Rattle.answers.specs.Answers.{is_done}
@@ -16,7 +15,7 @@ use Rattle.sfdp_image.specs.Image.{image, sfdp_from}
 use Rattle.sfdp_image.proofs.Driven.{whole-image}
 use Rattle.sfdp.specs.Sfdp.{image_of, entry, pairs, all_fit, takes, table_refusal, entry_of, table_for}
 use Rattle.sfdp.specs.Promises.{own_entry, ChipsOwn, OwnWritten, HostsView, CutShort, RoundTrip, RestStays, RefusedStays, TakenIsInside, InsideIsTaken, OneContents, OneVersion, OneParameter, OneSlot, OneWritten}
-use Rattle.sfdp.proofs.Writer.{fit, length-page}
+use Rattle.sfdp.proofs.Writer.{fit, length-page, written_is}
 use Rattle.sfdp.proofs.Inside.{taken-inside, inside-taken}
 use Rattle.sfdp.proofs.Back.{page-back, flat-pairs}
 
@@ -42,10 +41,6 @@ cases : (n : ℕ) (ns out : List ℕ) (b : Bool) → takes n ns (length out) ≡
 unfolding table_for
 cases n ns out true e h = e
 cases n ns out false e h = absurd (false≢true (rw e at h))
-
-written_is : (n : ℕ) (ns out : List ℕ) → takes n ns (length out) ≡ true → (table_for n ns out).out ≡ image_of (entry n (pairs ns)) ++ drop 112 out
-unfolding table_for lay
-written_is n ns out e = rw (e, length-page n ns (fit n ns (length out) e).list)
 
 pub round_trip : RoundTrip
 round_trip n ns out h =

@@ -1,54 +1,99 @@
 -- Which lists the writer takes, and the page that it lays.
 use mathlib.Core.Path.{◌≡◌, refl, sym, ap, ◌∙◌}
-use mathlib.Core.Bool.{Bool, true, false, ◌&&◌, and-true, false≢true, true≢false}
+use mathlib.Core.Bool.{Bool, true, false, ◌&&◌, cond, false≢true}
 use mathlib.Core.List.{List, [], ◌∷◌, ◌++◌, append-nil}
-use Prim.Native.Nat.{ℕ, zero, suc, ◌+◌, ◌-◌, ◌/◌, ◌%◌, ◌^◌, ◌≤◌, ◌<◌}
+use Prim.Native.Nat.{ℕ, zero, suc, ◌+◌, ◌*◌, ◌/◌, ◌%◌, ◌^◌, ◌≤◌, ◌<◌}
 use native.Mathlib.Omega.{arith}
 use lib.Dec.{eqb, leb, ltb}
-use lib.ListN.{length, get_or, set, drop_of_length-le}
-use borrow.Author.Tests.{eqb-true, leb-true, ltb-true, lt-leb}
+use lib.ListN.{length, get_or, set, take, drop, drop_of_length-le}
+use borrow.Author.Tests.{eq-eqb, leb-true, le-leb, ltb-true, lt-ltb}
 use borrow.Rule.Slice.PartMut.{put_mid}
-use Rattle.parts.specs.Parts.{lay}
-use Rattle.parts.proofs.Lay.{part-back}
-use Rattle.sfdp.specs.Sfdp.{EraseType, erase_type, entry, pairs, fits_slot, all_fit, is_list, TakenList, small_bits, small_opcode, image_of, takes, table_for, Writes}
+use Rattle.parts.specs.Parts.{lay, bytes_of}
+use Rattle.sfdp.specs.Sfdp.{EraseType, erase_type, entry, pairs, all_fit, is_list, TakenList, small_bits, small_opcode, slots, image_of, takes, table_for, Writes}
 use Rattle.units.proofs.Bools.{both}
 use Rattle.sfdp_image.specs.Image.{eight, image, sfdp_from}
 use Rattle.sfdp_image.proofs.Driven.{whole-image}
-use Rattle.answers.specs.declared.Answer.TheVariants.{Done, BadEntry}
+use Rattle.std.specs.Prelude.{Err, Option, Some, unwrap_or, find}
+use Rattle.std.specs.Option.{option_map}
+use Rattle.std.specs.List.{list_all}
+use Rattle.std.specs.Int.{w32, to_le_bytes}
+use Rattle.std.specs.Simd.{first_chunks}
+use Rattle.std.proofs.Math.Bool.{and_assoc}
+use Rattle.answers.specs.Answers.{Done}
+use Rattle.answers.specs.declared.Refusal.TheVariants.{BadEntry}
 
--- ---- the code's test of the numbers
-abbrev pub fits_at : List ℕ → ℕ → Bool
-fits_at ns i = fits_slot (erase_type (get_or ns i 1) (get_or ns (i + 1) 0))
+-- ---- the code's test of the numbers, taken in pairs
+abbrev pub fits_pair : List ℕ → Bool
+fits_pair t = leb 1 (get_or t 0 0) && leb (get_or t 0 0) 255 && leb (get_or t 1 0) 255
 
-pub list-test : (ns : List ℕ) → (eqb (length ns % 2) 0 && (leb (length ns) 8 && (fits_at ns 0 && (fits_at ns 2 && (fits_at ns 4 && fits_at ns 6))))) ≡ is_list ns
-list-test [] = refl
-list-test (a ∷ []) = refl
-list-test (a ∷ b ∷ []) = refl
-list-test (a ∷ b ∷ c ∷ []) = refl
-list-test (a ∷ b ∷ c ∷ d ∷ []) = refl
-list-test (a ∷ b ∷ c ∷ d ∷ e ∷ []) = refl
-list-test (a ∷ b ∷ c ∷ d ∷ e ∷ f ∷ []) = refl
-list-test (a ∷ b ∷ c ∷ d ∷ e ∷ f ∷ g ∷ []) = refl
-list-test (a ∷ b ∷ c ∷ d ∷ e ∷ f ∷ g ∷ h ∷ []) = ap (λ (z : Bool). fits_slot (erase_type a b) && (fits_slot (erase_type c d) && (fits_slot (erase_type e f) && z))) (sym (and-true (fits_slot (erase_type g h))))
-list-test (a ∷ b ∷ c ∷ d ∷ e ∷ f ∷ g ∷ h ∷ i ∷ more) = rw (lt-leb (length (a ∷ b ∷ c ∷ d ∷ e ∷ f ∷ g ∷ h ∷ i ∷ more)) 8 (omega arith))
+pairs_fit : (k : ℕ) (ns : List ℕ) → length ns ≡ 2 * k → list_all fits_pair (first_chunks 2 k ns) ≡ all_fit (pairs ns)
+pairs_fit zero [] e = refl
+pairs_fit zero (a ∷ ns) e = absurd (omega (arith, e))
+pairs_fit (suc k) [] e = absurd (omega (arith, e))
+pairs_fit (suc k) (a ∷ []) e = absurd (omega (arith, e))
+pairs_fit (suc k) (a ∷ b ∷ ns) e = rw (pairs_fit k ns (omega (arith, e))) (ap (λ (z : Bool). z && all_fit (pairs ns)) (and_assoc (leb 1 a) (leb a 255) (leb b 255)))
 
--- ---- each number of a list that is taken is a byte
-small-pairs : (ns : List ℕ) (i other : ℕ) → length ns % 2 ≡ 0 → all_fit (pairs ns) ≡ true → other ≤ 255 → get_or ns i other ≤ 255
-small-pairs [] i other n h l = l
-small-pairs (e ∷ []) i other n h l = absurd (let z : ◌≡◌ {A = ℕ} 1 0 = n in omega arith)
-small-pairs (e ∷ o ∷ more) zero other n h l =
-    let f = (both (fits_slot (erase_type e o)) (all_fit (pairs more)) h).0 in
-    leb-true e 255 (both (leb e 255) (leb o 255) (both (leb 1 e) (leb e 255 && leb o 255) f).1).0
-small-pairs (e ∷ o ∷ more) (suc zero) other n h l =
-    let f = (both (fits_slot (erase_type e o)) (all_fit (pairs more)) h).0 in
-    leb-true o 255 (both (leb e 255) (leb o 255) (both (leb 1 e) (leb e 255 && leb o 255) f).1).1
-small-pairs (e ∷ o ∷ more) (suc (suc i)) other n h l =
-    small-pairs more i other (omega arith) (both (fits_slot (erase_type e o)) (all_fit (pairs more)) h).1 l
+pub list_test : (ns : List ℕ) → length ns % 2 ≡ 0 → length ns / 2 ≤ 4 → list_all fits_pair (first_chunks 2 (length ns / 2) ns) ≡ is_list ns
+list_test ns e l = rw (eq-eqb (length ns % 2) 0 e, le-leb (length ns) 8 (omega (arith, e, l))) (pairs_fit (length ns / 2) ns (omega (arith, e)))
 
-pub small : (ns : List ℕ) (i other : ℕ) → TakenList ns → other ≤ 255 → get_or ns i other ≤ 255
-small ns i other t l =
-    let b = both (eqb (length ns % 2) 0) (leb (length ns) 8 && all_fit (pairs ns)) t.is in
-    small-pairs ns i other (eqb-true (length ns % 2) 0 b.0) (both (leb (length ns) 8) (all_fit (pairs ns)) b.1).1 l
+-- ---- a list that is taken
+pub list-fits_slot : (ns : List ℕ) → is_list ns ≡ true → (length ns ≤ 8) × (all_fit (pairs ns) ≡ true)
+list-fits_slot ns t =
+    let k = both (leb (length ns) 8) (all_fit (pairs ns)) (both (eqb (length ns % 2) 0) (leb (length ns) 8 && all_fit (pairs ns)) t).1 in
+    (leb-true (length ns) 8 k.0, k.1)
+
+-- ---- the slots
+abbrev pub unused_slots : List ℕ
+unused_slots = 0x00 ∷ 0xFF ∷ 0x00 ∷ 0xFF ∷ 0x00 ∷ 0xFF ∷ 0x00 ∷ 0xFF ∷ []
+
+-- one number more over those that are not needed
+slot_over : (ns us : List ℕ) (i : ℕ) → i < length ns → i < length us → set (take i ns ++ drop i us) i (get_or ns i 0) ≡ take (i + 1) ns ++ drop (i + 1) us
+slot_over [] us i l m = absurd (omega arith)
+slot_over (n ∷ ns) [] i l m = absurd (omega arith)
+slot_over (n ∷ ns) (u ∷ us) zero l m = refl
+slot_over (n ∷ ns) (u ∷ us) (suc i) l m =
+    let k : suc i + 1 ≡ suc (i + 1) = omega arith in
+    rw k (ap (λ (z : List ℕ). n ∷ z) (slot_over ns us i (omega arith) (omega arith)))
+
+pub slot_more : (ns : List ℕ) (i : ℕ) → TakenList ns → i < length ns → set (take i ns ++ drop i unused_slots) i (get_or ns i 0) ≡ take (i + 1) ns ++ drop (i + 1) unused_slots
+slot_more ns i t l = slot_over ns unused_slots i l (omega (arith, (list-fits_slot ns t.is).0))
+
+-- what the code finds among them
+abbrev pub is_small : List ℕ → Bool
+is_small t = eqb (get_or t 0 0) 0x0C
+
+one_found : (t : List ℕ) (o : Option (List ℕ)) (v : ℕ) → unwrap_or (option_map (λ (z : List ℕ). get_or z 1 0) o) 0xFF ≡ v
+    → unwrap_or (option_map (λ (z : List ℕ). get_or z 1 0) (cond (is_small t) (Some t) o)) 0xFF ≡ cond (is_small t) (get_or t 1 0) v
+one_found t o v e = go (is_small t)
+  where
+    go : (b : Bool) → unwrap_or (option_map (λ (z : List ℕ). get_or z 1 0) (cond b (Some t) o)) 0xFF ≡ cond b (get_or t 1 0) v
+    go true = refl
+    go false = e
+
+pairs_found : (k : ℕ) (ns : List ℕ) → k ≡ length ns / 2 → unwrap_or (option_map (λ (z : List ℕ). get_or z 1 0) (find is_small (first_chunks 2 k ns))) 0xFF ≡ small_opcode (pairs ns)
+pairs_found zero [] e = refl
+pairs_found zero (a ∷ []) e = refl
+pairs_found zero (a ∷ b ∷ ns) e = absurd (omega (arith, e))
+pairs_found (suc k) [] e = absurd (omega (arith, e))
+pairs_found (suc k) (a ∷ []) e = absurd (omega (arith, e))
+pairs_found (suc k) (a ∷ b ∷ ns) e = one_found (a ∷ b ∷ []) (find is_small (first_chunks 2 k ns)) (small_opcode (pairs ns)) (pairs_found k ns (omega (arith, e)))
+
+pub small_found : (ns : List ℕ) → unwrap_or (option_map (λ (z : List ℕ). get_or z 1 0) (find is_small (first_chunks 2 (length ns / 2) ns))) 0xFF ≡ small_opcode (pairs ns)
+small_found ns = pairs_found (length ns / 2) ns refl
+
+-- slots that are not needed have none
+small_slots : (es : List EraseType) → length es ≤ 4 → (small_bits (pairs (slots 4 es)) ≡ small_bits es) × (small_opcode (pairs (slots 4 es)) ≡ small_opcode es)
+small_slots [] l = (refl, refl)
+small_slots (a ∷ []) l = (refl, refl)
+small_slots (a ∷ b ∷ []) l = (refl, refl)
+small_slots (a ∷ b ∷ c ∷ []) l = (refl, refl)
+small_slots (a ∷ b ∷ c ∷ d ∷ []) l = (refl, refl)
+small_slots (a ∷ b ∷ c ∷ d ∷ e ∷ more) l = absurd (omega arith)
+
+length-pairs : (ns : List ℕ) → 2 * length (pairs ns) ≤ length ns
+length-pairs [] = omega arith
+length-pairs (a ∷ []) = omega arith
+length-pairs (a ∷ b ∷ ns) = omega (arith, length-pairs ns)
 
 -- ---- the page
 -- with bits 1:0 of 30h, 31h, the density's four bytes and the four slots put in
@@ -91,35 +136,31 @@ page n (a ∷ b ∷ c ∷ d ∷ e ∷ f ∷ g ∷ []) t = absurd (false≢true t
 page n (a ∷ b ∷ c ∷ d ∷ e ∷ f ∷ g ∷ h ∷ []) t = refl
 page n (a ∷ b ∷ c ∷ d ∷ e ∷ f ∷ g ∷ h ∷ i ∷ more) t =
     let ns = a ∷ b ∷ c ∷ d ∷ e ∷ f ∷ g ∷ h ∷ i ∷ more in
-    let k = (both (leb (length ns) 8) (all_fit (pairs ns)) (both (eqb (length ns % 2) 0) (leb (length ns) 8 && all_fit (pairs ns)) t).1).0 in
-    absurd (true≢false (sym k ∙ lt-leb (length ns) 8 (omega arith)))
-
--- the code's stores into the chip's own bytes
-abbrev stores : List ℕ → ℕ → ℕ → ℕ → ℕ → ℕ → ℕ → List ℕ
-stores xs bits by p q r s = set (set (set (set (set (set xs 0x30 (0xE4 + bits)) 0x31 by) 0x34 p) 0x35 q) 0x36 r) 0x37 s
-
-abbrev stores-slots : List ℕ → ℕ → ℕ → ℕ → ℕ → ℕ → ℕ → ℕ → ℕ → List ℕ
-stores-slots xs a ao b bo c co d do' =
-    set (set (set (set (set (set (set (set xs 0x4C a) 0x4D ao) 0x4E b) 0x4F bo) 0x50 c) 0x51 co) 0x52 d) 0x53 do'
-
-stored : (bits by p q r s a ao b bo c co d do' : ℕ) → stores-slots (stores image bits by p q r s) a ao b bo c co d do' ≡ laid bits by p q r s a ao b bo c co d do'
-unfolding image
-stored bits by p q r s a ao b bo c co d do' = refl
+    let k : length ns ≤ 8 = (list-fits_slot ns t).0 in
+    absurd (omega arith)
 
 -- what the chip's own bytes leave of 112 bytes
-pub own-bytes : (xs : List ℕ) → length xs ≡ 112 → lay xs 0 (sfdp_from 0 112) ≡ image
-unfolding lay image
-own-bytes xs l = rw (whole-image 112 (omega arith), drop_of_length-le xs {i = 112} (omega arith)) (append-nil (image ++ []) ∙ append-nil image)
+pub own-bytes : (xs : List ℕ) → length xs ≡ 112 → sfdp_from 0 (length xs) ≡ image
+unfolding image
+own-bytes xs l = rw (l, whole-image 112 (omega arith)) (append-nil image)
 
-module _ (n : ℕ) (ns : List ℕ) (t : TakenList ns) where
-  pub page-is : (xs : List ℕ) (bits by a ao b bo c co d do' : ℕ) → xs ≡ image
-      → a ≡ get_or ns 0 0 → ao ≡ get_or ns 1 0xFF → b ≡ get_or ns 2 0 → bo ≡ get_or ns 3 0xFF → c ≡ get_or ns 4 0 → co ≡ get_or ns 5 0xFF → d ≡ get_or ns 6 0 → do' ≡ get_or ns 7 0xFF
-      → bits ≡ small_bits (four a 0 b 0 c 0 d 0) → by ≡ small_opcode (four a ao b bo c co d do')
-      → stores-slots (stores xs bits by (n % 256) (n / 256 % 256) (n / 65536 % 256) (n / 16777216 % 256)) a ao b bo c co d do' ≡ image_of (entry n (pairs ns))
-  page-is xs bits by a ao b bo c co d do' x e f g h i j k l p q =
-      let two : n / 65536 % 256 ≡ n / 256 / 256 % 256 = omega arith in
-      let three : n / 16777216 % 256 ≡ n / 256 / 256 / 256 % 256 = omega arith in
-      rw (x, p, q, two, three, e, f, g, h, i, j, k, l) (stored _ _ _ _ _ _ _ _ _ _ _ _ _ _ ∙ page n ns t.is)
+-- the code's stores into the chip's own bytes
+pub density_bytes : (n : ℕ) → to_le_bytes w32 n ≡ bytes_of 4 n
+density_bytes n =
+    let two : n / 65536 % 256 ≡ n / 256 / 256 % 256 = omega arith in
+    let three : n / 16777216 % 256 ≡ n / 256 / 256 / 256 % 256 = omega arith in
+    rw (two, three)
+
+stored : (n : ℕ) (es : List EraseType) → put_mid 76 8 (put_mid 52 4 (set (set image 48 (0xE4 + small_bits es)) 49 (small_opcode es)) (bytes_of 4 n)) (slots 4 es) ≡ image_of (entry n es)
+unfolding image image_of
+stored n es = refl
+
+pub page_is : (n : ℕ) (ns xs : List ℕ) (first by : ℕ) (ys zs ss : List ℕ) → TakenList ns → xs ≡ image → ss ≡ slots 4 (pairs ns) → first ≡ 0xE4 + small_bits (pairs ss) → by ≡ small_opcode (pairs ss) → ys ≡ bytes_of 4 n → zs ≡ ss
+    → put_mid 76 8 (put_mid 52 4 (set (set xs 48 first) 49 by) ys) zs ≡ image_of (entry n (pairs ns))
+page_is n ns xs first by ys zs ss t x s f b y z =
+    let l = (list-fits_slot ns t.is).0 in
+    let k = small_slots (pairs ns) (omega (arith, l, length-pairs ns)) in
+    rw (f, b, z, s, x, y, k.0, k.1) (stored n (pairs ns))
 
 -- it has 112 bytes
 pub length-page : (n : ℕ) (ns : List ℕ) → TakenList ns → length (image_of (entry n (pairs ns))) ≡ 112
@@ -137,11 +178,26 @@ fit n ns room e =
     let b = both (is_list ns) (leb 112 room) a.1 in
     record { density = ltb-true n (2 ^ 32) a.0; list = record { is = b.0 }; roomy = leb-true 112 room b.1 }
 
-pub write-refused : (n : ℕ) (ns out : List ℕ) → takes n ns (length out) ≡ false → Writes (table_for n ns out) BadEntry out
-unfolding table_for
-write-refused n ns out e = rw e (record { answer-is = refl; out-is = refl })
+never : (n : ℕ) (ns : List ℕ) (room : ℕ) → (Fit n ns room → ⊥) → takes n ns room ≡ false
+never n ns room h = go (takes n ns room) refl
+  where
+    go : (b : Bool) → takes n ns room ≡ b → b ≡ false
+    go true e = absurd (h (fit n ns room e))
+    go false e = refl
 
-pub write_done : (n : ℕ) (ns out ys : List ℕ) → takes n ns (length out) ≡ true → ys ≡ image_of (entry n (pairs ns)) → Writes (table_for n ns out) Done (put_mid 0 (112 - 0) out ys)
+pub write-refused : (n : ℕ) (ns out : List ℕ) → (Fit n ns (length out) → ⊥) → Writes (table_for n ns out) (Err BadEntry) out
 unfolding table_for
-write_done n ns out ys e y =
-    rw e (record { answer-is = refl; out-is = part-back 0 112 0 out ys (image_of (entry n (pairs ns))) refl (omega arith) y (length-page n ns (fit n ns (length out) e).list) })
+write-refused n ns out h = rw (never n ns (length out) h) (record { answer-is = refl; out-is = refl })
+
+pub written_is : (n : ℕ) (ns out : List ℕ) → takes n ns (length out) ≡ true → (table_for n ns out).out ≡ image_of (entry n (pairs ns)) ++ drop 112 out
+unfolding table_for lay
+written_is n ns out e = rw (e, length-page n ns (fit n ns (length out) e).list)
+
+answer_is : (n : ℕ) (ns out : List ℕ) → takes n ns (length out) ≡ true → Done ≡ (table_for n ns out).answer
+unfolding table_for
+answer_is n ns out e = rw e
+
+pub write_done : (n : ℕ) (ns out ys : List ℕ) → n < 2 ^ 32 → is_list ns ≡ true → 112 ≤ length out → ys ≡ image_of (entry n (pairs ns)) → Writes (table_for n ns out) Done (ys ++ drop 112 out)
+write_done n ns out ys l t r y =
+    let e : takes n ns (length out) ≡ true = rw (lt-ltb n (2 ^ 32) l, t, le-leb 112 (length out) r) in
+    record { answer-is = answer_is n ns out e; out-is = ap (λ (z : List ℕ). z ++ drop 112 out) y ∙ sym (written_is n ns out e) }

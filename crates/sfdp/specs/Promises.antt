@@ -1,9 +1,9 @@
 -- What is shown of reader and writer; proofs/Promises.antt proves each under its name in small letters.
-use Rattle.std.specs.Prelude.{List, [], ◌∷◌, true, ◌≡◌, ℕ, ◌+◌, ◌*◌, ◌≤◌, ◌<◌, length, drop}
+use Rattle.std.specs.Prelude.{Option, Result, Err, List, [], ◌∷◌, true, ◌≡◌, ℕ, ◌+◌, ◌*◌, ◌≤◌, ◌<◌, length, drop}
 use Rattle.parts.specs.Parts.{lay}
-use Rattle.answers.specs.Answers.{is_done}
-use Rattle.answers.specs.declared.Answer.{Answer}
-use Rattle.answers.specs.declared.Answer.TheVariants.{Done, NoSignature, BadHeader, BadPointer}
+use Rattle.answers.specs.Answers.{Answer, Done, is_done}
+use Rattle.answers.specs.declared.Refusal.{Refusal}
+use Rattle.answers.specs.declared.Refusal.TheVariants.{NoSignature, BadHeader, BadPointer}
 use Rattle.sfdp_image.specs.Image.{image, sfdp_from}
 use Rattle.sfdp.specs.declared.Contents.{Contents}
 use Rattle.sfdp.specs.declared.Parameter.{Parameter}
@@ -30,11 +30,11 @@ HostsView = (n : ℕ) → 112 ≤ n → (table_refusal (sfdp_from 0 n) ≡ Done)
 -- one that stops before the tables end is refused: 30, 31, 31, 32, 32
 abbrev pub CutShort : Type 0
 CutShort =
-    (table_refusal (sfdp_from 0 7) ≡ NoSignature)
-    × (table_refusal (sfdp_from 0 23) ≡ BadHeader)
-    × (table_refusal (sfdp_from 0 35) ≡ BadHeader)
-    × (table_refusal (sfdp_from 0 84) ≡ BadPointer)
-    × (table_refusal (sfdp_from 0 111) ≡ BadPointer)
+    (table_refusal (sfdp_from 0 7) ≡ Err NoSignature)
+    × (table_refusal (sfdp_from 0 23) ≡ Err BadHeader)
+    × (table_refusal (sfdp_from 0 35) ≡ Err BadHeader)
+    × (table_refusal (sfdp_from 0 84) ≡ Err BadPointer)
+    × (table_refusal (sfdp_from 0 111) ≡ Err BadPointer)
 
 -- ---- round trip: what the writer writes reads back as the same density and the same list, for every record that it takes
 abbrev pub flat : List EraseType → List ℕ
@@ -71,16 +71,16 @@ InsideIsTaken = (xs : List ℕ) → TablesInside xs → table_refusal xs ≡ Don
 
 -- ---- no second answer: two results of one call that satisfy the contract are equal
 abbrev pub OneContents : Type 0
-OneContents = (xs : List ℕ) (r r' : Contents) → r ≡ contents_of xs → r' ≡ contents_of xs → r ≡ r'
+OneContents = (xs : List ℕ) (r r' : Result Contents Refusal) → r ≡ contents_of xs → r' ≡ contents_of xs → r ≡ r'
 
 abbrev pub OneVersion : Type 0
-OneVersion = (xs : List ℕ) (r r' : Version) → r ≡ revision_of xs → r' ≡ revision_of xs → r ≡ r'
+OneVersion = (xs : List ℕ) (r r' : Result Version Refusal) → r ≡ revision_of xs → r' ≡ revision_of xs → r ≡ r'
 
 abbrev pub OneParameter : Type 0
-OneParameter = (xs : List ℕ) (i : ℕ) (r r' : Parameter) → r ≡ header_of xs i → r' ≡ header_of xs i → r ≡ r'
+OneParameter = (xs : List ℕ) (i : ℕ) (r r' : Result (Option Parameter) Refusal) → r ≡ header_of xs i → r' ≡ header_of xs i → r ≡ r'
 
 abbrev pub OneSlot : Type 0
-OneSlot = (xs : List ℕ) (i : ℕ) (r r' : Slot) → r ≡ erase_of xs i → r' ≡ erase_of xs i → r ≡ r'
+OneSlot = (xs : List ℕ) (i : ℕ) (r r' : Result (Option Slot) Refusal) → r ≡ erase_of xs i → r' ≡ erase_of xs i → r ≡ r'
 
 abbrev pub OneWritten : Type 0
 OneWritten = (w : TableWritten) (answer answer' : Answer) (out out' : List ℕ) → Writes w answer out → Writes w answer' out' → (answer ≡ answer') × (out ≡ out')

@@ -1,11 +1,12 @@
 -- The table that a host reads by 5A: 002, "Read SFDP Mode" (L530-656), and Req 12. Its layout for any record, a host's reader over any bytes, and the writer.
-use Rattle.std.specs.Prelude.{Bool, true, false, not, ◌&&◌, ◌||◌, cond, List, [], ◌∷◌, ◌++◌, ◌≡◌, ℕ, zero, suc, ◌+◌, ◌*◌, ◌%◌, ◌^◌, eqb, leb, ltb, length, get_or, replicate}
+use Rattle.std.specs.Prelude.{Option, Some, None, Result, Ok, Bool, true, false, not, ◌&&◌, ◌||◌, cond, List, [], ◌∷◌, ◌++◌, ◌≡◌, ℕ, zero, suc, ◌+◌, ◌*◌, ◌%◌, ◌^◌, eqb, leb, ltb, length, get_or, replicate}
+use Rattle.std.specs.Result.{result_and}
 use Rattle.parts.specs.Parts.{lay, bytes_of, spelt}
 use Rattle.sfdp_image.specs.Image.{eight}
-use Rattle.answers.specs.Answers.{is_done}
+use Rattle.answers.specs.Answers.{Answer}
 use Rattle.answers.specs.Tables.{Rung, ◌gives◌, first_of}
-use Rattle.answers.specs.declared.Answer.{Answer}
-use Rattle.answers.specs.declared.Answer.TheVariants.{Done, NoSignature, BadHeader, BadPointer, BadEntry}
+use Rattle.answers.specs.declared.Refusal.{Refusal}
+use Rattle.answers.specs.declared.Refusal.TheVariants.{NoSignature, BadHeader, BadPointer, BadEntry}
 use Rattle.sfdp.specs.declared.Contents.{Contents}
 use Rattle.sfdp.specs.declared.Parameter.{Parameter}
 use Rattle.sfdp.specs.declared.Slot.{Slot}
@@ -146,44 +147,39 @@ erases_at xs start = existing (slot_at xs start 1 ∷ slot_at xs start 2 ∷ slo
 unfoldable pub entry_of : List ℕ → Entry
 entry_of xs = entry (density_at xs (pointer_of xs 0)) (erases_at xs (pointer_of xs 0))
 
--- what the reader's calls give: the answer, and the results, all 0 where it is a refusal
-abbrev pub contents : Answer → ℕ → ℕ → ℕ → Contents
-contents answer headers density types = record { answer = answer; headers = headers; density = density; types = types }
+-- what the reader's calls give: the results where the bytes are taken, and otherwise the refusal alone
+abbrev pub if_taken : {T : Type 0} → List ℕ → T → Result T Refusal
+if_taken xs found = result_and (table_refusal xs) (Ok found)
 
-unfoldable pub contents_of : List ℕ → Contents
-contents_of xs =
-    cond (is_done (table_refusal xs))
-    (contents Done (headers_of xs) (entry_of xs).density (length (entry_of xs).erases))
-    (contents (table_refusal xs) 0 0 0)
+abbrev pub contents : ℕ → ℕ → ℕ → Contents
+contents headers density types = record { headers = headers; density = density; types = types }
 
-abbrev pub version : Answer → ℕ → ℕ → Version
-version answer minor major = record { answer = answer; minor = minor; major = major }
+unfoldable pub contents_of : List ℕ → Result Contents Refusal
+contents_of xs = if_taken xs (contents (headers_of xs) (entry_of xs).density (length (entry_of xs).erases))
 
-unfoldable pub revision_of : List ℕ → Version
-revision_of xs = cond (is_done (table_refusal xs)) (version Done (get_or xs 4 0) (get_or xs 5 0)) (version (table_refusal xs) 0 0)
+abbrev pub version : ℕ → ℕ → Version
+version minor major = record { minor = minor; major = major }
 
-abbrev pub parameter : Answer → ℕ → ℕ → ℕ → ℕ → ℕ → Parameter
-parameter answer id minor major words pointer =
-    record { answer = answer; id = id; minor = minor; major = major; words = words; pointer = pointer }
+unfoldable pub revision_of : List ℕ → Result Version Refusal
+revision_of xs = if_taken xs (version (get_or xs 4 0) (get_or xs 5 0))
 
--- header i, and zeros where there is none
-unfoldable pub header_of : List ℕ → ℕ → Parameter
+abbrev pub parameter : ℕ → ℕ → ℕ → ℕ → ℕ → Parameter
+parameter id minor major words pointer = record { id = id; minor = minor; major = major; words = words; pointer = pointer }
+
+-- header i, where there is one
+unfoldable pub header_of : List ℕ → ℕ → Result (Option Parameter) Refusal
 header_of xs i =
-    cond (is_done (table_refusal xs))
+    if_taken xs
     (cond (ltb i (headers_of xs))
-    (parameter Done (get_or xs (header_at i) 0) (get_or xs (header_at i + 1) 0) (get_or xs (header_at i + 2) 0) (words_of xs i) (pointer_of xs i))
-    (parameter Done 0 0 0 0 0))
-    (parameter (table_refusal xs) 0 0 0 0 0)
+    (Some (parameter (get_or xs (header_at i) 0) (get_or xs (header_at i + 1) 0) (get_or xs (header_at i + 2) 0) (words_of xs i) (pointer_of xs i)))
+    None)
 
-abbrev pub slotted : Answer → EraseType → Slot
-slotted answer e = record { answer = answer; exponent = e.exponent; opcode = e.opcode }
+abbrev pub slotted : EraseType → Slot
+slotted e = record { exponent = e.exponent; opcode = e.opcode }
 
--- slots 1 to 4 as they stand, and zeros for any other
-unfoldable pub erase_of : List ℕ → ℕ → Slot
-erase_of xs slot =
-    cond (is_done (table_refusal xs))
-    (cond (leb 1 slot && leb slot 4) (slotted Done (slot_at xs (pointer_of xs 0) slot)) (slotted Done (erase_type 0 0)))
-    (slotted (table_refusal xs) (erase_type 0 0))
+-- slots 1 to 4 as they stand, and no other
+unfoldable pub erase_of : List ℕ → ℕ → Result (Option Slot) Refusal
+erase_of xs slot = if_taken xs (cond (leb 1 slot && leb slot 4) (Some (slotted (slot_at xs (pointer_of xs 0) slot))) None)
 
 -- ---- the writer
 abbrev pub fits_slot : EraseType → Bool

@@ -1,35 +1,31 @@
 // The SFDP table: a host's reader over any bytes, and the writer. Nothing here knows a chip.
 #![tactic(auto)]
 
-ghost use Rattle.std.specs.Prelude.{cond, ◌≡◌, ◌∷◌, [], ◌+◌, ◌*◌, ◌≤◌, ◌<◌, ◌^◌, eqb, length, get_or};
+ghost use Rattle.std.specs.Prelude.{OnOk, ◌≡◌, ◌∷◌, [], ◌+◌, ◌*◌, ◌≤◌, ◌<◌, ◌^◌, cond, is_some, length, unwrap_or};
 ghost use Rattle.parts.specs.Parts.{spelt};
-ghost use Rattle.sfdp.specs.Sfdp.{is_signed, headers_of, words_of, pointer_of, is_long, is_out, some_below, table_refusal, density_at, erases_at, contents_of, revision_of, header_of, erase_of, erase_type, entry, pairs, small_bits, small_opcode, image_of, fits_slot, is_list, table_for, Writes, TakenList};
+ghost use Rattle.sfdp.specs.Sfdp.{is_signed, headers_of, words_of, pointer_of, is_long, is_out, some_below, table_refusal, density_at, erases_at, contents_of, revision_of, header_of, erase_of, entry, pairs, small_bits, small_opcode, slots, image_of, is_list, table_for, Writes, TakenList};
 
-use answers::Answer;
-use parts::wide;
+use answers::{Answer, Refusal};
 use units::SfdpAddress;
 
 // What a host reads of the whole: how many parameter headers, the density field, how many erase types.
-#[derive(Clone, Copy)]
+#[derive(Clone, Copy, Default)]
 pub struct Contents {
-    pub answer: Answer,
     pub headers: u32,
     pub density: u32,
     pub types: u32,
 }
 
 // The table's revision.
-#[derive(Clone, Copy)]
+#[derive(Clone, Copy, Default)]
 pub struct Version {
-    pub answer: Answer,
     pub minor: u32,
     pub major: u32,
 }
 
 // One parameter header: its table's owner, revision, length in double words and start.
-#[derive(Clone, Copy)]
+#[derive(Clone, Copy, Default)]
 pub struct Parameter {
-    pub answer: Answer,
     pub id: u32,
     pub minor: u32,
     pub major: u32,
@@ -38,9 +34,8 @@ pub struct Parameter {
 }
 
 // One slot for an erase type.
-#[derive(Clone, Copy)]
+#[derive(Clone, Copy, Default)]
 pub struct Slot {
-    pub answer: Answer,
     pub exponent: u32,
     pub opcode: u32,
 }
@@ -52,7 +47,7 @@ fn is_signed(bytes: &[u8]) -> bool
     requires { 8 ≤ length bytes.now }
     ensures { result ≡ is_signed bytes.now }
 {
-    (bytes[0] == 0x53) & ((bytes[1] == 0x46) & ((bytes[2] == 0x44) & (bytes[3] == 0x50)))
+    bytes.starts_with(b"SFDP")
 }
 
 // How many parameter headers the bytes announce.
@@ -60,7 +55,7 @@ fn headers(bytes: &[u8]) -> u32
     requires { 8 ≤ length bytes.now }
     ensures { (result ≡ headers_of bytes.now) × (result ≤ 256) }
 {
-    wide(bytes[6]) + 1
+    u32::from(bytes[6]) + 1
 }
 
 // The length of a header's table, in double words.
@@ -68,14 +63,7 @@ fn words(bytes: &[u8], i: usize) -> u32
     requires { 16 + 8 * i ≤ length bytes.now }
     ensures { (result ≡ words_of bytes.now i) × (result ≤ 255) }
 {
-    wide(bytes[8 + 8 * i + 3])
-}
-
-// The number of three bytes, the low byte first.
-fn place(low: u8, middle: u8, high: u8) -> u32
-    ensures { (result ≡ spelt (low ∷ middle ∷ high ∷ [])) × (result < 2 ^ 24) }
-{
-    wide(low) + 256 * (wide(middle) + 256 * wide(high))
+    u32::from(bytes[8 + 8 * i + 3])
 }
 
 // Where a header's table starts.
@@ -84,54 +72,51 @@ fn pointer(bytes: &[u8], i: usize) -> u32
     ensures { (result ≡ pointer_of bytes.now i) × (result < 2 ^ 24) }
 {
     let at = 8 + 8 * i;
-    place(bytes[at + 4], bytes[at + 5], bytes[at + 6])
+    u32::from_le_bytes([bytes[at + 4], bytes[at + 5], bytes[at + 6], 0])
 }
 
-// What the tables of the headers show: whether some is longer than the bytes, and whether some leaves them.
-#[derive(Clone, Copy)]
-struct Seen {
-    long: bool,
-    leaves: bool,
-}
-
-fn tables(bytes: &[u8], count: usize) -> Seen
+// Whether the table of some header is longer than the bytes.
+fn some_long(bytes: &[u8], count: usize) -> bool
     requires { (count ≤ 256) × (8 + 8 * count ≤ length bytes.now) }
-    ensures { (result.long ≡ some_below (is_long bytes.now) count) × (result.leaves ≡ some_below (is_out bytes.now) count) }
+    ensures { result ≡ some_below (is_long bytes.now) count }
 {
-    let mut long = false;
-    let mut leaves = false;
-    for i in 0..count {
-        let size = 4 * words(bytes, i);
-        let end = pointer(bytes, i) + size;
-        long = long | (bytes.len() < size as usize);
-        leaves = leaves | (bytes.len() < end as usize);
-    }
-    Seen { long, leaves }
+    (0..count).any(
+        |i|
+            requires { 16 + 8 * i ≤ length bytes.now }
+        { bytes.len() < 4 * words(bytes, i) as usize },
+    )
 }
 
-// 30, 31 or 32, the first that applies to the bytes, and Done where none does.
+// Whether it leaves them.
+fn some_out(bytes: &[u8], count: usize) -> bool
+    requires { (count ≤ 256) × (8 + 8 * count ≤ length bytes.now) }
+    ensures { result ≡ some_below (is_out bytes.now) count }
+{
+    (0..count).any(
+        |i|
+            requires { 16 + 8 * i ≤ length bytes.now }
+        { bytes.len() < (pointer(bytes, i) + 4 * words(bytes, i)) as usize },
+    )
+}
+
+// 30, 31 or 32, the first that applies to the bytes.
+#[tactic(auto, unfolding(crate::specs::Sfdp::table_refusal))]
 fn refusal(bytes: &[u8]) -> Answer
-    ensures { result ≡ table_refusal bytes.now }
+    ensures first { result ≡ table_refusal bytes.now }
+    ensures inside { OnOk result ((8 + 8 * headers_of bytes.now ≤ length bytes.now) × (pointer_of bytes.now 0 + 36 ≤ length bytes.now)) }
 {
     let n = bytes.len();
-    if n < 8 {
-        return Answer::NoSignature;
-    }
-    if !is_signed(bytes) {
-        return Answer::NoSignature;
+    if n < 8 || !is_signed(bytes) {
+        return Err(Refusal::NoSignature);
     }
     let count = headers(bytes) as usize;
-    if n < 8 + 8 * count {
-        return Answer::BadHeader;
+    if n < 8 + 8 * count || some_long(bytes, count) || words(bytes, 0) < 9 {
+        return Err(Refusal::BadHeader);
     }
-    let seen = tables(bytes, count);
-    if seen.long | (words(bytes, 0) < 9) {
-        return Answer::BadHeader;
+    if some_out(bytes, count) {
+        return Err(Refusal::BadPointer);
     }
-    if seen.leaves {
-        return Answer::BadPointer;
-    }
-    Answer::Done
+    Ok(())
 }
 
 // The density field of a table that starts there.
@@ -139,205 +124,120 @@ fn density_at(bytes: &[u8], start: usize) -> u32
     requires { start + 36 ≤ length bytes.now }
     ensures { result ≡ density_at bytes.now start }
 {
-    place(bytes[start + 4], bytes[start + 5], bytes[start + 6]) + 16777216 * wide(bytes[start + 7])
+    u32::from_le_bytes([
+        bytes[start + 4],
+        bytes[start + 5],
+        bytes[start + 6],
+        bytes[start + 7],
+    ])
 }
 
-// 1 where an erase type of that exponent exists, and 0 where not.
-fn one(exponent: u8) -> u32
-    ensures { (result ≡ cond (eqb exponent 0) 0 1) × (result ≤ 1) }
-{
-    if exponent == 0 { 0 } else { 1 }
-}
-
-// How many erase types the table that starts there has.
+// How many erase types the table that starts there has: a slot with an exponent of 0 holds none.
 fn types_at(bytes: &[u8], start: usize) -> u32
     requires { start + 36 ≤ length bytes.now }
     ensures { result ≡ length (erases_at bytes.now start) }
 {
-    one(bytes[start + 28])
-        + (one(bytes[start + 30]) + (one(bytes[start + 32]) + one(bytes[start + 34])))
+    u32::from(bytes[start + 28] != 0)
+        + u32::from(bytes[start + 30] != 0)
+        + u32::from(bytes[start + 32] != 0)
+        + u32::from(bytes[start + 34] != 0)
 }
 
 // The bytes as a whole.
-pub fn read(bytes: &[u8]) -> Contents
+#[tactic(auto, unfolding(crate::specs::Sfdp::contents_of, crate::specs::Sfdp::entry_of))]
+pub fn read(bytes: &[u8]) -> Result<Contents, Refusal>
     ensures { result ≡ contents_of bytes.now }
 {
-    let answer = refusal(bytes);
-    if !answers::is_done(answer) {
-        return Contents {
-            answer,
-            headers: 0,
-            density: 0,
-            types: 0,
-        };
-    }
+    refusal(bytes)?;
     let start = pointer(bytes, 0) as usize;
-    Contents {
-        answer: Answer::Done,
+    Ok(Contents {
         headers: headers(bytes),
         density: density_at(bytes, start),
         types: types_at(bytes, start),
-    }
+    })
 }
 
 // The revision that they name.
-pub fn revision(bytes: &[u8]) -> Version
+#[tactic(auto, unfolding(crate::specs::Sfdp::revision_of))]
+pub fn revision(bytes: &[u8]) -> Result<Version, Refusal>
     ensures { result ≡ revision_of bytes.now }
 {
-    let answer = refusal(bytes);
-    if !answers::is_done(answer) {
-        return Version {
-            answer,
-            minor: 0,
-            major: 0,
-        };
-    }
-    Version {
-        answer: Answer::Done,
-        minor: wide(bytes[4]),
-        major: wide(bytes[5]),
-    }
+    refusal(bytes)?;
+    Ok(Version {
+        minor: u32::from(bytes[4]),
+        major: u32::from(bytes[5]),
+    })
 }
 
-// The parameter header of that index, counted from 0; zeros where there is none.
-pub fn header(bytes: &[u8], index: u32) -> Parameter
+// The parameter header of that index, counted from 0, if there is one.
+#[tactic(auto, unfolding(crate::specs::Sfdp::header_of))]
+pub fn header(bytes: &[u8], index: u32) -> Result<Option<Parameter>, Refusal>
     ensures { result ≡ header_of bytes.now index }
 {
-    let answer = refusal(bytes);
-    if !answers::is_done(answer) {
-        return Parameter {
-            answer,
-            id: 0,
-            minor: 0,
-            major: 0,
-            words: 0,
-            pointer: 0,
-        };
-    }
+    refusal(bytes)?;
     if headers(bytes) <= index {
-        return Parameter {
-            answer: Answer::Done,
-            id: 0,
-            minor: 0,
-            major: 0,
-            words: 0,
-            pointer: 0,
-        };
+        return Ok(None);
     }
     let i = index as usize;
     let at = 8 + 8 * i;
-    Parameter {
-        answer: Answer::Done,
-        id: wide(bytes[at]),
-        minor: wide(bytes[at + 1]),
-        major: wide(bytes[at + 2]),
+    Ok(Some(Parameter {
+        id: u32::from(bytes[at]),
+        minor: u32::from(bytes[at + 1]),
+        major: u32::from(bytes[at + 2]),
         words: words(bytes, i),
         pointer: pointer(bytes, i),
-    }
+    }))
 }
 
-// The erase type in that slot, 1 to 4, as it stands; zeros in any other.
-pub fn erase(bytes: &[u8], slot: u32) -> Slot
+// The erase type in that slot, 1 to 4, as it stands.
+#[tactic(auto, unfolding(crate::specs::Sfdp::erase_of))]
+pub fn erase(bytes: &[u8], slot: u32) -> Result<Option<Slot>, Refusal>
     ensures { result ≡ erase_of bytes.now slot }
 {
-    let answer = refusal(bytes);
-    if !answers::is_done(answer) {
-        return Slot {
-            answer,
-            exponent: 0,
-            opcode: 0,
-        };
+    refusal(bytes)?;
+    if !(1..=4).contains(&slot) {
+        return Ok(None);
     }
-    if !((1 <= slot) & (slot <= 4)) {
-        return Slot {
-            answer: Answer::Done,
-            exponent: 0,
-            opcode: 0,
-        };
-    }
-    let start = pointer(bytes, 0) as usize;
-    let at = 2 * slot as usize;
-    Slot {
-        answer: Answer::Done,
-        exponent: wide(bytes[start + (26 + at)]),
-        opcode: wide(bytes[start + (27 + at)]),
-    }
+    let at = pointer(bytes, 0) as usize + 26 + 2 * slot as usize;
+    Ok(Some(Slot {
+        exponent: u32::from(bytes[at]),
+        opcode: u32::from(bytes[at + 1]),
+    }))
 }
 
 // ---- the writer
 
-// The number at an index, and another past the end.
-fn number_at(numbers: &[u32], i: usize, other: u32) -> u32
-    ensures { result ≡ get_or numbers.now i other }
-{
-    if i < numbers.len() { numbers[i] } else { other }
-}
-
-// Whether an erase type fits its slot. Where the numbers have none at that index, it does.
-fn fits_at(erases: &[u32], i: usize) -> bool
-    requires { i ≤ 6 }
-    ensures { result ≡ fits_slot (erase_type (get_or erases.now i 1) (get_or erases.now (i + 1) 0)) }
-{
-    let exponent = number_at(erases, i, 1);
-    let opcode = number_at(erases, i + 1, 0);
-    (1 <= exponent) & ((exponent <= 255) & (opcode <= 255))
-}
-
-// Whether the numbers are up to four pairs, each of which fits.
+// Whether the numbers are up to four pairs of an exponent, which is not 0, and an opcode, each of which fits a byte.
 fn is_list(erases: &[u32]) -> bool
     ensures { result ≡ is_list erases.now }
 {
-    let n = erases.len();
-    (n % 2 == 0)
-        & ((n <= 8)
-            & (fits_at(erases, 0)
-                & (fits_at(erases, 2) & (fits_at(erases, 4) & fits_at(erases, 6)))))
+    let (types, rest) = erases.as_chunks::<2>();
+    rest.is_empty()
+        && types.len() <= 4
+        && types
+            .iter()
+            .all(|t| (1..=255).contains(&t[0]) && t[1] <= 255)
 }
 
-// The byte at an index of such numbers, and another past the end.
-fn slot_byte(erases: &[u32], i: usize, other: u32) -> u8
-    requires { TakenList erases.now × (other ≤ 255) }
-    ensures { result ≡ get_or erases.now i other }
+// The four slots, 00 FF in those that are not needed.
+fn four_slots(erases: &[u32]) -> [u8; 8]
+    requires { TakenList erases.now }
+    ensures { result ≡ slots 4 (pairs erases.now) }
 {
-    number_at(erases, i, other) as u8
+    let mut slots = [0x00, 0xFF, 0x00, 0xFF, 0x00, 0xFF, 0x00, 0xFF];
+    for (i, number) in erases.iter().enumerate() {
+        slots[i] = *number as u8;
+    }
+    slots
 }
 
-// Bits 1:0 of 30h, for four slots' exponents.
-fn small_bits(a: u8, b: u8, c: u8, d: u8) -> u8
-    ensures { (result ≡ small_bits (erase_type a 0 ∷ erase_type b 0 ∷ erase_type c 0 ∷ erase_type d 0 ∷ [])) × (result ≤ 3) }
+// The opcode that erases 4 KiB, if one of four slots has it.
+fn small_opcode(slots: &[u8; 8]) -> Option<u8>
+    ensures opcode { unwrap_or result 0xFF ≡ small_opcode (pairs slots.now) }
+    ensures bits { cond (is_some result) 1 3 ≡ small_bits (pairs slots.now) }
 {
-    if a == 0x0C {
-        return 1;
-    }
-    if b == 0x0C {
-        return 1;
-    }
-    if c == 0x0C {
-        return 1;
-    }
-    if d == 0x0C {
-        return 1;
-    }
-    3
-}
-
-// 31h, for four slots' exponents and opcodes.
-fn small_opcode(a: u8, by_a: u8, b: u8, by_b: u8, c: u8, by_c: u8, d: u8, by_d: u8) -> u8
-    ensures { result ≡ small_opcode (erase_type a by_a ∷ erase_type b by_b ∷ erase_type c by_c ∷ erase_type d by_d ∷ []) }
-{
-    if a == 0x0C {
-        return by_a;
-    }
-    if b == 0x0C {
-        return by_b;
-    }
-    if c == 0x0C {
-        return by_c;
-    }
-    if d == 0x0C {
-        return by_d;
-    }
-    0xFF
+    let (types, _) = slots.as_chunks::<2>();
+    types.iter().find(|t| t[0] == 0x0C).map(|t| t[1])
 }
 
 // The table of a record that the writer takes, over a page of 112 bytes.
@@ -345,40 +245,25 @@ fn lay_page(density: u32, erases: &[u32], page: &mut [u8])
     requires { TakenList erases.now × (length page.old ≡ 112) }
     ensures { page.new ≡ image_of (entry density (pairs erases.now)) }
 {
-    let a = slot_byte(erases, 0, 0);
-    let by_a = slot_byte(erases, 1, 0xFF);
-    let b = slot_byte(erases, 2, 0);
-    let by_b = slot_byte(erases, 3, 0xFF);
-    let c = slot_byte(erases, 4, 0);
-    let by_c = slot_byte(erases, 5, 0xFF);
-    let d = slot_byte(erases, 6, 0);
-    let by_d = slot_byte(erases, 7, 0xFF);
-    let bits = small_bits(a, b, c, d);
-    let by = small_opcode(a, by_a, b, by_b, c, by_c, d, by_d);
-    sfdp_image::drive(SfdpAddress(0), page, 0, 112);
-    page[0x30] = 0xE4 + bits;
-    page[0x31] = by;
-    page[0x34] = (density % 256) as u8;
-    page[0x35] = (density / 256 % 256) as u8;
-    page[0x36] = (density / 65536 % 256) as u8;
-    page[0x37] = (density / 16777216 % 256) as u8;
-    page[0x4C] = a;
-    page[0x4D] = by_a;
-    page[0x4E] = b;
-    page[0x4F] = by_b;
-    page[0x50] = c;
-    page[0x51] = by_c;
-    page[0x52] = d;
-    page[0x53] = by_d;
+    let slots = four_slots(erases);
+    let small = small_opcode(&slots);
+    sfdp_image::drive(SfdpAddress(0), page);
+    page[0x30] = if small.is_some() { 0xE5 } else { 0xE7 };
+    page[0x31] = small.unwrap_or(0xFF);
+    page[0x34..0x38].copy_from_slice(&density.to_le_bytes());
+    page[0x4C..0x54].copy_from_slice(&slots);
 }
 
 // The table of a record, into the first 112 bytes of out; the rest stays. 33, and nothing is written, where a field does not fit, an exponent is 0 or out is too small.
 pub fn write(density: u64, erases: &[u32], out: &mut [u8]) -> Answer
     ensures { Writes (table_for density erases.now out.old) result out.new }
 {
-    if !((density < 4294967296) & (is_list(erases) & (112 <= out.len()))) {
-        return Answer::BadEntry;
+    let Ok(density) = u32::try_from(density) else {
+        return Err(Refusal::BadEntry);
+    };
+    if !is_list(erases) || out.len() < 112 {
+        return Err(Refusal::BadEntry);
     }
-    lay_page(density as u32, erases, &mut out[0..112]);
-    Answer::Done
+    lay_page(density, erases, &mut out[..112]);
+    Ok(())
 }

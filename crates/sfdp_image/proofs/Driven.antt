@@ -1,5 +1,5 @@
 -- What 5A drives, in two runs: what is left of the image, and FF; from the start on, the image itself.
-use mathlib.Core.Path.{◌≡◌, refl, sym, ap, ◌∙◌}
+use mathlib.Core.Path.{◌≡◌, refl, sym, ap, ap₂, ◌∙◌}
 use mathlib.Core.Bool.{Bool, true, false}
 use mathlib.Core.List.{List, ◌++◌}
 use Prim.Native.Nat.{ℕ, zero, suc, ◌+◌, ◌-◌, ◌≤◌, ◌<◌, min}
@@ -9,9 +9,8 @@ use lib.Dec.{ltb}
 use lib.ListN.{length, get_or, replicate, length-append, length-replicate, get_or-replicate, get_or-append, get_or-eq_default}
 use lib.Seq.{ext_get_or, get_or-append-add, take_all}
 use borrow.Author.Tests.{ltb-true, ltb-false}
-use borrow.Rule.Slice.PartMut.{put_mid, mid_of, mid_len}
-use Rattle.parts.specs.Parts.{part, lay}
-use Rattle.parts.proofs.Lay.{length_part, part_at, other-default, put_back, lay-next}
+use Rattle.parts.specs.Parts.{part}
+use Rattle.parts.proofs.Lay.{length_part, part_at, other-default}
 use Rattle.sfdp_image.specs.Image.{image, sfdp_from}
 
 pub length_from : (a n : ℕ) → length (sfdp_from a n) ≡ n
@@ -57,19 +56,10 @@ module _ (a n start k : ℕ) (s : start ≡ min a 112) (m : k ≡ min (112 - sta
           ∙ get_or-replicate (n - k) (i - k) 255 0 (omega arith)
           ∙ sym (get_or-eq_default image 255 (rw length-image (omega arith)))
 
-  -- laid into a part of out: the bytes themselves, and a fill
-  pub driven : (from middle end : ℕ) (out mid ys : List ℕ) → from + n ≡ end → end ≤ length out → middle ≡ from + k
-      → ys ≡ part image start (length (mid_of from (middle - from) out)) → mid ≡ put_mid from (middle - from) out ys
-      → lay mid middle (replicate (end - middle) 255) ≡ lay out from (sfdp_from a n)
-  driven from middle end out mid ys e f g y o =
-      let size : length (mid_of from (middle - from) out) ≡ k = mid_len from middle out (omega arith) ∙ (let z : middle - from ≡ k = omega arith in z) in
-      let runs : ys ≡ part image start k = y ∙ ap (part image start) size in
-      let long : length ys ≡ k = ap length runs ∙ length_part image start k in_image in
-      let first : mid ≡ lay out from ys = o ∙ put_back from middle out ys (omega arith) (omega arith) in
-      let place : middle ≡ from + length ys = omega arith in
-      let rest : end - middle ≡ n - k = omega arith in
-      rw (first, rest, place)
-      (lay-next out from ys (replicate (n - k) 255) (omega arith) ∙ ap (λ (z : List ℕ). lay out from (z ++ replicate (n - k) 255)) runs ∙ ap (lay out from) (sym from-runs))
+-- the two runs of n bytes
+pub driven : (a n start k : ℕ) (ys zs : List ℕ) → start ≡ min a 112 → k ≡ min (112 - start) n → ys ≡ part image start k → zs ≡ replicate (n - k) 255
+    → ys ++ zs ≡ sfdp_from a n
+driven a n start k ys zs s m e f = ap₂ (λ (y z : List ℕ). y ++ z) e f ∙ sym (from-runs a n start k s m)
 
 -- from the start on it is the whole image, and FF after it
 pub whole-image : (n : ℕ) → 112 ≤ n → sfdp_from 0 n ≡ image ++ replicate (n - 112) 0xFF

@@ -1,60 +1,30 @@
 // The SFDP table of model 2, and what 5A drives of it.
 #![tactic(auto)]
 
-ghost use Rattle.std.specs.Prelude.{◌≡◌, ◌+◌, ◌*◌, ◌-◌, ◌≤◌, ◌<◌, length, get_or};
-ghost use Rattle.parts.specs.Parts.{part, lay, spelt};
-ghost use Rattle.sfdp_image.specs.Image.{image, sfdp_from};
+ghost use Rattle.std.specs.Prelude.{◌≡◌, length};
+ghost use Rattle.sfdp_image.specs.Image.{sfdp_from};
 
 use units::SfdpAddress;
 
-// The chip's own bytes, eight at a time, the first one lowest. An array of them would lie on the stack of every frame.
-fn eight_at(k: usize) -> u64
-    requires { k ≤ 13 }
-    ensures { result ≡ spelt (part image (8 * k) 8) }
-{
-    match k {
-        0 => 0xFF01010050444653,
-        1 => 0xFF00003009010000,
-        2 => 0xFF000060040100C2,
-        3 => 0xFFFFFFFFFFFFFFFF,
-        4 => 0xFFFFFFFFFFFFFFFF,
-        5 => 0xFFFFFFFFFFFFFFFF,
-        6 => 0x001FFFFFFF8120E5,
-        7 => 0xFF003B08FF00FF00,
-        8 => 0xFF00FFFFFFFFFFEE,
-        9 => 0xD810200CFF00FFFF,
-        10 => 0xFFFFFFFFFF00FF00,
-        11 => 0xFFFFFFFFFFFFFFFF,
-        12 => 0xFFFF4FF627003600,
-        _ => 0xFFFFFFFFFFFFC7FE,
-    }
-}
+// The chip's own bytes. A `static`: a constant array would lie on the stack of every frame.
+static OWN_BYTES: [u8; 112] = [
+    0x53, 0x46, 0x44, 0x50, 0x00, 0x01, 0x01, 0xFF, 0x00, 0x00, 0x01, 0x09, 0x30, 0x00, 0x00, 0xFF,
+    0xC2, 0x00, 0x01, 0x04, 0x60, 0x00, 0x00, 0xFF, 0xFF, 0xFF, 0xFF, 0xFF, 0xFF, 0xFF, 0xFF, 0xFF,
+    0xFF, 0xFF, 0xFF, 0xFF, 0xFF, 0xFF, 0xFF, 0xFF, 0xFF, 0xFF, 0xFF, 0xFF, 0xFF, 0xFF, 0xFF, 0xFF,
+    0xE5, 0x20, 0x81, 0xFF, 0xFF, 0xFF, 0x1F, 0x00, 0x00, 0xFF, 0x00, 0xFF, 0x08, 0x3B, 0x00, 0xFF,
+    0xEE, 0xFF, 0xFF, 0xFF, 0xFF, 0xFF, 0x00, 0xFF, 0xFF, 0xFF, 0x00, 0xFF, 0x0C, 0x20, 0x10, 0xD8,
+    0x00, 0xFF, 0x00, 0xFF, 0xFF, 0xFF, 0xFF, 0xFF, 0xFF, 0xFF, 0xFF, 0xFF, 0xFF, 0xFF, 0xFF, 0xFF,
+    0x00, 0x36, 0x00, 0x27, 0xF6, 0x4F, 0xFF, 0xFF, 0xFE, 0xC7, 0xFF, 0xFF, 0xFF, 0xFF, 0xFF, 0xFF,
+];
 
-// The one at an index.
-fn own_byte(i: usize) -> u8
-    requires { i < 112 }
-    ensures { result ≡ get_or image i 0xFF }
+// Fills out with what the table holds from that address on, and FF past its end.
+#[tactic(auto, using(crate::proofs::Driven::driven), unfolding(crate::specs::Image::image))]
+pub fn drive(at: SfdpAddress, out: &mut [u8])
+    ensures { out.new ≡ sfdp_from at.0 (length out.old) }
 {
-    ((eight_at(i / 8) >> (8 * (i % 8)) as u32) % 256) as u8
-}
-
-// Every byte of out becomes the next of them, from an index on.
-fn lay_own(out: &mut [u8], start: usize)
-    requires { start + length out.old ≤ 112 }
-    ensures { out.new ≡ part image start (length out.old) }
-{
-    for i in 0..out.len() {
-        out[i] = own_byte(start + i);
-    }
-}
-
-// The bytes of out from index from up to end become what the table holds from that address on, and FF past its end. The rest of out stays.
-pub fn drive(at: SfdpAddress, out: &mut [u8], from: usize, end: usize)
-    requires { (from ≤ end) × (end ≤ length out.old) }
-    ensures { out.new ≡ lay out.old from (sfdp_from at.0 (end - from)) }
-{
-    let start = parts::least(at.0 as usize, 112);
-    let middle = from + parts::least(112 - start, end - from);
-    lay_own(&mut out[from..middle], start);
-    parts::fill_part(out, middle, end, 0xFF);
+    let start = (at.0 as usize).min(112);
+    let own = (112 - start).min(out.len());
+    let (front, past) = out.split_at_mut(own);
+    front.copy_from_slice(&OWN_BYTES[start..start + own]);
+    past.fill(0xFF);
 }

@@ -1,13 +1,13 @@
 -- The bench sheet is as the model fills it in. Every line is computed; that arrays and wear tables have their lengths and that page data fit is told by laws.
+use Rattle.std.specs.Prelude.{Err}
 use mathlib.Core.Path.{◌≡◌, refl, ap, subst, ◌∙◌}
 use mathlib.Core.Bool.{Bool, true, false, not, cond}
 use mathlib.Core.List.{List, [], ◌∷◌}
 use Prim.Native.Nat.{ℕ, zero, suc, ◌%◌}
 use lib.Dec.{eqb}
 use lib.ListN.{length, get_or, length-replicate}
-use Rattle.answers.specs.Answers.{is_done}
-use Rattle.answers.specs.declared.Answer.{Answer}
-use Rattle.answers.specs.declared.Answer.TheVariants.{Done, Busy}
+use Rattle.answers.specs.Answers.{Answer, Done, is_done}
+use Rattle.answers.specs.declared.Refusal.TheVariants.{Busy}
 use Rattle.states.specs.declared.Record.{Record}
 use Rattle.ladder.specs.declared.Head.{Head}
 use Rattle.models.specs.Models.{is_model, part_of, model_of, address_of, range_of, is_protected}
@@ -24,8 +24,7 @@ use Rattle.counts.specs.Counts.{covered, worn_out}
 use Rattle.effects.specs.Effects.{Effect, drives, latched, dozing, starting, refusal_leaves, write_enable, write_status, erase_starts, sleep, read_status, read_config, read_from, program_page, programs_over, waking_time, wake, read_sfdp}
 use Rattle.sfdp_image.specs.Image.{image}
 use Rattle.operations.specs.Operations.{config_written, config_after, written, forgotten, finished}
-use Rattle.time.specs.Time.{Aftermath, later, waited, cycled, power_of, power_refusal, power_cut_of, after_of}
-use Rattle.time.specs.declared.After.{After}
+use Rattle.time.specs.Time.{After, Aftermath, later, waited, cycled, power_of, power_refusal, power_cut_of, after_of}
 use Rattle.chip.specs.Frames.{head_for, over_by, worn_by, accepted_of, refused_of, frame_of}
 use Rattle.calls.specs.Calls.{Call, Pod, ours, left, after, answer, Bench}
 use Rattle.calls.proofs.Valid.{power-on-fine}
@@ -43,7 +42,7 @@ told =
           let a : Answer = refusal_of rec x.state h in
           cond (is_done a) (accepted_of rec x h.command h.address f.bytes f.wear f.out) (refused_of rec a x f);
       wait = λ seen rec x us. record { answer = Done; chip = waited rec.model x us };
-      power = λ seen rec s page. let a : Answer = cond (not (eqb s.busy 0)) Busy Done in after_of a (cond (is_done a) (cycled s) s);
+      power = λ seen rec s page. let a : Answer = cond (not (eqb s.busy 0)) (Err Busy) Done in after_of a (cond (is_done a) (cycled s) s);
       cut = λ seen. power_cut_of;
     }
 

@@ -5,7 +5,6 @@ ghost use Rattle.std.specs.Prelude.{◌≡◌, ◌≤◌, ◌<◌, length};
 ghost use Rattle.effects.specs.Effects.{read_status, read_config, read_from, read_id, waking_time, wake as Effects·wake, maker_bytes, read_maker, read_sfdp};
 ghost use Rattle.effects.specs.ContractForms.{Shows, Room};
 
-use answers::Answer;
 use effects::Reply;
 use models::Model;
 use states::{Record, State};
@@ -17,7 +16,7 @@ pub fn read_status(st: State, bytes: &[u8], out: &mut [u8]) -> Reply
     ensures { Shows (read_status st bytes.now out.old) result out.new }
 {
     let n = bytes.len();
-    parts::fill_part(out, 1, n, states::status(st));
+    out[1..n].fill(states::status(st));
     effects::driven(st, 1, n as u32)
 }
 
@@ -27,11 +26,12 @@ pub fn read_config(st: State, bytes: &[u8], out: &mut [u8]) -> Reply
     ensures { Shows (read_config st bytes.now out.old) result out.new }
 {
     let n = bytes.len();
-    parts::fill_part(out, 1, n, st.config);
+    out[1..n].fill(st.config);
     effects::driven(st, 1, n as u32)
 }
 
 // 03 from position 4, 0B from position 5
+#[tactic(auto, using(parts::proofs::Lay::put_back), unfolding(effects::specs::Effects::read_from))]
 pub fn read_from(
     first: u32,
     st: State,
@@ -44,7 +44,7 @@ pub fn read_from(
     ensures { Shows (read_from first st array.now at bytes.now out.old) result out.new }
 {
     let n = bytes.len();
-    flash::read_part(array, at, out, first as usize, n);
+    flash::read(array, at, &mut out[first as usize..n]);
     effects::driven(st, first, n as u32)
 }
 
@@ -56,7 +56,7 @@ pub fn read_id(rec: Record, st: State, bytes: &[u8], out: &mut [u8]) -> Reply
     let n = bytes.len();
     let row = models::model_of(rec.model);
     let id = [row.maker, row.family, row.density];
-    rings::repeat_part(out, 1, n, &id);
+    rings::repeat(&mut out[1..n], &id);
     effects::driven(st, 1, n as u32)
 }
 
@@ -79,10 +79,10 @@ pub fn wake(rec: Record, st: State, bytes: &[u8], out: &mut [u8]) -> Reply
     let awake = effects::doze(st, false, waking_time(rec, st, n));
     if 4 < n {
         let row = models::model_of(rec.model);
-        parts::fill_part(out, 4, n, row.signature);
+        out[4..n].fill(row.signature);
         return effects::driven(awake, 4, n as u32);
     }
-    effects::quiet(Answer::Done, awake)
+    effects::quiet(Ok(()), awake)
 }
 
 // The two bytes of 90 in their order.
@@ -104,7 +104,7 @@ pub fn read_maker(rec: Record, st: State, bytes: &[u8], out: &mut [u8]) -> Reply
     let n = bytes.len();
     let row = models::model_of(rec.model);
     let pair = maker_bytes(row, parts::byte_at(bytes, 3));
-    rings::repeat_part(out, 4, n, &pair);
+    rings::repeat(&mut out[4..n], &pair);
     effects::driven(st, 4, n as u32)
 }
 
@@ -119,6 +119,6 @@ pub fn read_sfdp(st: State, bytes: &[u8], out: &mut [u8]) -> Reply
         parts::byte_at(bytes, 2),
         parts::byte_at(bytes, 3),
     );
-    sfdp_image::drive(at, out, 5, n);
+    sfdp_image::drive(at, &mut out[5..n]);
     effects::driven(st, 5, n as u32)
 }

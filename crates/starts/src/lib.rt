@@ -9,7 +9,6 @@ ghost use Rattle.commands.specs.declared.Operation.TheVariants.{Programs};
 ghost use Rattle.effects.specs.Effects.{write_status, program_page, goes_over};
 ghost use Rattle.effects.specs.ContractForms.{Starts};
 
-use answers::Answer;
 use commands::Operation;
 use effects::Reply;
 use states::{Record, State};
@@ -21,10 +20,10 @@ pub fn write_status(rec: Record, st: State, page: &mut [u8], bytes: &[u8]) -> Re
     ensures { Starts (write_status rec st page.old bytes.now) result page.new }
 {
     let n = bytes.len() - 1;
-    parts::copy(&mut page[0..n], &bytes[1..]);
-    let time = states::operation_time(rec, Operation::WritesStatus);
+    page[..n].copy_from_slice(&bytes[1..]);
+    let time = states::operation_time(rec, Some(Operation::WritesStatus));
     effects::quiet(
-        Answer::Done,
+        Ok(()),
         effects::start(st, parts::byte_at(bytes, 0), n as u32, time),
     )
 }
@@ -35,29 +34,24 @@ pub fn program_page(rec: Record, st: State, page: &mut [u8], at: Address, bytes:
     ensures { Starts (program_page rec st page.old at bytes.now) result page.new }
 {
     let fold = fold::program_page(page, at.page_offset(), &bytes[4..]);
-    let time = states::operation_time(rec, Operation::Programs);
+    let time = states::operation_time(rec, Some(Operation::Programs));
     let command = parts::byte_at(bytes, 0);
     effects::taken(effects::start(st, command, at.0, time), fold)
 }
 
 // Whether the strict setting refuses an operation: a program, where a cell of the addressed page would not end up holding the byte that counts for it.
 // Only that page is looked at, and only with the setting on.
-pub fn is_over(op: Operation, strict: bool, array: &[u8], at: Address, bytes: &[u8]) -> bool
-    requires { (op ≡ Programs → 5 ≤ length bytes.now) × (page_start at + 256 ≤ length array.now) }
+pub fn is_over(op: Option<Operation>, strict: bool, array: &[u8], at: Address, bytes: &[u8]) -> bool
+    requires { (op ≡ Some Programs → 5 ≤ length bytes.now) × (page_start at + 256 ≤ length array.now) }
     ensures { result ≡ goes_over op strict at array.now bytes.now }
 {
     if !strict {
         return false;
     }
-    match op {
-        Operation::Idle => false,
-        Operation::WritesStatus => false,
-        Operation::Programs => page_over(array, at, bytes),
-        Operation::ErasesSector => false,
-        Operation::ErasesHalf => false,
-        Operation::ErasesBlock => false,
-        Operation::ErasesChip => false,
+    if op == Some(Operation::Programs) {
+        return page_over(array, at, bytes);
     }
+    false
 }
 
 // Whether some cell of the addressed page would not end up holding the byte that counts for it.
@@ -65,8 +59,6 @@ fn page_over(array: &[u8], at: Address, bytes: &[u8]) -> bool
     requires { (5 ≤ length bytes.now) × (page_start at + 256 ≤ length array.now) }
     ensures { result ≡ over_old (page_offset at) (drop 4 bytes.now) (part array.now (page_start at) 256) }
 {
-    let first = at.page_start();
-    let start = first.0 as usize;
-    let end = start + 256;
-    fold::over_old(&array[start..end], at.page_offset(), &bytes[4..])
+    let start = at.page_start().0 as usize;
+    fold::over_old(&array[start..start + 256], at.page_offset(), &bytes[4..])
 }

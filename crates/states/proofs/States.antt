@@ -10,8 +10,9 @@ use lib.Dec.{eqb, leb, lit≤}
 use lib.ListN.{length, get_or, replicate}
 use Rattle.parts.specs.Parts.{all_are}
 use Rattle.commands.specs.Commands.{started_by}
+use Rattle.std.specs.Prelude.{Option, Some, None}
 use Rattle.commands.specs.declared.Operation.{Operation}
-use Rattle.commands.specs.declared.Operation.TheVariants.{Idle, WritesStatus, Programs, ErasesSector, ErasesHalf, ErasesBlock, ErasesChip}
+use Rattle.commands.specs.declared.Operation.TheVariants.{WritesStatus, Programs, ErasesSector, ErasesHalf, ErasesBlock, ErasesChip}
 use borrow.Author.Tests.{eqb-true, eqb-false, leb-true, leb-false, not-true, eq-eqb, ne_eqb, le-leb}
 use Rattle.models.specs.Models.{is_model, part_of, model_of}
 use Rattle.units.proofs.Bools.{both}
@@ -100,18 +101,18 @@ module _ (rec : Record) (s : State) where
   unfolding state_ok
   idle-state z = rw (eq-eqb s.busy 0 z)
 
-  pub busy-state : {op : Operation} → (s.busy ≡ 0 → ⊥) → op ≡ started_by rec.model s.command → state_ok rec s ≡ (level_ok rec.model s && runs_ok rec s op)
+  pub busy-state : {op : Option Operation} → (s.busy ≡ 0 → ⊥) → op ≡ started_by rec.model s.command → state_ok rec s ≡ (level_ok rec.model s && runs_ok rec s op)
   unfolding state_ok busy_ok
   busy-state z e = rw (ne_eqb s.busy 0 z, e)
 
 -- ---- the page data
 -- by what runs
 module _ (n : ℕ) (s : State) (page : List ℕ) where
-  pub idle-page : s.busy ≡ 0 → page_ok n s page ≡ page_fits Idle s.address page
+  pub idle-page : s.busy ≡ 0 → page_ok n s page ≡ page_fits None s.address page
   unfolding page_ok used_page
   idle-page z = rw (eq-eqb s.busy 0 z)
 
-  pub busy-page : {op : Operation} → (s.busy ≡ 0 → ⊥) → op ≡ started_by n s.command → page_ok n s page ≡ page_fits op s.address page
+  pub busy-page : {op : Option Operation} → (s.busy ≡ 0 → ⊥) → op ≡ started_by n s.command → page_ok n s page ≡ page_fits op s.address page
   unfolding page_ok used_page
   busy-page z e = rw (ne_eqb s.busy 0 z, e)
 
@@ -196,14 +197,14 @@ module _ (r : Record) where
   pub half_le : r.half ≤ longest_busy r
   half_le = time-le r 5
 
-  pub operation-le : (op : Operation) → operation_time r op ≤ longest_busy r
-  operation-le Idle = omega arith
-  operation-le WritesStatus = status-write-le
-  operation-le Programs = page-le
-  operation-le ErasesSector = sector-le
-  operation-le ErasesHalf = half_le
-  operation-le ErasesBlock = block-le
-  operation-le ErasesChip = chip-le
+  pub operation-le : (op : Option Operation) → operation_time r op ≤ longest_busy r
+  operation-le None = omega arith
+  operation-le (Some WritesStatus) = status-write-le
+  operation-le (Some Programs) = page-le
+  operation-le (Some ErasesSector) = sector-le
+  operation-le (Some ErasesHalf) = half_le
+  operation-le (Some ErasesBlock) = block-le
+  operation-le (Some ErasesChip) = chip-le
 
   pub sleep-le : r.sleep ≤ longest_settle r
   sleep-le = settle-le r 0

@@ -1,9 +1,9 @@
 -- Records, states, page data and the status byte: 01, "Record, state, frame".
-use Rattle.std.specs.Prelude.{Bool, true, false, not, ◌&&◌, ◌||◌, cond, List, [], ◌∷◌, ◌++◌, ℕ, ◌+◌, ◌*◌, ◌/◌, ◌%◌, max, eqb, leb, ltb, length, drop, replicate}
+use Rattle.std.specs.Prelude.{Bool, true, false, not, ◌&&◌, ◌||◌, cond, List, [], ◌∷◌, ◌++◌, ℕ, ◌+◌, ◌*◌, ◌/◌, ◌%◌, max, eqb, leb, ltb, length, drop, replicate, Option, Some, None}
 use Rattle.parts.specs.Parts.{all_are}
 use Rattle.commands.specs.Commands.{started_by}
 use Rattle.commands.specs.declared.Operation.{Operation}
-use Rattle.commands.specs.declared.Operation.TheVariants.{Idle, WritesStatus, Programs, ErasesSector, ErasesHalf, ErasesBlock, ErasesChip}
+use Rattle.commands.specs.declared.Operation.TheVariants.{WritesStatus, Programs, ErasesSector, ErasesHalf, ErasesBlock, ErasesChip}
 use Rattle.models.specs.Models.{is_model, model_of}
 use Rattle.states.specs.declared.Record.{Record}
 use Rattle.states.specs.declared.State.{State}
@@ -69,25 +69,25 @@ abbrev pub no_address : ℕ
 no_address = 0xFFFFFF
 
 -- how long each runs
-abbrev pub operation_time : Record → Operation → ℕ
-operation_time r Idle = 0
-operation_time r WritesStatus = r.status_write
-operation_time r Programs = r.page
-operation_time r ErasesSector = r.sector
-operation_time r ErasesHalf = r.half
-operation_time r ErasesBlock = r.block
-operation_time r ErasesChip = r.chip
+abbrev pub operation_time : Record → Option Operation → ℕ
+operation_time r None = 0
+operation_time r (Some WritesStatus) = r.status_write
+operation_time r (Some Programs) = r.page
+operation_time r (Some ErasesSector) = r.sector
+operation_time r (Some ErasesHalf) = r.half
+operation_time r (Some ErasesBlock) = r.block
+operation_time r (Some ErasesChip) = r.chip
 
 -- what stands in the address's place: an address below the array's length, or the number of a status write's data bytes: one, and with the register one or
 -- two; or nothing
-abbrev pub place_ok : ℕ → Operation → ℕ → Bool
-place_ok n Idle place = eqb place no_address
-place_ok n WritesStatus place = eqb place 1 || ((model_of n).register && eqb place 2)
-place_ok n Programs place = ltb place (model_of n).length
-place_ok n ErasesSector place = ltb place (model_of n).length
-place_ok n ErasesHalf place = ltb place (model_of n).length
-place_ok n ErasesBlock place = ltb place (model_of n).length
-place_ok n ErasesChip place = eqb place no_address
+abbrev pub place_ok : ℕ → Option Operation → ℕ → Bool
+place_ok n None place = eqb place no_address
+place_ok n (Some WritesStatus) place = eqb place 1 || ((model_of n).register && eqb place 2)
+place_ok n (Some Programs) place = ltb place (model_of n).length
+place_ok n (Some ErasesSector) place = ltb place (model_of n).length
+place_ok n (Some ErasesHalf) place = ltb place (model_of n).length
+place_ok n (Some ErasesBlock) place = ltb place (model_of n).length
+place_ok n (Some ErasesChip) place = eqb place no_address
 
 -- BP and the register are in their range
 abbrev pub level_ok : ℕ → State → Bool
@@ -98,7 +98,7 @@ unfoldable pub idle_ok : Record → State → Bool
 idle_ok r s = leb s.settle (longest_settle r) && (eqb s.command no_command && eqb s.address no_address)
 
 -- a busy one runs an operation whose time is not over; it has WEL set, is not in deep power-down, and does not settle
-abbrev pub runs_ok : Record → State → Operation → Bool
+abbrev pub runs_ok : Record → State → Option Operation → Bool
 runs_ok r s op = (leb s.busy (operation_time r op) && place_ok r.model op s.address) && ((s.wel && not s.asleep) && eqb s.settle 0)
 
 unfoldable pub busy_ok : Record → State → Bool
@@ -110,17 +110,17 @@ state_ok r s = level_ok r.model s && cond (eqb s.busy 0) (idle_ok r s) (busy_ok 
 
 -- ---- the page data: 256 bytes, FF where they are not used
 -- how many are used, from the first on: a program uses all, a status write one for each data byte
-abbrev pub used_bytes : Operation → ℕ → ℕ
-used_bytes Idle place = 0
-used_bytes WritesStatus place = place
-used_bytes Programs place = 256
-used_bytes ErasesSector place = 0
-used_bytes ErasesHalf place = 0
-used_bytes ErasesBlock place = 0
-used_bytes ErasesChip place = 0
+abbrev pub used_bytes : Option Operation → ℕ → ℕ
+used_bytes None place = 0
+used_bytes (Some WritesStatus) place = place
+used_bytes (Some Programs) place = 256
+used_bytes (Some ErasesSector) place = 0
+used_bytes (Some ErasesHalf) place = 0
+used_bytes (Some ErasesBlock) place = 0
+used_bytes (Some ErasesChip) place = 0
 
 -- page data that fit an operation
-abbrev pub page_fits : Operation → ℕ → List ℕ → Bool
+abbrev pub page_fits : Option Operation → ℕ → List ℕ → Bool
 page_fits op place page = eqb (length page) 256 && all_are 0xFF (drop (used_bytes op place) page)
 
 -- and a chip

@@ -1,7 +1,7 @@
 // Records, states, page data and the status byte.
 #![tactic(auto)]
 
-ghost use Rattle.std.specs.Prelude.{◌≡◌, ◌&&◌, max, ◌<◌, ◌≤◌, leb};
+ghost use Rattle.std.specs.Prelude.{◌≡◌, ◌&&◌, ◌<◌, ◌≤◌, leb};
 ghost use Rattle.states.specs.States.{in_range, half_ok, record_ok, longest_settle, config_ok, operation_time, place_ok, level_ok, idle_ok, runs_ok, state_ok, used_bytes, page_fits, page_ok, tb_of, flag as States·flag, status_of, power_on, bench_kh25l512, bench_kh25l2006e, bench_kh25l12845g};
 
 use commands::Operation;
@@ -38,13 +38,15 @@ pub struct State {
     pub address: u32,
 }
 
+#[tactic(auto, unfolding(crate::specs::States::in_range))]
 fn in_range(us: u32) -> bool
     ensures { result ≡ in_range us }
 {
-    (1 <= us) & (us <= 1000000000)
+    (1..=1_000_000_000).contains(&us)
 }
 
 // The sixth time is in its range on a model with the erase of a half block, and 0 on the others.
+#[tactic(auto, unfolding(crate::specs::States::half_ok))]
 fn half_ok(model: u32, us: u32) -> bool
     ensures { result ≡ half_ok model us }
 {
@@ -56,6 +58,7 @@ fn half_ok(model: u32, us: u32) -> bool
 }
 
 // Whether the model exists and each busy time is in its range.
+#[tactic(auto, unfolding(crate::specs::States::record_ok))]
 pub fn record_ok(rec: Record) -> bool
     ensures { result ≡ record_ok rec }
 {
@@ -67,35 +70,31 @@ pub fn record_ok(rec: Record) -> bool
                 & (in_range(rec.sleep) & (in_range(rec.wake) & in_range(rec.sign)))))
 }
 
-// How long an operation runs.
-pub fn operation_time(rec: Record, op: Operation) -> u32
+// How long an operation runs; no time where none does.
+pub fn operation_time(rec: Record, op: Option<Operation>) -> u32
     ensures { result ≡ operation_time rec op }
 {
     match op {
-        Operation::Idle => 0,
-        Operation::WritesStatus => rec.status_write,
-        Operation::Programs => rec.page,
-        Operation::ErasesSector => rec.sector,
-        Operation::ErasesHalf => rec.half,
-        Operation::ErasesBlock => rec.block,
-        Operation::ErasesChip => rec.chip,
+        None => 0,
+        Some(Operation::WritesStatus) => rec.status_write,
+        Some(Operation::Programs) => rec.page,
+        Some(Operation::ErasesSector) => rec.sector,
+        Some(Operation::ErasesHalf) => rec.half,
+        Some(Operation::ErasesBlock) => rec.block,
+        Some(Operation::ErasesChip) => rec.chip,
     }
 }
 
-fn larger(a: u32, b: u32) -> u32
-    ensures { result ≡ max a b }
-{
-    if a <= b { b } else { a }
-}
-
 // The longest of the settling times.
+#[tactic(auto, unfolding(crate::specs::States::longest_settle))]
 fn longest_settle(rec: Record) -> u32
     ensures { result ≡ longest_settle rec }
 {
-    larger(rec.sleep, larger(rec.wake, rec.sign))
+    rec.sleep.max(rec.wake.max(rec.sign))
 }
 
 // The register's reserved bits, 5 and 2, are 0; where there is no register all are.
+#[tactic(auto, unfolding(crate::specs::States::config_ok))]
 fn config_ok(register: bool, config: u8) -> bool
     ensures { result ≡ config_ok register config }
 {
@@ -106,6 +105,7 @@ fn config_ok(register: bool, config: u8) -> bool
 }
 
 // Whether the protected range is at the bottom of the array: TB, bit 3 of the register.
+#[tactic(auto, unfolding(crate::specs::States::tb_of))]
 pub fn tb(st: State) -> bool
     ensures { result ≡ tb_of st }
 {
@@ -123,18 +123,14 @@ fn settle_ok(rec: Record, us: u32) -> bool
 }
 
 // Whether the address fits the operation: below the array's length where it has one; a status write has one data byte, or where there is the register two.
-fn place_ok(model: u32, op: Operation, place: u32) -> bool
+fn place_ok(model: u32, op: Option<Operation>, place: u32) -> bool
     ensures { result ≡ place_ok model op place }
 {
     let row = models::model_of(model);
     match op {
-        Operation::Idle => place == 0xFFFFFF,
-        Operation::WritesStatus => (place == 1) | (row.register & (place == 2)),
-        Operation::Programs => place < row.length,
-        Operation::ErasesSector => place < row.length,
-        Operation::ErasesHalf => place < row.length,
-        Operation::ErasesBlock => place < row.length,
-        Operation::ErasesChip => place == 0xFFFFFF,
+        None | Some(Operation::ErasesChip) => place == 0xFFFFFF,
+        Some(Operation::WritesStatus) => (place == 1) | (row.register & (place == 2)),
+        _ => place < row.length,
     }
 }
 
@@ -147,6 +143,7 @@ fn level_ok(model: u32, st: State) -> bool
 }
 
 // Whether the state of a chip that is not busy is valid: it remembers no operation, and may settle.
+#[tactic(auto, unfolding(crate::specs::States::idle_ok))]
 pub fn idle_ok(rec: Record, st: State) -> bool
     ensures { result ≡ (level_ok rec.model st && idle_ok rec st) }
 {
@@ -155,7 +152,7 @@ pub fn idle_ok(rec: Record, st: State) -> bool
 }
 
 // Whether that of a busy one is, which runs op: its time is not over, WEL is set, it is not in deep power-down, and does not settle.
-pub fn busy_ok(rec: Record, st: State, op: Operation) -> bool
+pub fn busy_ok(rec: Record, st: State, op: Option<Operation>) -> bool
     ensures { result ≡ (level_ok rec.model st && runs_ok rec st op) }
 {
     level_ok(rec.model, st)
@@ -164,6 +161,7 @@ pub fn busy_ok(rec: Record, st: State, op: Operation) -> bool
 }
 
 // Whether the state is valid under the record.
+#[tactic(auto, unfolding(crate::specs::States::state_ok, crate::specs::States::busy_ok))]
 pub fn state_ok(rec: Record, st: State) -> bool
     ensures { result ≡ state_ok rec st }
 {
@@ -174,22 +172,18 @@ pub fn state_ok(rec: Record, st: State) -> bool
 }
 
 // How many bytes of the page data the operation uses, from the first on.
-fn used_bytes(op: Operation, place: u32) -> u32
+fn used_bytes(op: Option<Operation>, place: u32) -> u32
     ensures { result ≡ used_bytes op place }
 {
     match op {
-        Operation::Idle => 0,
-        Operation::WritesStatus => place,
-        Operation::Programs => 256,
-        Operation::ErasesSector => 0,
-        Operation::ErasesHalf => 0,
-        Operation::ErasesBlock => 0,
-        Operation::ErasesChip => 0,
+        Some(Operation::WritesStatus) => place,
+        Some(Operation::Programs) => 256,
+        _ => 0,
     }
 }
 
 // Whether page data fit an operation: 256 bytes, FF where it does not use them. They are looked at in one pass.
-pub fn page_fits(op: Operation, place: u32, page: &[u8]) -> bool
+pub fn page_fits(op: Option<Operation>, place: u32, page: &[u8]) -> bool
     ensures { result ≡ page_fits op place page.now }
 {
     if page.len() != 256 {
@@ -203,11 +197,12 @@ pub fn page_fits(op: Operation, place: u32, page: &[u8]) -> bool
 }
 
 // Whether they fit the state: a chip that is not busy uses none.
+#[tactic(auto, unfolding(crate::specs::States::page_ok, crate::specs::States::used_page))]
 pub fn page_ok(model: u32, st: State, page: &[u8]) -> bool
     ensures { result ≡ page_ok model st page.now }
 {
     if st.busy == 0 {
-        return page_fits(Operation::Idle, st.address, page);
+        return page_fits(None, st.address, page);
     }
     page_fits(commands::started_by(model, st.command), st.address, page)
 }
@@ -220,6 +215,7 @@ pub fn flag(on: bool, value: u8) -> u8
 }
 
 // The status byte.
+#[tactic(auto, unfolding(crate::specs::States::status_of))]
 pub fn status(st: State) -> u8
     requires { st.bp < 32 }
     ensures { result ≡ status_of st }

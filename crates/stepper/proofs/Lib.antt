@@ -1,3 +1,2 @@
--- `Lent`: laws of a struct that is lent. `Rows`: the row of a line that was played.
-pub mod Lent
+-- `Rows`: the row of a line that was played.
 pub mod Rows

@@ -4,12 +4,13 @@ use mathlib.Core.Bool.{Bool}
 use mathlib.Core.List.{List, [], ◌∷◌, ◌++◌, map}
 use Prim.Native.Nat.{ℕ, suc}
 use lib.ListN.{take, drop, replicate}
+use Rattle.std.specs.Prelude.{Option, Some, None}
 use Rattle.states.specs.States.{Chip}
 use Rattle.states.specs.declared.Record.{Record}
 use Rattle.script.specs.Hex.{hex_bytes}
 use Rattle.script.specs.Reading.{line_of}
 use Rattle.script.specs.declared.Line.{Line}
-use Rattle.script.specs.declared.Line.TheVariants.{Frame, Wait, Power, Bad}
+use Rattle.script.specs.declared.Line.TheVariants.{Frame, Wait, Power}
 use Rattle.lines.specs.Lines.{lines_from}
 use Rattle.play.specs.Play.{Turn, frame_turn, turn_of}
 use Rattle.stepper.specs.Rows.{line_turn, row_text, chip_after, next, log_from}
@@ -24,12 +25,12 @@ take-first n [] = refl
 take-first n (b ∷ bytes) = refl
 
 module _ (rec : Record) (strict : Bool) where
-  turn-same : (x : Chip) (wear shown line : List ℕ) (l : Line) → line_of line ≡ l → turn_of rec strict x wear shown (rewritten_line line) l ≡ turn_before rec strict x wear shown line l
+  turn-same : (x : Chip) (wear shown line : List ℕ) (l : Option Line) → line_of line ≡ l → turn_of rec strict x wear shown (rewritten_line line) l ≡ turn_before rec strict x wear shown line l
   unfolding turn_of frame_turn frame_before
-  turn-same x wear shown line (Frame wp tail n) e = rw (frame-replaced line wp tail n e, take-first 299 (hex_bytes (drop 6 line)))
-  turn-same x wear shown line (Wait us) e = refl
-  turn-same x wear shown line Power e = refl
-  turn-same x wear shown line Bad e = refl
+  turn-same x wear shown line (Some (Frame wp tail n)) e = rw (frame-replaced line wp tail n e, take-first 299 (hex_bytes (drop 6 line)))
+  turn-same x wear shown line (Some (Wait us)) e = refl
+  turn-same x wear shown line (Some Power) e = refl
+  turn-same x wear shown line None e = refl
 
   line_same : (x : Chip) (wear line : List ℕ) → line_turn rec strict x wear (rewritten_line line) ≡ line_before rec strict x wear line
   line_same x wear line =

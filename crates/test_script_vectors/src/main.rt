@@ -3,127 +3,82 @@
 // so that lines of every kind run across a block's end.
 #![tactic(auto)]
 
-ghost use Rattle.std.specs.Prelude.{◌<◌};
-
 use lines::Cut;
 use script::Line;
+use std::fmt::{self, Display, Formatter};
 use std::io::Read;
 
-// Writes the first n bytes of out.
-fn flush(rt: &impl Print, out: &[u8], n: usize) {
-    if n <= out.len() {
-        let _ = rt.write_all(&out[0..n]);
-    }
-}
+// What was read of a line: its kind and its values.
+#[derive(Clone, Copy)]
+struct Said(Option<Line>);
 
-fn say(rt: &impl Print, text: &[u8]) {
-    let _ = rt.write_all(text);
-}
-
-fn say_number(rt: &impl Print, n: u64) {
-    let _ = rt.print(n);
-}
-
-// What was read: the kind of line, and its values.
-fn show(rt: &impl Print, line: Line) {
-    match line {
-        Line::Frame { wp, tail, count } => {
-            say(rt, b"frame ");
-            say_number(rt, wp as u64);
-            say(rt, b" ");
-            say_number(rt, tail as u64);
-            say(rt, b" ");
-            say_number(rt, count as u64);
+impl Display for Said {
+    fn fmt<W: fmt::Write>(&self, f: &mut Formatter<W>) -> fmt::Result {
+        match self.0 {
+            Some(Line::Frame { wp, tail, count }) => {
+                let level = u8::from(wp);
+                write!(f, "frame {level} {tail} {count}")
+            }
+            Some(Line::Wait(us)) => write!(f, "wait {us}"),
+            Some(Line::Power) => write!(f, "power"),
+            None => write!(f, "bad"),
         }
-        Line::Wait(us) => {
-            say(rt, b"wait ");
-            say_number(rt, us as u64);
+    }
+}
+
+impl Said {
+    fn answer(self) -> u32 {
+        if self.0.is_some() { 0 } else { 20 }
+    }
+
+    fn position(self) -> u32 {
+        match self.0 {
+            Some(Line::Frame { tail, .. }) => u32::from(tail),
+            _ => 0,
         }
-        Line::Power => say(rt, b"power"),
-        Line::Bad => say(rt, b"bad"),
     }
-    say(rt, b"\n");
-}
 
-fn answer(line: Line) -> u32 {
-    match line {
-        Line::Frame { .. } => 0,
-        Line::Wait(_) => 0,
-        Line::Power => 0,
-        Line::Bad => 20,
+    // A frame with WP# high is noted as folded, so that both notes are put.
+    fn noted(self) -> bool {
+        matches!(self.0, Some(Line::Frame { wp: true, .. }))
     }
-}
 
-fn position(line: Line) -> u32 {
-    match line {
-        Line::Frame {
-            wp: _,
-            tail,
-            count: _,
-        } => tail as u32,
-        Line::Wait(_) => 0,
-        Line::Power => 0,
-        Line::Bad => 0,
+    // The bytes of a frame's line, at the start of bytes; none of any other.
+    fn driven<'a>(self, text: &[u8], bytes: &'a mut [u8]) -> &'a [u8] {
+        match self.0 {
+            Some(Line::Frame { .. }) => {
+                let n = script::frame_bytes(text, bytes);
+                &bytes[..n]
+            }
+            _ => &[],
+        }
     }
 }
 
-// A frame with WP# high is noted as folded, so that both notes are put.
-fn noted(line: Line) -> bool {
-    match line {
-        Line::Frame {
-            wp,
-            tail: _,
-            count: _,
-        } => wp,
-        Line::Wait(_) => false,
-        Line::Power => false,
-        Line::Bad => false,
-    }
-}
-
-// The bytes of a frame's line, at the start of bytes; none of any other.
-fn driven(line: Line, text: &[u8], bytes: &mut [u8]) -> usize {
-    match line {
-        Line::Frame { .. } => script::frame_bytes(text, bytes),
-        Line::Wait(_) => 0,
-        Line::Power => 0,
-        Line::Bad => 0,
-    }
-}
-
-// The row of a line that drives the first n of bytes.
-fn put(number: u64, line: Line, bytes: &[u8], n: usize, out: &mut [u8]) -> usize {
-    if n <= bytes.len() {
-        script_log::put_row(
-            number,
-            answer(line),
-            position(line),
-            &bytes[0..n],
-            noted(line),
-            out,
-            0,
-        )
-    } else {
-        0
+// Writes the first bytes of a buffer, up to its text's end.
+fn flush(rt: &impl Print, out: &[u8], end: usize) {
+    if let Some(text) = out.get(..end) {
+        let _ = rt.write_all(text);
     }
 }
 
 // One line of the script.
 fn line_done(rt: &impl Print, number: u64, text: &[u8]) {
-    let line = script::read_line(text);
+    let said = Said(script::read_line(text));
     let mut bytes = [0u8; 300];
-    let n = driven(line, text, &mut bytes);
+    let driven = said.driven(text, &mut bytes);
     let mut out = [0u8; 1024];
-    let end = put(number, line, &bytes, n, &mut out);
+    let end = script_log::put_row(
+        number,
+        said.answer(),
+        said.position(),
+        driven,
+        said.noted(),
+        &mut out,
+        0,
+    );
     flush(rt, &out, end);
-    show(rt, line);
-}
-
-// The line whose first n bytes are held.
-fn held_done(rt: &impl Print, number: u64, held: &[u8], n: usize) {
-    if n <= held.len() {
-        line_done(rt, number, &held[0..n]);
-    }
+    let _ = println!(rt; "{said}");
 }
 
 // What goes on from block to block: the number of the next line, and how many bytes of it are held.
@@ -138,17 +93,20 @@ fn feed(rt: &impl Print, run: Run, block: &[u8], held: &mut [u8]) -> Run {
     let mut number = run.number;
     let mut used = run.used;
     let mut at = 0;
+    // No iterator: how far a turn goes is what the cut says.
     while at < block.len() {
         match lines::cut_line(held, used, block, at) {
             Cut::Here { end } => {
                 line_done(rt, number, &block[at..end]);
-                number = std::num::wrapping_add_u64(number, 1);
+                number = number.wrapping_add(1);
                 used = 0;
                 at = end + 1;
             }
             Cut::Joined { used: n, end } => {
-                held_done(rt, number, held, n);
-                number = std::num::wrapping_add_u64(number, 1);
+                if let Some(line) = held.get(..n) {
+                    line_done(rt, number, line);
+                }
+                number = number.wrapping_add(1);
                 used = 0;
                 at = end + 1;
             }
@@ -161,52 +119,37 @@ fn feed(rt: &impl Print, run: Run, block: &[u8], held: &mut [u8]) -> Run {
     Run { number, used }
 }
 
-#[derive(Clone, Copy)]
-struct Turn {
-    run: Run,
-    on: bool,
-}
-
-// Reads a block and does its lines; whether to go on.
+// Reads a block and does its lines; None where the input has ended.
 fn read_block(
     rt: &impl Print,
     input: &mut impl Read,
     run: Run,
     block: &mut [u8],
     held: &mut [u8],
-) -> Turn {
+) -> Option<Run> {
     match input.read(block) {
-        Ok(n) if n > 0 => Turn {
-            run: feed(rt, run, &block[0..n], held),
-            on: true,
-        },
-        _ => Turn { run, on: false },
+        Ok(n) if n > 0 => Some(feed(rt, run, &block[..n], held)),
+        _ => None,
     }
-}
-
-// One turn less; none where the input has ended.
-fn turns_left(turns: u64, on: bool) -> u64
-    requires { 0 < turns }
-    ensures { result < turns }
-{
-    if on { turns - 1 } else { 0 }
 }
 
 // The last line may lack its newline.
 fn finish(rt: &impl Print, run: Run, held: &[u8]) {
     if run.used > 0 {
-        held_done(rt, run.number, held, run.used);
+        if let Some(line) = held.get(..run.used) {
+            line_done(rt, run.number, line);
+        }
     }
 }
 
 // Block after block.
 fn run_all(rt: &impl Print, input: &mut impl Read, block: &mut [u8], held: &mut [u8]) {
     let mut run = Run { number: 1, used: 0 };
-    let mut turns = u64::MAX;
-    while turns > 0 {
-        let next = read_block(rt, input, run, block, held);
-        run = next.run;
-        turns = turns_left(turns, next.on);
+    for _ in 0..u64::MAX {
+        let Some(next) = read_block(rt, input, run, block, held) else {
+            break;
+        };
+        run = next;
     }
     finish(rt, run, held);
 }

@@ -13,60 +13,30 @@ const ADDRESSES: [u32; 14] = [
     0x03FFFF, 0x040000, 0x05ABCD, 0xFFFFFF, 0xFFFFFFFF,
 ];
 
-fn say(rt: &impl Print, text: &[u8]) {
-    let _ = rt.write_all(text);
-}
-
-fn say_number(rt: &impl Print, n: u64) {
-    let _ = rt.print(n);
-}
-
-// An address, in six hex digits or more.
-fn say_address(rt: &impl Print, address: u32) {
-    let _ = print!(rt; "{address:06x}");
-}
-
-// The cells in hex; a view has at most 256.
-fn say_cells(rt: &impl Print, cells: &[u8]) {
-    let mut digits = [0u8; 512];
-    if cells.len() <= 256 {
-        let n = text::put_hex(cells, &mut digits, 0);
-        if n <= 512 {
-            say(rt, &digits[0..n]);
-        }
-    }
-}
-
+// An address in six hex digits or more; the cells in two each.
 fn say_view(rt: &impl Print, array: &[u8], address: u32) {
     let page = flash::page_view(array, Address(address));
-    say_number(rt, array.len() as u64);
-    say(rt, b"\t");
-    say_address(rt, address);
-    say(rt, b"\t");
-    say_number(rt, page.len() as u64);
-    say(rt, b"\t");
-    say_cells(rt, page);
-    say(rt, b"\n");
+    let (length, view) = (array.len(), page.len());
+    let _ = print!(rt; "{length}\t{address:06x}\t{view}\t");
+    for cell in page {
+        let _ = print!(rt; "{cell:02X}");
+    }
+    let _ = println!(rt; "");
 }
 
 // The views of one array.
 fn say_views(rt: &impl Print, array: &[u8]) {
-    let mut i = 0;
-    while i < 14 {
-        say_view(rt, array, ADDRESSES[i]);
-        i += 1;
+    for address in ADDRESSES {
+        say_view(rt, array, address);
     }
 }
 
 // An array of each length: the first cells of a larger one.
 fn say_lengths(rt: &impl Print, cells: &[u8]) {
-    let mut i = 0;
-    while i < 8 {
-        let n = LENGTHS[i];
-        if n <= cells.len() {
-            say_views(rt, &cells[0..n]);
+    for length in LENGTHS {
+        if let Some(array) = cells.get(..length) {
+            say_views(rt, array);
         }
-        i += 1;
     }
 }
 
@@ -76,16 +46,14 @@ fn cell_of(i: usize) -> u8 {
 }
 
 fn number_cells(cells: &mut [u8]) {
-    let mut i = 0;
-    while i < cells.len() {
-        cells[i] = cell_of(i);
-        i += 1;
+    for (i, cell) in cells.iter_mut().enumerate() {
+        *cell = cell_of(i);
     }
 }
 
 fn main(rt: HostRuntime) {
     let mut cells = [0u8; 262144];
     number_cells(&mut cells);
-    say(&rt, b"length\taddress\tcells\tview\n");
+    let _ = println!(rt; "length\taddress\tcells\tview");
     say_lengths(&rt, &cells);
 }

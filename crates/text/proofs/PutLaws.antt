@@ -4,7 +4,7 @@ use mathlib.Core.List.{List, [], ◌∷◌, ◌++◌}
 use Prim.Native.Nat.{ℕ, ◌+◌, ◌-◌, ◌≤◌, ◌<◌}
 use native.Mathlib.Nat.{add-zero}
 use native.Mathlib.Omega.{arith}
-use lib.ListN.{length, set, length-append}
+use lib.ListN.{length, set, replicate, length-append, length-replicate}
 use borrow.Rule.Slice.PartMut.{put_mid}
 use Rattle.parts.specs.Parts.{lay}
 use Rattle.parts.proofs.Lay.{lay-none, lay-one, lay-next, length-lay, put_back}
@@ -17,10 +17,16 @@ pub put_one : (b : ℕ) (d : List ℕ) (at : ℕ) → at < length d → Put (b �
 put_one b d at l = record { room = omega arith; is = lay-one d at b l; next = refl }
 
 -- a part of the buffer that was lent, and came back as the text
-pub put-part : (text d e : List ℕ) (at : ℕ) → at + length text ≤ length d → e ≡ text → Put text d at (put_mid at (at + length text - at) d e) (at + length text)
-put-part text d e at l h =
+pub put_part : (text d e : List ℕ) (at : ℕ) → at + length text ≤ length d → e ≡ text → Put text d at (put_mid at (at + length text - at) d e) (at + length text)
+put_part text d e at l h =
     let n : length e ≡ at + length text - at = ap length h ∙ omega arith in
     record { room = l; is = put_back at (at + length text) d e (omega arith) n ∙ ap (lay d at) h; next = refl }
+
+-- or was filled with one byte
+pub put_run : (b n : ℕ) (d e : List ℕ) (at : ℕ) → at + n ≤ length d → e ≡ replicate n b → Put (replicate n b) d at (put_mid at (at + n - at) d e) (at + n)
+put_run b n d e at l h =
+    let z : length (replicate n b) ≡ n = length-replicate n b in
+    subst (λ (k : ℕ). Put (replicate n b) d at (put_mid at (at + k - at) d e) (at + k)) z (put_part (replicate n b) d e at (omega arith) h)
 
 -- the buffer keeps its length
 pub put_same : {ys d : List ℕ} {at : ℕ} {e : List ℕ} {r : ℕ} → Put ys d at e r → length e ≡ length d
@@ -42,10 +48,6 @@ put_then {ys} {zs} {d} {at} {e} {m} {f} {r} p q =
 -- the same text in other words
 pub put_as : {ys zs d : List ℕ} {at : ℕ} {e : List ℕ} {r : ℕ} → Put ys d at e r → ys ≡ zs → Put zs d at e r
 put_as {ys} {zs} {d} {at} {e} {r} p h = subst (λ (z : List ℕ). Put z d at e r) h p
-
--- the same place in other words
-pub put-to : {ys d : List ℕ} {at : ℕ} {e : List ℕ} {r q : ℕ} → Put ys d at e r → r ≡ q → Put ys d at e q
-put-to {ys} {d} {at} {e} {r} {q} p h = record { room = p.room; is = p.is; next = sym h ∙ p.next }
 
 pub one-put : OnePut
 one-put text d at e e' r r' p q = (p.is ∙ sym q.is, p.next ∙ sym q.next)

@@ -1,15 +1,14 @@
 -- Waiting, power cycles and cuts of the power: 01, "Commands", last paragraphs, and Req 05.
-use Rattle.std.specs.Prelude.{Bool, false, not, ◌&&◌, ◌||◌, cond, List, [], ◌∷◌, ◌++◌, ℕ, ◌-◌, ◌*◌, ◌/◌, ◌%◌, eqb, ltb, length}
-use Rattle.answers.specs.Answers.{is_done}
-use Rattle.answers.specs.declared.Answer.{Answer}
-use Rattle.answers.specs.declared.Answer.TheVariants.{Busy, BadPattern}
+use Rattle.std.specs.Prelude.{Result, Ok, Err, Bool, false, not, ◌&&◌, ◌||◌, cond, List, [], ◌∷◌, ◌++◌, ℕ, ◌-◌, ◌*◌, ◌/◌, ◌%◌, eqb, ltb, length}
+use Rattle.answers.specs.Answers.{Answer, Done, is_done}
+use Rattle.answers.specs.declared.Refusal.TheVariants.{BadState, Busy, BadPattern}
 use Rattle.answers.specs.Tables.{Rung, ◌gives◌, first_of}
 use Rattle.ladder.specs.Ladder.{absent, sized, call_rows}
 use Rattle.states.specs.States.{state_ok, page_ok, no_command, no_address, Chip, chip_of}
 use Rattle.states.specs.declared.Record.{Record}
 use Rattle.states.specs.declared.State.{State}
 use Rattle.operations.specs.Operations.{runs, pattern_length, finished, torn_chip}
-use Rattle.time.specs.declared.After.{After}
+use Rattle.answers.specs.declared.Refusal.{Refusal}
 
 -- ---- what time and power do to a chip
 -- the busy time and what is left to settle fall, never below 0
@@ -39,6 +38,10 @@ cut_off n x pattern = let y : Chip = torn_chip n x pattern in chip_of (cycled y.
 abbrev pub chip_rows : Record → Chip → List Rung
 chip_rows rec x = call_rows rec (sized (length x.cells)) absent (state_ok rec x.state && page_ok rec.model x.state x.page)
 
+-- the last of them, under a right record and a whole array
+abbrev pub fit_refusal : Record → State → List ℕ → Answer
+fit_refusal rec s page = cond (not (state_ok rec s && page_ok rec.model s page)) (Err BadState) Done
+
 unfoldable pub chip_refusal : Record → Chip → Answer
 chip_refusal rec x = first_of (chip_rows rec x)
 
@@ -57,6 +60,11 @@ unfoldable pub cut_refusal : Record → Chip → List ℕ → Answer
 cut_refusal rec x pattern = first_of (chip_rows rec x ++ pattern_rows rec x pattern)
 
 -- ---- the calls
+-- what a function returns: a value where nothing is refused, and the refusal alone where something is
+abbrev pub told : {T : Type 0} → Answer → T → Result T Refusal
+told (Ok x) v = Ok v
+told (Err r) v = Err r
+
 -- what comes of a wait or a cut: the answer and the chip, which a refusal leaves as it was
 pub record Aftermath : Type 0 where
   pub answer : Answer
@@ -71,9 +79,16 @@ wait_of rec x us = unless (chip_refusal rec x) x (waited rec.model x us)
 unfoldable pub power_cut_of : Record → Chip → List ℕ → Aftermath
 power_cut_of rec x pattern = unless (cut_refusal rec x pattern) x (cut_off rec.model x pattern)
 
--- what a function returns
+-- what comes of a power cycle: the answer, and the state, which a refusal leaves as it was
+pub record After : Type 0 where
+  pub answer : Answer
+  pub state : State
+
 abbrev pub after_of : Answer → State → After
 after_of a s = record { answer = a; state = s }
+
+abbrev pub ended : After → Result State Refusal
+ended m = told m.answer m.state
 
 -- a power cycle leaves page data and array alone
 unfoldable pub power_of : Record → State → List ℕ → After

@@ -1,26 +1,41 @@
 // The numbers of the sheets as kinds of their own: addresses, sectors, half blocks and blocks, and addresses of the SFDP table.
 #![tactic(auto)]
 
-ghost use Rattle.std.specs.Prelude.{◌≡◌, ◌<◌};
+ghost use Rattle.std.specs.Prelude.{◌≡◌, ◌<◌, ℕ};
 ghost use Rattle.units.specs.Kinds.{sector_of, half_block_of, block_of, page_start, page_offset, block_of_sector, block_of_half, first_of_half, first_of_block, sector_start, half_block_start, block_start, sfdp_address};
 
 // A byte address, the numbers of a sector, of a half block of 32 KiB and of a block, and an address of the SFDP table: five kinds, so that none passes for another.
-#[derive(Clone, Copy)]
+#[derive(Clone, Copy, PartialEq, Eq)]
 pub struct Address(pub u32);
 
-#[derive(Clone, Copy)]
+#[derive(Clone, Copy, PartialEq, Eq)]
 pub struct Sector(pub u32);
 
-#[derive(Clone, Copy)]
+#[derive(Clone, Copy, PartialEq, Eq)]
 pub struct HalfBlock(pub u32);
 
-#[derive(Clone, Copy)]
+#[derive(Clone, Copy, PartialEq, Eq)]
 pub struct Block(pub u32);
 
-#[derive(Clone, Copy)]
+#[derive(Clone, Copy, PartialEq, Eq)]
 pub struct SfdpAddress(pub u32);
 
+// What an erase makes FF: so many bytes, from its first address on.
+pub trait EraseUnit: Copy {
+    ghost SIZE: { ℕ };
+
+    const SIZE: u32;
+
+    ghost start: { Self → ℕ };
+
+    // The unit's number is one of a 32-bit address.
+    fn first_address(self) -> Address
+        requires { start self < 4294967296 }
+        ensures { result.0 ≡ start self };
+}
+
 impl Address {
+    // Three methods, and no `From`: a call says which unit it means.
     // The sector that holds the address.
     pub fn in_sector(self) -> Sector
         ensures { result ≡ sector_of self }
@@ -64,12 +79,16 @@ impl Sector {
     {
         Block(self.0 / 16)
     }
+}
 
-    // Sectors of 32-bit addresses are below 1,048,576.
-    pub fn first_address(self) -> Address
-        requires { self.0 < 1048576 }
-        ensures { result.0 ≡ sector_start self }
-    {
+impl EraseUnit for Sector {
+    ghost SIZE = { 4096 };
+
+    const SIZE: u32 = 4096;
+
+    ghost start = { sector_start };
+
+    fn first_address(self) -> Address {
         Address(self.0 * 4096)
     }
 }
@@ -89,12 +108,16 @@ impl HalfBlock {
     {
         Sector(8 * self.0)
     }
+}
 
-    // Half blocks of 32-bit addresses are below 131,072.
-    pub fn first_address(self) -> Address
-        requires { self.0 < 131072 }
-        ensures { result.0 ≡ half_block_start self }
-    {
+impl EraseUnit for HalfBlock {
+    ghost SIZE = { 32768 };
+
+    const SIZE: u32 = 32768;
+
+    ghost start = { half_block_start };
+
+    fn first_address(self) -> Address {
         Address(self.0 * 32768)
     }
 }
@@ -107,12 +130,16 @@ impl Block {
     {
         Sector(16 * self.0)
     }
+}
 
-    // Blocks of 32-bit addresses are below 65,536.
-    pub fn first_address(self) -> Address
-        requires { self.0 < 65536 }
-        ensures { result.0 ≡ block_start self }
-    {
+impl EraseUnit for Block {
+    ghost SIZE = { 65536 };
+
+    const SIZE: u32 = 65536;
+
+    ghost start = { block_start };
+
+    fn first_address(self) -> Address {
         Address(self.0 * 65536)
     }
 }
@@ -122,6 +149,6 @@ impl SfdpAddress {
     pub fn sent(high: u8, middle: u8, low: u8) -> SfdpAddress
         ensures { result ≡ sfdp_address high middle low }
     {
-        SfdpAddress(high as u32 * 65536 + (middle as u32 * 256 + low as u32))
+        SfdpAddress(u32::from(high) * 65536 + (u32::from(middle) * 256 + u32::from(low)))
     }
 }

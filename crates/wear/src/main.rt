@@ -3,6 +3,8 @@
 // fails there is no sheet.
 #![tactic(auto)]
 
+use play::Bench;
+
 fn main(rt: HostRuntime) {
     let wish = words::asked(&rt);
     if words::answered(
@@ -23,12 +25,19 @@ is refused.
     ) {
         return;
     }
-    let strict = words::is_strict(wish);
     let mut page = [0xFFu8; 256];
     let mut array = [0xFFu8; 65536];
     let mut wear = [0u32; 16];
-    let rec = states::bench_kh25l512();
-    if input::play_input(&rt, rec, strict, &mut page, &mut array, &mut wear, false) {
+    // The bench is made here, since page data, array and wear table are this function's own.
+    let mut bench = Bench {
+        rec: states::bench_kh25l512(),
+        strict: words::is_strict(wish),
+        state: states::power_on(),
+        page: &mut page,
+        array: &mut array,
+        wear: &mut wear,
+    };
+    if input::play_input(&rt, &mut bench, false) {
         let mut sheet = [0u8; 65536];
         let end = wear_rows::put_sheet(&wear, &mut sheet, 0);
         input::write_first(&rt, &sheet, end);

@@ -5,7 +5,7 @@ use Rattle.text.specs.Text.{ascii, newline, decimal_text}
 use Rattle.units.specs.declared.Sector.{Sector}
 use Rattle.models.specs.Models.{is_sectors}
 use Rattle.counts.specs.declared.Figures.{Figures}
-use Rattle.counts.specs.Counts.{sector_at, largest_of, report_of}
+use Rattle.counts.specs.Counts.{sector_at, largest_of, figures_of}
 
 -- ---- bars
 -- the most marks that a bar has
@@ -52,7 +52,7 @@ mean_text f n = ascii "\nmean " ++ decimal_text f.mean ++ ascii " and " ++ decim
 unfoldable pub sheet_text : List ℕ → List ℕ
 sheet_text wear =
     cond (is_sectors (length wear))
-    (heading_text ++ sectors_text (largest_of wear) 0 wear ++ sums_text (report_of wear) ++ mean_text (report_of wear) (length wear))
+    (heading_text ++ sectors_text (largest_of wear) 0 wear ++ sums_text (figures_of wear) ++ mean_text (figures_of wear) (length wear))
     []
 
 -- the most bytes that a sector's line takes, and the sheet of n sectors

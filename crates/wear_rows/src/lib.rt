@@ -2,7 +2,7 @@
 // the report. A sheet that would not fit is not begun.
 #![tactic(auto)]
 
-ghost use Rattle.std.specs.Prelude.{◌≡◌, ◌++◌, ◌+◌, ◌-◌, ◌*◌, ◌≤◌, leb, length, replicate};
+ghost use Rattle.std.specs.Prelude.{◌≡◌, ◌++◌, ◌+◌, ◌*◌, ◌≤◌, leb, length};
 ghost use Rattle.text.specs.Text.{decimal_text};
 ghost use Rattle.text.specs.Put.{Put};
 ghost use Rattle.script_log.specs.Row.{Rowed};
@@ -10,36 +10,23 @@ ghost use Rattle.counts.specs.Counts.{largest_of};
 ghost use Rattle.wear_rows.specs.WearSheet.{marks_of, bar_text, right_text, sector_text, sectors_text, sums_text, mean_text, sheet_text, longest_bar, longest_line_of, sheet_room};
 
 use counts::Figures;
+use text::Sheet;
 use units::Sector;
 
 // ---- parts of a line
 
-// One byte n times.
-fn put_run(byte: u8, n: usize, out: &mut [u8], at: usize) -> usize
-    requires { at + n ≤ length out.old }
-    ensures { Put (replicate n byte) out.old at out.new result }
-{
-    let next = at + n;
-    parts::fill_part(out, at, next, byte);
-    next
-}
-
-// What is left of so many columns.
-fn left_of(width: usize, used: usize) -> usize
-    ensures { result ≡ width - used }
-{
-    if used < width { width - used } else { 0 }
-}
-
 // A number at the right end of so many columns.
-fn put_right(width: usize, n: u64, out: &mut [u8], at: usize) -> usize
-    requires { at + width + 20 ≤ length out.old }
-    ensures { Put (right_text width n) out.old at out.new result × (result ≤ at + width + 20) }
+fn put_right(width: usize, n: u64, sheet: &mut Sheet)
+    requires { sheet.old.at + width + 20 ≤ length sheet.old.out.now }
+    ensures same_buffer { sheet.new.out.ghost_name ≡ sheet.old.out.ghost_name }
+    ensures same_length { length sheet.new.out.now ≡ length sheet.old.out.now }
+    ensures put { Put (right_text width n) sheet.old.out.now sheet.old.at sheet.new.out.now sheet.new.at }
+    ensures most { sheet.new.at ≤ sheet.old.at + width + 20 }
 {
-    let mut digits = [0u8; 20];
-    let used = text::put_number(n, &mut digits, 0);
-    let next = put_run(b' ', left_of(width, used), out, at);
-    text::put_all(&digits[0..used], out, next)
+    let mut room = [0; 20];
+    let digits = text::digits(n, &mut room);
+    sheet.run(b' ', width.saturating_sub(digits.len()));
+    sheet.text(digits);
 }
 
 // How many marks the bar of a count has.
@@ -56,71 +43,84 @@ fn marks_of(largest: u32, count: u32) -> usize
     if marks == 0 { 1 } else { marks }
 }
 
-fn put_bar(marks: usize, out: &mut [u8], at: usize) -> usize
-    requires { at + marks + 2 ≤ length out.old }
-    ensures { Put (bar_text marks) out.old at out.new result × (result ≤ at + marks + 2) }
+fn put_bar(marks: usize, sheet: &mut Sheet)
+    requires { sheet.old.at + marks + 2 ≤ length sheet.old.out.now }
+    ensures same_buffer { sheet.new.out.ghost_name ≡ sheet.old.out.ghost_name }
+    ensures same_length { length sheet.new.out.now ≡ length sheet.old.out.now }
+    ensures put { Put (bar_text marks) sheet.old.out.now sheet.old.at sheet.new.out.now sheet.new.at }
+    ensures most { sheet.new.at ≤ sheet.old.at + marks + 2 }
 {
     if marks == 0 {
-        return at;
+        return;
     }
-    let next = text::put_all(b"  ", out, at);
-    put_run(b'#', marks, out, next)
+    sheet.text(b"  ");
+    sheet.run(b'#', marks);
 }
 
 // ---- lines
 
-fn put_sector(largest: u32, sector: Sector, count: u32, out: &mut [u8], at: usize) -> usize
-    requires { (count ≤ largest) × (at + longest_line_of ≤ length out.old) }
-    ensures { Put (sector_text largest sector count) out.old at out.new result × (result ≤ at + longest_line_of) }
+fn put_sector(largest: u32, sector: Sector, count: u32, sheet: &mut Sheet)
+    requires { (count ≤ largest) × (sheet.old.at + longest_line_of ≤ length sheet.old.out.now) }
+    ensures same_buffer { sheet.new.out.ghost_name ≡ sheet.old.out.ghost_name }
+    ensures same_length { length sheet.new.out.now ≡ length sheet.old.out.now }
+    ensures put { Put (sector_text largest sector count) sheet.old.out.now sheet.old.at sheet.new.out.now sheet.new.at }
+    ensures most { sheet.new.at ≤ sheet.old.at + longest_line_of }
 {
-    let a = put_right(6, sector.0 as u64, out, at);
-    let b = put_right(12, count as u64, out, a);
-    let c = put_bar(marks_of(largest, count), out, b);
-    text::put_byte(b'\n', out, c)
+    put_right(6, u64::from(sector.0), sheet);
+    put_right(12, u64::from(count), sheet);
+    put_bar(marks_of(largest, count), sheet);
+    sheet.byte(b'\n');
 }
 
-fn put_sectors(wear: &[u32], largest: u32, out: &mut [u8], at: usize) -> usize
-    requires { (largest ≡ largest_of wear.now) × (length wear.now ≤ 4096) × (at + longest_line_of * length wear.now ≤ length out.old) }
-    ensures { Put (sectors_text largest 0 wear.now) out.old at out.new result × (result ≤ at + longest_line_of * length wear.now) }
+fn put_sectors(wear: &[u32], largest: u32, sheet: &mut Sheet)
+    requires { (largest ≡ largest_of wear.now) × (length wear.now ≤ 4096) × (sheet.old.at + longest_line_of * length wear.now ≤ length sheet.old.out.now) }
+    ensures same_buffer { sheet.new.out.ghost_name ≡ sheet.old.out.ghost_name }
+    ensures same_length { length sheet.new.out.now ≡ length sheet.old.out.now }
+    ensures put { Put (sectors_text largest 0 wear.now) sheet.old.out.now sheet.old.at sheet.new.out.now sheet.new.at }
+    ensures most { sheet.new.at ≤ sheet.old.at + longest_line_of * length wear.now }
 {
-    let mut next = at;
-    let mut k = 0;
-    while k < wear.len() {
-        next = put_sector(largest, Sector(k as u32), wear[k], out, next);
-        k += 1;
+    // An index: the line begins with it, as the sector's number.
+    for k in 0..wear.len() {
+        put_sector(largest, Sector(k as u32), wear[k], sheet);
     }
-    next
 }
 
 // Words, and a number after them.
-fn put_said(words: &[u8], n: u64, out: &mut [u8], at: usize) -> usize
-    requires { at + length words.now + 20 ≤ length out.old }
-    ensures { Put (words.now ++ decimal_text n) out.old at out.new result × (result ≤ at + length words.now + 20) }
+fn put_said(words: &[u8], n: u64, sheet: &mut Sheet)
+    requires { sheet.old.at + length words.now + 20 ≤ length sheet.old.out.now }
+    ensures same_buffer { sheet.new.out.ghost_name ≡ sheet.old.out.ghost_name }
+    ensures same_length { length sheet.new.out.now ≡ length sheet.old.out.now }
+    ensures put { Put (words.now ++ decimal_text n) sheet.old.out.now sheet.old.at sheet.new.out.now sheet.new.at }
+    ensures most { sheet.new.at ≤ sheet.old.at + length words.now + 20 }
 {
-    let next = text::put_all(words, out, at);
-    text::put_number(n, out, next)
+    sheet.text(words);
+    sheet.number(n);
 }
 
-fn put_sums(f: Figures, out: &mut [u8], at: usize) -> usize
-    requires { at + 123 ≤ length out.old }
-    ensures { Put (sums_text f) out.old at out.new result × (result ≤ at + 123) }
+fn put_sums(f: Figures, sheet: &mut Sheet)
+    requires { sheet.old.at + 123 ≤ length sheet.old.out.now }
+    ensures same_buffer { sheet.new.out.ghost_name ≡ sheet.old.out.ghost_name }
+    ensures same_length { length sheet.new.out.now ≡ length sheet.old.out.now }
+    ensures put { Put (sums_text f) sheet.old.out.now sheet.old.at sheet.new.out.now sheet.new.at }
+    ensures most { sheet.new.at ≤ sheet.old.at + 123 }
 {
-    let a = put_said(b"total ", f.total, out, at);
-    let b = put_said(b"\nsmallest ", f.smallest as u64, out, a);
-    let c = put_said(b"\nlargest ", f.largest as u64, out, b);
-    let first = f.sector;
-    put_said(b", first in sector ", first.0 as u64, out, c)
+    put_said(b"total ", f.total, sheet);
+    put_said(b"\nsmallest ", u64::from(f.smallest), sheet);
+    put_said(b"\nlargest ", u64::from(f.largest), sheet);
+    put_said(b", first in sector ", u64::from(f.sector.0), sheet);
 }
 
 // The mean of n counts.
-fn put_mean(f: Figures, n: u64, out: &mut [u8], at: usize) -> usize
-    requires { at + 73 ≤ length out.old }
-    ensures { Put (mean_text f n) out.old at out.new result }
+fn put_mean(f: Figures, n: u64, sheet: &mut Sheet)
+    requires { sheet.old.at + 73 ≤ length sheet.old.out.now }
+    ensures same_buffer { sheet.new.out.ghost_name ≡ sheet.old.out.ghost_name }
+    ensures same_length { length sheet.new.out.now ≡ length sheet.old.out.now }
+    ensures put { Put (mean_text f n) sheet.old.out.now sheet.old.at sheet.new.out.now sheet.new.at }
 {
-    let a = put_said(b"\nmean ", f.mean as u64, out, at);
-    let b = put_said(b" and ", f.remainder as u64, out, a);
-    let c = put_said(b"/", n, out, b);
-    text::put_byte(b'\n', out, c)
+    put_said(b"\nmean ", u64::from(f.mean), sheet);
+    put_said(b" and ", u64::from(f.remainder), sheet);
+    put_said(b"/", n, sheet);
+    sheet.byte(b'\n');
 }
 
 // ---- the sheet
@@ -142,19 +142,16 @@ pub fn put_sheet(wear: &[u32], out: &mut [u8], at: usize) -> usize
     ensures { Rowed (sheet_room (length wear.now)) (sheet_text wear.now) out.old at out.new result }
 {
     let n = wear.len();
-    if !models::is_sectors(n) {
+    let Ok(figures) = counts::report(wear) else {
         return at;
-    }
+    };
     if !fits(at, n, out.len()) {
         return at;
     }
-    let figures = counts::report(wear);
-    let a = text::put_all(
-        b"Wear sheet: erases of each sector\nsector      erases\n",
-        out,
-        at,
-    );
-    let b = put_sectors(wear, figures.largest, out, a);
-    let c = put_sums(figures, out, b);
-    put_mean(figures, n as u64, out, c)
+    let mut sheet = Sheet::new(out, at);
+    sheet.text(b"Wear sheet: erases of each sector\nsector      erases\n");
+    put_sectors(wear, figures.largest, &mut sheet);
+    put_sums(figures, &mut sheet);
+    put_mean(figures, n as u64, &mut sheet);
+    sheet.end()
 }

@@ -4,35 +4,18 @@
 mod failing;
 
 ghost use Rattle.std.specs.Prelude.{◌≡◌};
-ghost use Rattle.words.specs.Words.{same_text, wish_of, is_strict, without_strict, asks_no_run};
+ghost use Rattle.words.specs.Words.{wish_of, is_strict, without_strict, asks_no_run};
 
 pub use failing::fail;
 use std::env::{Env, FillError};
 
 // What they ask for: a run, with the strict setting off or on, or how the program is used; or nothing that it knows.
-#[derive(Clone, Copy)]
+#[derive(Clone, Copy, PartialEq, Eq)]
 pub enum Wish {
     Run,
     Strict,
     Help,
     Unknown,
-}
-
-// Whether two texts are the same.
-fn is_same(text: &[u8], other: &[u8]) -> bool
-    ensures { result ≡ same_text text.now other.now }
-{
-    if text.len() != other.len() {
-        return false;
-    }
-    let mut i = 0;
-    while i < text.len() {
-        if text[i] != other[i] {
-            return false;
-        }
-        i += 1;
-    }
-    true
 }
 
 // What is asked for by so many words, the program's own name among them, if the next one is this and was read whole.
@@ -43,10 +26,10 @@ fn wish_of(count: usize, whole: bool, word: &[u8]) -> Wish
         return Wish::Run;
     }
     let alone = (count == 2) & whole;
-    if alone & is_same(word, b"strict") {
+    if alone & (word == b"strict".as_slice()) {
         return Wish::Strict;
     }
-    if alone & is_same(word, b"--help") {
+    if alone & (word == b"--help".as_slice()) {
         return Wish::Help;
     }
     Wish::Unknown
@@ -76,12 +59,7 @@ pub fn asked(env: &impl Env) -> Wish {
 pub fn is_strict(wish: Wish) -> bool
     ensures { result ≡ is_strict wish }
 {
-    match wish {
-        Wish::Run => false,
-        Wish::Strict => true,
-        Wish::Help => false,
-        Wish::Unknown => false,
-    }
+    wish == Wish::Strict
 }
 
 // The same of a program that has no strict setting: it does not know that word.
@@ -89,10 +67,8 @@ pub fn without_strict(wish: Wish) -> Wish
     ensures { result ≡ without_strict wish }
 {
     match wish {
-        Wish::Run => Wish::Run,
         Wish::Strict => Wish::Unknown,
-        Wish::Help => Wish::Help,
-        Wish::Unknown => Wish::Unknown,
+        other => other,
     }
 }
 

@@ -1,23 +1,14 @@
--- `cells::tear_into` meets its contract: the cells below k are done.
-use mathlib.Core.Path.{refl}
-use Prim.Native.Nat.{◌<◌}
 use native.Mathlib.Omega.{arith}
-use lib.ListN.{length}
-use borrow.Author.Rules.{rules}
 use Rattle.cells.specs.Cell.{torn_cells}
 use Rattle.parts.proofs.Loop.{done_none, done-step, done_all}
 use Rattle.cells.proofs.tear_into.Goals as goal
 
+pub loop-k-init : goal.loop-k-init
+loop-k-init c = done_none _ _
+
 pub loop-k-preserved : goal.loop-k-preserved
-loop-k-preserved c =
-    let h = c.loop-k in
-    let l : h.k < length c.args.cells.now = omega arith in
-    (omega arith, search rules, search rules, search rules, done-step _ _ _ _ _ h.invariant.4 l c.torn.ensures)
+loop-k-preserved c = done-step _ _ _ _ _ c.loop-k.invariant (omega arith) c.torn.ensures
 
 pub returns : goal.returns
 unfolding torn_cells
-returns c = done_all _ _ _ _ c.loop-k.invariant.4 (omega arith)
-
-pub loop-k-init : goal.loop-k-init
-loop-k-init c =
-    (omega arith, refl, search rules, search rules, done_none _ _)
+returns c = done_all _ _ _ _ c.loop-k.invariant (omega arith)

@@ -1,13 +1,10 @@
--- `cells::tear_into` meets its contract: the cells below k are done.
-use mathlib.Core.Path.{◌≡◌}
-use Prim.Native.Nat.{ℕ, ◌≤◌}
-use lib.Bits.{bit_and}
-use lib.ListN.{length, get_or}
-use Rattle.cells.specs.Cell.{torn}
+-- The cells below k are done.
+use Prim.Native.Nat.{ℕ}
+use lib.ListN.{get_or}
+use Rattle.cells.specs.Cell.{programmed_cell, torn}
 use Rattle.parts.proofs.Loop.{Done}
 use Rattle.cells.proofs.tear_into.Given as goal
 
 abbrev pub invariant-loop-k : goal.invariant-loop-k
 invariant-loop-k l =
-    (l.k ≤ length l.initial.cells) × (l.k-end ≡ length l.initial.cells) × (length l.initial.cells ≡ length l.bytes) × (length l.initial.cells ≡ length l.pattern)
-    × Done (λ (i old : ℕ). torn old (bit_and old (get_or l.bytes i 0)) (get_or l.pattern i 0)) l.k l.initial.cells l.cells
+    Done (λ (i old : ℕ). torn old (programmed_cell old (get_or l.bytes i 0)) (get_or l.pattern i 0)) l.k l.initial.cells l.cells

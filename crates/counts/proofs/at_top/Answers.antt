@@ -18,14 +18,14 @@ more counts i top l e =
     let next : i + 1 ≡ suc i = omega arith in
     rw next (or_assoc top (leb top_count (get_or counts i 0)) (at_top (drop (suc i) counts)) ∙ sym (ap (λ d. top || at_top d) (drop-cons counts i 0 l)) ∙ e)
 
-pub loop-i-preserved : goal.loop-i-preserved
-loop-i-preserved c =
-    let h = c.loop-i in
+pub loop-count-preserved : goal.loop-count-preserved
+loop-count-preserved c =
+    let h = c.loop-count in
     let s = c.args in
-    (omega arith, search rules, more s.counts.now h.i h.top (omega arith) h.invariant.2)
+    (omega arith, search rules, more s.counts.now h.count-index h.top (omega arith) h.invariant.2)
 
 pub returns : goal.returns
 returns c =
-    let h = c.loop-i in
+    let h = c.loop-count in
     let s = c.args in
-    sym (or-false h.top) ∙ sym (ap (λ d. h.top || at_top d) (drop_of_length-le s.counts.now {i = h.i} (omega arith))) ∙ h.invariant.2
+    sym (or-false h.top) ∙ sym (ap (λ d. h.top || at_top d) (drop_of_length-le s.counts.now {i = h.count-index} (omega arith))) ∙ h.invariant.2

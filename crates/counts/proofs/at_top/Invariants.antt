@@ -6,5 +6,5 @@ use lib.ListN.{length, drop}
 use Rattle.counts.specs.Counts.{at_top}
 use Rattle.counts.proofs.at_top.Given as goal
 
-abbrev pub invariant-loop-i : goal.invariant-loop-i
-invariant-loop-i l = (l.i ≤ length l.counts) × (l.i-end ≡ length l.counts) × ((l.top || at_top (drop l.i l.counts)) ≡ at_top l.counts)
+abbrev pub invariant-loop-count : goal.invariant-loop-count
+invariant-loop-count l = (l.count-index ≤ length l.counts) × (l.count-index-end ≡ length l.counts) × ((l.top || at_top (drop l.count-index l.counts)) ≡ at_top l.counts)

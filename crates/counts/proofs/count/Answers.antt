@@ -1,4 +1,5 @@
 -- `counts::count` meets its contract: only the covered counts are lent on.
+use Rattle.std.specs.Prelude.{Option}
 use mathlib.Core.Path.{◌≡◌, refl, sym, ap, subst, ◌∙◌}
 use mathlib.Core.Bool.{not}
 use mathlib.Core.List.{List}
@@ -15,7 +16,7 @@ use Rattle.counts.specs.Counts.{covered, covered_counts, at_top, raised, worn_ou
 use Rattle.counts.proofs.count.Goals as goal
 
 -- the run that the code found lies in the table, and its part of the table holds the covered counts
-module _ (wear : List ℕ) (op : Operation) (at : Address) (s : Sectors) (e : s ≡ covered op at (length wear)) (p : InTable op at wear) where
+module _ (wear : List ℕ) (op : Option Operation) (at : Address) (s : Sectors) (e : s ≡ covered op at (length wear)) (p : InTable op at wear) where
   inside : s.first.0 + s.count ≤ length wear
   inside = subst (λ (r : Sectors). r.first.0 + r.count ≤ length wear) (sym e) p
 

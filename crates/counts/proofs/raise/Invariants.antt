@@ -7,6 +7,6 @@ use Rattle.parts.proofs.Loop.{Done}
 use Rattle.counts.specs.Counts.{at_top}
 use Rattle.counts.proofs.raise.Given as goal
 
-abbrev pub invariant-loop-i : goal.invariant-loop-i
-invariant-loop-i l =
-    (l.i ≤ length l.initial.counts) × (l.i-end ≡ length l.initial.counts) × (at_top l.initial.counts ≡ false) × Done (λ (k old : ℕ). old + 1) l.i l.initial.counts l.counts
+abbrev pub invariant-loop-count : goal.invariant-loop-count
+invariant-loop-count l =
+    (l.count-index ≤ length l.initial.counts) × (l.count-index-end ≡ length l.initial.counts) × (at_top l.initial.counts ≡ false) × Done (λ (k old : ℕ). old + 1) l.count-index l.initial.counts l.counts

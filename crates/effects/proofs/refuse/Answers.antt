@@ -1,5 +1,5 @@
 -- `effects::refuse` meets its contract.
-use mathlib.Core.Path.{◌≡◌, ap, ◌∙◌}
+use mathlib.Core.Path.{◌≡◌, refl, ap, ◌∙◌}
 use mathlib.Core.Bool.{Bool, true, false, not, ◌&&◌, cond, and-false, and-true}
 use Rattle.models.specs.Models.{model_of}
 use Rattle.answers.specs.Answers.{says_protected}
@@ -20,4 +20,4 @@ returns c =
     c.quiet.ensures
     ∙ ap (quiet a.answer)
     (c.latch.ensures
-    ∙ rw (c.says_protected.ensures, c.model_of-row.ensures) (falling a.st ((model_of a.model).latch_falls && says_protected a.answer)))
+    ∙ rw (c.number_of.ensures, c.model_of-row.ensures) (falling a.st ((model_of a.model).latch_falls && says_protected a.answer)))

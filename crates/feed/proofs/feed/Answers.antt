@@ -1,40 +1,24 @@
 -- `feed::feed` meets its contract.
-use Rattle.std.proofs.Common.{◌<◌, length, refl, ◌∙◌, inl, inr, arith}
+use Rattle.std.proofs.Common.{arith}
 use Rattle.feed.specs.Feed.{standing}
-use Rattle.feed.proofs.Feeds.{feeding-none, feeding-ready, feeding-on, turn_on, feeding-fed}
+use Rattle.feed.proofs.Turns.{stays-none, stays-then}
+use Rattle.feed.proofs.Feeds.{feeding-none, feeding-ready, feeding-turned, turn_on}
 use Rattle.feed.proofs.feed.Goals as goal
 
-pub loop-at-init : goal.loop-at-init
-loop-at-init c =
+pub loop-run-init : goal.loop-run-init
+loop-run-init c =
     let a = c.args in
-    (refl, refl, refl, refl, refl, feeding-none a.rec a.strict a.block.now (standing a.first a.held.now a.page.now a.array.now a.wear.now a.log.now) c.requires)
+    let b = a.bench.now in
+    (stays-none b, feeding-none b.rec b.strict a.block.now (standing a.first b a.held.now a.log.now) c.requires)
 
-pub overflow_sub-log : goal.overflow_sub-log
-overflow_sub-log c = c.loop-at.invariant.5.ready.within
+pub loop-run-smaller : goal.loop-run-smaller
+loop-run-smaller c =
+    let h = c.loop-run in
+    let p = feeding-ready h.invariant.1 c.loop-run-test.true c.if-log-run-lt-LONGEST_ROW.false in
+    omega (arith, c.loop-run-test.true, turn_on h.bench.rec h.bench.strict c.args.block.now (standing h.run h.bench h.held h.log) p c.turn-run.ensures.stands)
 
-pub returns-then-log-filled-lt-LONGEST_ROW : goal.returns-then-log-filled-lt-LONGEST_ROW
-returns-then-log-filled-lt-LONGEST_ROW c = feeding-fed c.loop-at.invariant.5 (inr (omega arith))
-
-pub turn-run-requires : goal.turn-run-requires
-turn-run-requires c =
-    let h = c.loop-at in
-    let l : h.run.at < length c.args.block.now = omega (arith, h.invariant.0) in
-    feeding-ready h.invariant.5 l (omega arith)
-
-pub loop-at-smaller : goal.loop-at-smaller
-loop-at-smaller c =
-    let h = c.loop-at in
-    let a = c.args in
-    let p = feeding-ready h.invariant.5 (omega (arith, h.invariant.0)) (omega arith) in
-    omega (arith, h.invariant.0, turn_on a.rec a.strict a.block.now (standing h.run h.held h.page h.array h.wear h.log) p c.turn-run.ensures)
-
-pub returns : goal.returns
-returns c = feeding-fed c.loop-at.invariant.5 (inl (omega (arith, c.loop-at.invariant.0)))
-
-pub loop-at-preserved : goal.loop-at-preserved
-loop-at-preserved c =
-    let h = c.loop-at in
-    let t = c.turn-run in
-    let l : h.run.at < length c.args.block.now = omega (arith, h.invariant.0, c.loop-at-test.true) in
-    let p = feeding-ready h.invariant.5 l (omega (arith, c.if-log-filled-lt-LONGEST_ROW.false)) in
-    (refl, t.auto.page ∙ h.invariant.1, t.auto.array ∙ h.invariant.2, t.auto.wear ∙ h.invariant.3, t.auto.log ∙ h.invariant.4, feeding-on h.invariant.5 p t.ensures)
+pub loop-run-preserved : goal.loop-run-preserved
+loop-run-preserved c =
+    let h = c.loop-run.invariant in
+    let t = c.turn-run.ensures in
+    (stays-then h.0 t.same, feeding-turned h.0 h.1 c.loop-run-test.true c.if-log-run-lt-LONGEST_ROW.false t.stands)

@@ -1,10 +1,10 @@
 -- `feed::play_line` meets its contract.
-use Rattle.std.proofs.Common.{[]}
+use Rattle.std.proofs.Common.{[], refl}
 use Rattle.feed.specs.Feed.{standing}
 use Rattle.feed.proofs.Turns.{line-done}
 use Rattle.feed.proofs.play_line.Goals as goal
 
-pub returns : goal.returns
-returns c =
-    let a = c.args in
-    line-done a.rec a.strict (standing a.run [] a.page.now a.array.now a.wear.now a.log.now) c.log_line-done.ensures c.line_done.ensures
+pub returns-clause-stands : goal.returns-clause-stands
+returns-clause-stands c =
+    let b = c.args.bench.now in
+    line-done b.rec b.strict (standing c.args.run b [] c.args.log.now) c.log_line-filled.ensures.row refl

@@ -19,10 +19,10 @@ whole c = length-pages _ (model c)
 pub slice_bounds-result-end : goal.slice_bounds-result-end
 slice_bounds-result-end c =
     let w = whole (goal.at.slice_bounds-result-end c).Then-is_length in
-    omega (arith, c.page_start-first.ensures, page-inside _ _ w (mod-lt c.args.a.0 w.some))
+    omega (arith, c.page_start-start.ensures, page-inside _ _ w (mod-lt c.args.a.0 w.some))
 
 pub returns-then-is_length : goal.returns-then-is_length
-returns-then-is_length c = page-is _ _ _ (model (goal.at.returns-then-is_length c).Then-is_length) c.page_start-first.ensures
+returns-then-is_length c = page-is _ _ _ (model (goal.at.returns-then-is_length c).Then-is_length) c.page_start-start.ensures
 
 pub returns : goal.returns
 returns c = no-page _ _ (sym c.is_length.ensures ∙ c.if-is_length.false)

@@ -8,6 +8,6 @@ use Rattle.flash.proofs.program.Goals as goal
 
 pub returns : goal.returns
 returns c =
-    let first = c.page_start-page in
+    let first = c.page_start-start in
     let offset = c.page_offset in
     (program-back c.args.a first.result.0 offset.result c.args.sent.now c.args.array.now _ first.ensures offset.ensures c.requires c.program_page.ensures.0, c.program_page.ensures.1 ∙ ap (λ (o : ℕ). folds o (length c.args.sent.now)) offset.ensures)

@@ -4,5 +4,5 @@ use Rattle.flash.proofs.tear_page.Goals as goal
 
 pub returns : goal.returns
 returns c =
-    let first = c.page_start-torn in
+    let first = c.page_start-start in
     torn-back c.args.a first.result.0 c.args.bytes.now c.args.pattern.now c.args.array.now _ first.ensures c.requires.0 c.tear_into.ensures

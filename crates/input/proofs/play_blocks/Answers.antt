@@ -1,17 +1,16 @@
 -- `input::play_blocks` meets its contract: after each block, some blocks brought it from power-on to where it stands.
 use Rattle.std.proofs.Common.{◌∙◌}
-use borrow.Author.Tests.{not-true, not-false}
-use Rattle.input.proofs.Came.{went, came-more, came-last}
+use Rattle.feed.proofs.Turns.{stays-then}
+use Rattle.input.proofs.Came.{came-on, came-ended}
 use Rattle.input.proofs.play_blocks.Goals as goal
 
-pub returns-then-not-next : goal.returns-then-not-next
-returns-then-not-next g c =
+pub returns-in-Break-clause-played : goal.returns-in-Break-clause-played
+returns-in-Break-clause-played g c =
     let h = c.loop.invariant in
-    let w = went h.0 _ c.read_block-next.ensures.taken in
-    λ e. came-last c.args.rec c.args.strict h.3 h.2 c.requires h.4 (w.last (not-true _ c.if-not-next.true) e)
+    came-ended (record c.args.bench.now { state = c.power_on-bench.result }) h.4 h.3 h.2 c.requires h.5 c.in-Break.ensures.read
 
 pub loop-preserved : goal.loop-preserved
 loop-preserved g c =
     let h = c.loop.invariant in
-    let e = went h.0 _ c.read_block-next.ensures.taken in
-    (e.used, c.read_block-next.auto.held ∙ h.1, h.2, h.3, came-more h.4 (e.more (not-false _ c.if-not-next.false)))
+    let w = came-on h.4 h.5 c.in-Continue.ensures.read in
+    (w.0, c.read_block.auto.held ∙ h.1, h.2, h.3, stays-then h.4 c.in-Continue.ensures.same, w.1)

@@ -1,6 +1,5 @@
 -- `lines::keep` meets its contract.
-use native.Mathlib.Nat.{sub-zero}
-use Rattle.lines.proofs.Laws.{full, kept-none, kept_put}
+use Rattle.lines.proofs.Laws.{full, kept-none, kept_copied}
 use Rattle.lines.proofs.keep.Goals as goal
 
 pub returns-then-held-used : goal.returns-then-held-used
@@ -11,4 +10,4 @@ returns-then-held-used c =
 pub returns : goal.returns
 returns c =
     let a = c.args in
-    kept_put a.held.now a.part.now _ a.used c.least-n.result _ c.least-n.ensures (rw sub-zero at c.put_all.ensures)
+    kept_copied a.held.now a.part.now _ a.used _ c.min-n.ensures c.if-held-used.false c.copy_from_slice.ensures.after

@@ -1,17 +1,18 @@
--- `lines::line_end` meets its contract: the line from `at` on ends where the one from i on does.
-use mathlib.Core.Path.{sym, ◌∙◌}
+-- `lines::line_end` meets its contract.
+use mathlib.Core.Path.{sym, ◌∙◌, ap}
 use native.Mathlib.Omega.{arith}
-use Rattle.lines.proofs.Laws.{end_on, end-here, end-out}
+use lib.Dec.{eqb}
+use Rattle.std.specs.Prelude.{position}
+use Rattle.std.proofs.lemmas.List.{take_rest}
+use Rattle.lines.proofs.Laws.{end_found, end_none}
 use Rattle.lines.proofs.line_end.Goals as goal
 
-pub returns-then-block-i-eq10 : goal.returns-then-block-i-eq10
-returns-then-block-i-eq10 c =
-    end-here c.args.block.now c.loop-i.i (omega arith) c.if-block-i-eq10.true ∙ sym c.loop-i.invariant
+pub returns-in-Some : goal.returns-in-Some
+returns-in-Some c =
+    let a = c.args in
+    end_found a.block.now a.at c.in-Some.n (sym c.in-Some.is ∙ c.newline_in.ensures ∙ ap (position (λ b. eqb b 10)) (take_rest a.block.now a.at))
 
-pub loop-i-preserved : goal.loop-i-preserved
-loop-i-preserved c =
-    c.loop-i.invariant ∙ end_on c.args.block.now c.loop-i.i (omega arith) c.if-block-i-eq10.false
-
-pub returns : goal.returns
-returns c =
-    end-out c.args.block.now c.loop-i.i (omega arith) ∙ sym c.loop-i.invariant
+pub returns-in-None : goal.returns-in-None
+returns-in-None c =
+    let a = c.args in
+    end_none a.block.now a.at (omega arith) (sym c.in-None.is ∙ c.newline_in.ensures ∙ ap (position (λ b. eqb b 10)) (take_rest a.block.now a.at))

@@ -1,5 +1,6 @@
 -- `models::address_of` meets its contract.
 use native.Mathlib.Omega.{arith}
+use borrow.Author.Rules.{rules}
 use Rattle.models.specs.Models.{address_of}
 use Rattle.models.proofs.Rules.{row-rules}
 use Rattle.models.proofs.address_of.Goals as goal
@@ -11,4 +12,5 @@ nonzero_rem-result c =
 pub returns : goal.returns
 unfolding address_of
 returns c =
-    rw (c.model_of-row.ensures, c.wide.ensures.0, c.wide-2.ensures.0, c.wide-3.ensures.0)
+    let e = c.model_of-row.ensures in
+    search rules

@@ -2,7 +2,6 @@
 use native.Mathlib.Omega.{arith}
 use Rattle.operations.proofs.Kept.{written-level}
 use Rattle.models.proofs.Rules.{highest-bp}
-use Rattle.operations.specs.Operations.{torn_bits}
 use Rattle.operations.proofs.tear_bits.Goals as goal
 
 pub bits_of-requires : goal.bits_of-requires
@@ -17,8 +16,3 @@ bits_of-requires-2 c =
 pub overflow_add-row : goal.overflow_add-row
 overflow_add-row c =
     rw c.model_of-row.ensures (record { fits = omega (arith, highest-bp c.args.model) })
-
-pub returns : goal.returns
-unfolding torn_bits
-returns c =
-    rw (c.keep.ensures, c.torn-config.ensures, c.byte_at-2.ensures, c.torn-left.ensures, c.byte_at.ensures, c.bits_of-2.ensures, c.bits_of.ensures, c.write-new.ensures, c.model_of-row.ensures)

@@ -1,61 +1,10 @@
 -- `packing::pack` meets its contract.
-use mathlib.Core.Path.{refl}
-use native.Mathlib.Omega.{arith}
-use lib.ListN.{length-set}
+use mathlib.Core.Path.{◌∙◌}
 use Rattle.packing.proofs.Packing.{stored}
 use Rattle.packing.proofs.pack.Goals as goal
 
 pub returns : goal.returns
-returns c = stored c.args.st c.args.state.now c.requires.1 c.status.ensures
-
-pub bounds-state-4 : goal.bounds-state-4
-bounds-state-4 c =
-    simp length-set (omega arith)
-
-pub bounds-state-5 : goal.bounds-state-5
-bounds-state-5 c =
-    simp length-set (omega arith)
-
-pub bounds-state-6 : goal.bounds-state-6
-bounds-state-6 c =
-    simp length-set (omega arith)
-
-pub bounds-state-7 : goal.bounds-state-7
-bounds-state-7 c =
-    simp length-set (omega arith)
-
-pub bounds-state-8 : goal.bounds-state-8
-bounds-state-8 c =
-    simp length-set (omega arith)
-
-pub bounds-state-9 : goal.bounds-state-9
-bounds-state-9 c =
-    simp length-set (omega arith)
-
-pub bounds-state-10 : goal.bounds-state-10
-bounds-state-10 c =
-    simp length-set (omega arith)
-
-pub bounds-state-11 : goal.bounds-state-11
-bounds-state-11 c =
-    simp length-set (omega arith)
-
-pub bounds-state-12 : goal.bounds-state-12
-bounds-state-12 c =
-    simp length-set (omega arith)
-
-pub bounds-state-13 : goal.bounds-state-13
-bounds-state-13 c =
-    simp length-set (omega arith)
-
-pub bounds-state-14 : goal.bounds-state-14
-bounds-state-14 c =
-    simp length-set (omega arith)
-
-pub bounds-state-15 : goal.bounds-state-15
-bounds-state-15 c =
-    simp length-set (omega arith)
-
-pub shape_of-state : goal.shape_of-state
-shape_of-state c =
-    simp length-set refl
+returns c =
+    stored c.args.st c.args.state.now c.requires.1 c.status.ensures
+    (c.copy_from_slice.ensures.after ∙ c.to_le_bytes.ensures)
+    (c.copy_from_slice-2.ensures.after ∙ c.to_le_bytes-2.ensures)

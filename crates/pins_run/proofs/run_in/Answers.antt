@@ -1,70 +1,34 @@
 -- `pins_run::run_in` meets its contract: what is reached is a run's way from its start.
 use mathlib.Core.Path.{sym, ◌∙◌}
 use native.Mathlib.Omega.{arith}
-use Rattle.pins_run.proofs.Going.{reach-none, reach-then, way_end, way-length, way-stop, way_on}
+use Rattle.pins_run.proofs.Going.{reach-then, way_end, way-left, way-stop, way_on}
 use Rattle.pins_run.proofs.run_in.Goals as goal
 
-pub loop-i-init : goal.loop-i-init
-loop-i-init c = reach-none _ _ _ _ c.requires
+pub gather-gathered-requires : goal.gather-gathered-requires
+gather-gathered-requires c = (c.rest-rested.ensures c.loop-byte.buffer).right
 
-pub rest-rested-requires : goal.rest-rested-requires
-rest-rested-requires c = c.loop-i.invariant.right
+pub returns-in_default : goal.returns-in_default
+returns-in_default c =
+    let way = reach-then c.loop-byte.invariant (reach-then (c.rest-rested.ensures c.loop-byte.buffer) c.gather-gathered.ensures) in
+    way_end c.args.f c.args.samples.now c.args.buffer.now _ _ _ c.in_default.ensures.cases way
 
-pub gather-reached-requires : goal.gather-reached-requires
-gather-reached-requires c = let o = c.loop-i in (c.rest-rested.ensures o.buffer).right
-
-pub shape_of-buffer-then-samples-at : goal.shape_of-buffer-then-samples-at
-shape_of-buffer-then-samples-at c =
-    let o = c.loop-i in
-    let s = c.args in
-    (reach-then o.invariant (reach-then (c.rest-rested.ensures o.buffer) c.gather-reached.ensures)).same
-
-pub returns-then-samples-at : goal.returns-then-samples-at
-returns-then-samples-at c =
-    let o = c.loop-i in
-    let s = c.args in
-    way_end s.f s.samples.now s.buffer.now _ _ _ (reach-then o.invariant (reach-then (c.rest-rested.ensures o.buffer) c.gather-reached.ensures)) _ c.refused_told.ensures c.if-samples-at.true
-
-pub step_in-s-requires : goal.step_in-s-requires
-step_in-s-requires c = c.gather-reached.ensures.right
-
-pub shape_of-buffer-then-is_end : goal.shape_of-buffer-then-is_end
-shape_of-buffer-then-is_end c =
-    let o = c.loop-i in
-    let s = c.args in
-    let g = c.gather-reached in
-    let w = c.wide in
-    let t = c.step_in-s in
-    way-length s.f s.samples.now s.buffer.now g.result.front g.result.at _ (reach-then o.invariant (reach-then (c.rest-rested.ensures o.buffer) g.ensures)) c.if-samples-at.false w.result w.ensures.0 t.result _ t.ensures
+pub overflow_sub-result : goal.overflow_sub-result
+overflow_sub-result c =
+    let way = reach-then c.loop-byte.invariant (reach-then (c.rest-rested.ensures c.loop-byte.buffer) c.gather-gathered.ensures) in
+    let t = c.step_in-stepped in
+    omega (arith, way-left c.args.f c.args.samples.now c.args.buffer.now _ _ _ _ _ _ c.in-Some.ensures.cases.0 c.from.ensures way t.result _ t.ensures)
 
 pub returns-then-is_end : goal.returns-then-is_end
 returns-then-is_end c =
-    let o = c.loop-i in
-    let s = c.args in
-    let g = c.gather-reached in
-    let w = c.wide in
-    let t = c.step_in-s in
-    way-stop s.f s.samples.now s.buffer.now g.result.front g.result.at _ (reach-then o.invariant (reach-then (c.rest-rested.ensures o.buffer) g.ensures)) c.if-samples-at.false w.result w.ensures.0 t.result _ t.ensures (sym c.is_end.ensures ∙ c.if-is_end.true)
+    let way = reach-then c.loop-byte.invariant (reach-then (c.rest-rested.ensures c.loop-byte.buffer) c.gather-gathered.ensures) in
+    let t = c.step_in-stepped in
+    way-stop c.args.f c.args.samples.now c.args.buffer.now _ _ _ _ _ _ c.in-Some.ensures.cases.0 c.from.ensures way t.result _ t.ensures (sym c.is_end.ensures ∙ c.if-is_end.true)
 
-pub loop-i-smaller : goal.loop-i-smaller
-loop-i-smaller c =
-    let o = c.loop-i in
-    omega (arith, (c.rest-rested.ensures o.buffer).later, c.gather-reached.ensures.later, c.if-samples-at.false)
+pub loop-byte-smaller : goal.loop-byte-smaller
+loop-byte-smaller c = omega (arith, (c.rest-rested.ensures c.loop-byte.buffer).long, c.gather-gathered.ensures.long, c.in-Some.ensures.cases.1)
 
-pub loop-i-preserved : goal.loop-i-preserved
-loop-i-preserved c =
-    let o = c.loop-i in
-    let s = c.args in
-    let g = c.gather-reached in
-    let w = c.wide in
-    let t = c.step_in-s in
-    way_on s.f s.samples.now s.buffer.now g.result.front g.result.at _ (reach-then o.invariant (reach-then (c.rest-rested.ensures o.buffer) g.ensures)) c.if-samples-at.false w.result w.ensures.0 t.result _ t.ensures (sym c.is_end.ensures ∙ c.if-is_end.false)
-
-pub shape_of-buffer : goal.shape_of-buffer
-shape_of-buffer c = c.loop-i.invariant.same
-
-pub returns : goal.returns
-returns c =
-    let o = c.loop-i in
-    let s = c.args in
-    way_end s.f s.samples.now s.buffer.now _ _ _ o.invariant _ c.refused_told-2.ensures (omega arith)
+pub loop-byte-preserved : goal.loop-byte-preserved
+loop-byte-preserved c =
+    let way = reach-then c.loop-byte.invariant (reach-then (c.rest-rested.ensures c.loop-byte.buffer) c.gather-gathered.ensures) in
+    let t = c.step_in-stepped in
+    way_on c.args.f c.args.samples.now c.args.buffer.now _ _ _ _ _ _ c.in-Some.ensures.cases.0 c.from.ensures way t.result _ t.ensures (sym c.is_end.ensures ∙ c.if-is_end.false)

@@ -1,59 +1,34 @@
 -- `pod::gwo_frame` meets its contract.
 use mathlib.Core.Path.{◌≡◌, sym, ◌∙◌}
-use mathlib.Core.Bool.{true}
 use native.Mathlib.Omega.{arith}
 use lib.ListN.{length}
-use Rattle.states.specs.States.{record_ok}
-use Rattle.states.specs.declared.Record.{Record}
-use Rattle.packing.specs.Packing.{record_of, is_packing}
+use Rattle.ladder.specs.Ladder.{sized}
+use Rattle.packing.proofs.Packing.{packing-length}
 use Rattle.pod.specs.Calls.{sent_by}
-use Rattle.packing.proofs.Packing.{packing-length, unpack-read}
-use Rattle.pod.proofs.Calls.{bad-record-frame, bad-bytes-frame, fits-frame, leaves}
+use Rattle.pod.proofs.Calls.{was_read, unread-frame, fits-frame, leaves}
 use Rattle.pod.proofs.gwo_frame.Goals as goal
 
-pub is_packed-requires : goal.is_packed-requires
-is_packed-requires c = c.busy_in-busy.ensures
-
-pub unpack-st-requires : goal.unpack-st-requires
-unpack-st-requires c =
-    let packing : is_packing c.args.state.now ≡ true = sym c.is_packed.ensures ∙ c.if-not-is_packed.false in
-    let whole : length c.args.state.now ≡ 272 = packing-length _ (packing) in
-    (whole, c.busy_in-busy.ensures)
+pub returns-in-Err : goal.returns-in-Err
+returns-in-Err c =
+    let a = c.args in
+    rw (← c.record_of-rec.ensures, c.number.ensures)
+    (unread-frame c.record_of-rec.result a.state.now a.array.now (sent_by a.frame.now a.tail a.wp a.strict a.wear.now a.out.now) (sym c.in-Err.is ∙ c.state_in.ensures))
 
 pub slice_bounds-frame-end : goal.slice_bounds-frame-end
 slice_bounds-frame-end c =
-    let packing : is_packing c.args.state.now ≡ true = sym c.is_packed.ensures ∙ c.if-not-is_packed.false in
-    omega (arith, packing-length _ packing)
+    let a = c.args in
+    let k = was_read c.record_of-rec.result a.state.now (sized (length a.array.now)) (sized (length a.wear.now)) (sym c.in-Ok.is ∙ c.state_in.ensures) in
+    omega (arith, packing-length _ k.0)
 
 pub keep-requires : goal.keep-requires
 keep-requires c =
-    let numbers : Record = let given = c.args in
-    record_of given.model given.status_us given.page_us given.sector_us given.block_us given.chip_us given.half_us given.sleep_us given.wake_us given.sign_us in
-    let packing : is_packing c.args.state.now ≡ true = sym c.is_packed.ensures ∙ c.if-not-is_packed.false in
-    let whole : length c.args.state.now ≡ 272 = packing-length _ (packing) in
-    let given = c.args in
-    fits-frame (numbers) given.state.now given.array.now (sent_by given.frame.now given.tail given.wp given.strict given.wear.now given.out.now) (whole) c.record_of-rec.ensures (c.unpack-st.ensures ∙ sym (unpack-read _ (packing))) c.frame-reply.ensures
+    let a = c.args in
+    let k = was_read c.record_of-rec.result a.state.now (sized (length a.array.now)) (sized (length a.wear.now)) (sym c.in-Ok.is ∙ c.state_in.ensures) in
+    fits-frame c.record_of-rec.result a.state.now a.array.now (sent_by a.frame.now a.tail a.wp a.strict a.wear.now a.out.now) (packing-length _ k.0) k.1 c.frame-reply.ensures
 
 pub returns : goal.returns
 returns c =
-    let numbers : Record = let given = c.args in
-    record_of given.model given.status_us given.page_us given.sector_us given.block_us given.chip_us given.half_us given.sleep_us given.wake_us given.sign_us in
-    let packing : is_packing c.args.state.now ≡ true = sym c.is_packed.ensures ∙ c.if-not-is_packed.false in
-    let whole : length c.args.state.now ≡ 272 = packing-length _ (packing) in
-    let given = c.args in
-    leaves (numbers) given.state.now given.array.now (sent_by given.frame.now given.tail given.wp given.strict given.wear.now given.out.now) (whole) c.record_of-rec.ensures (c.unpack-st.ensures ∙ sym (unpack-read _ (packing))) c.frame-reply.ensures c.keep.ensures.0 c.keep.ensures.1
-
-pub returns-then-not-is_packed : goal.returns-then-not-is_packed
-returns-then-not-is_packed c =
-    let numbers : Record = let given = c.args in
-    record_of given.model given.status_us given.page_us given.sector_us given.block_us given.chip_us given.half_us given.sleep_us given.wake_us given.sign_us in
-    let right : record_ok c.record_of-rec.result ≡ true = sym c.record_ok.ensures ∙ c.if-not-record_ok.false in
-    let given = c.args in
-    bad-bytes-frame (numbers) given.state.now (sym c.is_packed.ensures ∙ c.if-not-is_packed.true) c.record_of-rec.ensures (right) given.array.now (sent_by given.frame.now given.tail given.wp given.strict given.wear.now given.out.now) c.frame_refusal.ensures
-
-pub returns-then-not-record_ok : goal.returns-then-not-record_ok
-returns-then-not-record_ok c =
-    let numbers : Record = let given = c.args in
-    record_of given.model given.status_us given.page_us given.sector_us given.block_us given.chip_us given.half_us given.sleep_us given.wake_us given.sign_us in
-    let given = c.args in
-    bad-record-frame (numbers) given.state.now c.record_of-rec.ensures (sym c.record_ok.ensures ∙ c.if-not-record_ok.true) given.array.now (sent_by given.frame.now given.tail given.wp given.strict given.wear.now given.out.now)
+    let a = c.args in
+    let k = was_read c.record_of-rec.result a.state.now (sized (length a.array.now)) (sized (length a.wear.now)) (sym c.in-Ok.is ∙ c.state_in.ensures) in
+    rw (← c.record_of-rec.ensures)
+    (leaves c.record_of-rec.result a.state.now a.array.now (sent_by a.frame.now a.tail a.wp a.strict a.wear.now a.out.now) (packing-length _ k.0) k.1 c.frame-reply.ensures c.keep.ensures.0 c.keep.ensures.1)

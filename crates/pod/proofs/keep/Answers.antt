@@ -1,17 +1,23 @@
 -- `pod::keep` meets its contract.
-use mathlib.Core.Path.{◌≡◌, sym, ap, ◌∙◌}
+use mathlib.Core.Path.{◌≡◌, refl, sym, ◌∙◌}
 use mathlib.Core.Bool.{Bool, true, false, ◌||◌}
 use Prim.Native.Nat.{ℕ}
 use lib.Dec.{eqb}
-use Rattle.answers.specs.Answers.{number_of}
-use Rattle.answers.specs.declared.Answer.{Answer}
+use borrow.Author.Tests.{eqb-false, ne_eqb}
+use Rattle.std.specs.Prelude.{Ok, Err}
+use Rattle.answers.specs.Answers.{Answer, number, number_of, is_done}
+use Rattle.answers.proofs.Tables.{never-zero}
 use Rattle.fits.specs.Fits.{may_move}
 use Rattle.pod.specs.Calls.{kept_of}
 use Rattle.pod.proofs.keep.Goals as goal
 
+zero-done : (a : Answer) → eqb (number_of a) 0 ≡ is_done a
+zero-done (Ok u) = refl
+zero-done (Err r) = ne_eqb (number r) 0 (λ z. eqb-false 0 (number r) (never-zero r) (sym z))
+
 -- the number's test is the answer's
 moves-if : (a : Answer) (n : ℕ) (b : Bool) → n ≡ number_of a → (eqb n 0 || eqb n 17) ≡ b → may_move a ≡ b
-moves-if a n b e t = ap (λ (k : ℕ). eqb k 0 || eqb k 17) (sym e) ∙ t
+moves-if a n b e t = rw (← (zero-done a), ← e) t
 
 pub pack-requires : goal.pack-requires
 pack-requires c =

@@ -1,6 +1,6 @@
 -- `rewrite_blocks::finish` meets its contract.
-use Rattle.std.proofs.Common.{sym, ◌∙◌, arith}
-use Rattle.rewrite_blocks.proofs.Steps.{fits, last_none, last-ready, last_some}
+use Rattle.std.proofs.Common.{◌≡◌, ℕ, List, sym, ◌∙◌, arith, rules}
+use Rattle.rewrite_blocks.proofs.Steps.{fits, last_none, last-ready, last-on}
 use Rattle.rewrite_blocks.proofs.finish.Goals as goal
 
 pub returns-then-not-block_fits : goal.returns-then-not-block_fits
@@ -14,15 +14,17 @@ move_down-end-requires c =
     let t = fits a.run _ _ _ (sym c.block_fits.ensures ∙ c.if-not-block_fits.false) in
     (t.low, t.inside)
 
-pub rewrite_line-told-requires : goal.rewrite_line-told-requires
-rewrite_line-told-requires c =
+pub rewrite_line-requires : goal.rewrite_line-requires
+rewrite_line-requires c =
     let a = c.args in
-    last-ready a.run a.out.now a.report.now (sym c.block_fits.ensures ∙ c.if-not-block_fits.false) c.move_down-end.ensures
+    let s = c.new-sheet.ensures in
+    rw (s.holds, s.place) (last-ready a.run a.out.now a.report.now (sym c.block_fits.ensures ∙ c.if-not-block_fits.false) c.move_down-end.ensures)
 
 pub returns : goal.returns
 returns c =
     let a = c.args in
-    last_some a.run a.out.now a.report.now (sym c.block_fits.ensures ∙ c.if-not-block_fits.false) c.move_down-end.ensures c.rewrite_line-told.ensures
+    let s = c.new-sheet.ensures in
+    last-on a.run a.out.now a.report.now (sym c.block_fits.ensures ∙ c.if-not-block_fits.false) c.move_down-end.ensures s.holds s.place c.end.ensures (search rules) c.rewrite_line.ensures.rewritten
 
 pub slice_bounds-rewrite_line-end : goal.slice_bounds-rewrite_line-end
 slice_bounds-rewrite_line-end c =

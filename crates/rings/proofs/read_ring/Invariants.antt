@@ -1,13 +1,11 @@
--- `rings::read_ring` meets its contract. The invariant: out has the ring up to i, and at is its next place.
-use mathlib.Core.Path.{◌≡◌}
-use Prim.Native.Nat.{◌+◌, ◌-◌, ◌%◌, ◌≤◌, ◌<◌}
+-- Out is read up to `done`, and `run` is what follows in src.
+use Prim.Native.Nat.{◌-◌}
 use lib.ListN.{length}
 use Rattle.rings.proofs.Runs.{ReadTo}
 use Rattle.rings.proofs.read_ring.Given as goal
 
-abbrev pub invariant-loop-at : goal.invariant-loop-at
-invariant-loop-at l =
-    (l.size ≡ length l.src) × (l.at < l.size) × (l.i ≤ l.end) × (l.at ≡ (l.first + (l.i - l.from)) % length l.src) × ReadTo l.src l.first l.from l.i l.initial.out l.out
+abbrev pub invariant-loop-run : goal.invariant-loop-run
+invariant-loop-run l = ReadTo l.src l.first l.done l.out l.run
 
-abbrev pub decreases-loop-at : goal.decreases-loop-at
-decreases-loop-at l = l.end - l.i
+abbrev pub decreases-loop-run : goal.decreases-loop-run
+decreases-loop-run l = length l.out - l.done

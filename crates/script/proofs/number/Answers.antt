@@ -1,40 +1,47 @@
--- `script::number` meets its contract: the number from `from` on is that from i on, after sum.
-use mathlib.Core.Path.{◌≡◌, sym, ◌∙◌}
-use mathlib.Core.Bool.{Bool, true}
-use mathlib.Core.List.{List}
-use Prim.Native.Nat.{ℕ, ◌<◌, ◌-◌, ◌+◌, ◌*◌, ◌≤◌}
+-- `script::number` meets its contract: the digits from b on go on from the sum of those before.
+use mathlib.Core.Path.{◌≡◌, sym, ◌∙◌, ap}
+use mathlib.Core.Bool.{Bool}
+use Prim.Native.Nat.{ℕ, ◌-◌, ◌+◌, ◌*◌}
 use native.Mathlib.Omega.{arith}
-use lib.ListN.{length, drop, get_or}
+use lib.ListN.{drop, get_or}
+use Rattle.std.specs.Char.{is_ascii_digit}
 use Rattle.script.specs.Hex.{is_digit}
 use Rattle.script.specs.Reading.{numbered}
-use Rattle.script.proofs.ReadLaws.{number-on, number-off, number-over, number-end}
-use Rattle.script.proofs.HexLaws.{digit-range}
+use Rattle.script.proofs.ReadLaws.{number_on, number_off, number_over, number_end}
 use Rattle.script.proofs.number.Goals as goal
 
--- what is known once the byte is a digit
-digit : (s : List ℕ) (i : ℕ) (r : Bool) → r ≡ is_digit (get_or s i 0) → r ≡ true → is_digit (get_or s i 0) ≡ true
-digit s i r e h = sym e ∙ h
+digit : (b : ℕ) (t u : Bool) → t ≡ is_ascii_digit b → t ≡ u → is_digit b ≡ u
+unfolding is_digit
+digit b t u e h = sym e ∙ h
 
-range : (s : List ℕ) (i : ℕ) (r : Bool) → r ≡ is_digit (get_or s i 0) → r ≡ true → (48 ≤ get_or s i 0) × (get_or s i 0 ≤ 57)
-range s i r e h = digit-range _ (digit s i r e h)
+pub returns-then-not-is_ascii_digit : goal.returns-then-not-is_ascii_digit
+returns-then-not-is_ascii_digit c =
+    let l = c.loop-b in
+    number_off l.sum c.args.digits.now l.b-index c.loop-b-test.true (digit _ _ _ c.is_ascii_digit.ensures.value c.if-not-is_ascii_digit.true) ∙ sym l.invariant.1
 
-on : (n : ℕ) (s : List ℕ) (i : ℕ) (r : Bool) → i < length s → r ≡ is_digit (get_or s i 0) → r ≡ true → numbered n (drop i s) ≡ numbered (n * 10 + (get_or s i 0 - 48)) (drop (i + 1) s)
-on n s i r l e h = number-on n s i l (digit s i r e h)
+pub returns-in_err-checked_mul : goal.returns-in_err-checked_mul
+returns-in_err-checked_mul c =
+    let l = c.loop-b in
+    c.from_residual.ensures
+    ∙ number_over l.sum c.args.digits.now l.b-index c.loop-b-test.true (digit _ _ _ c.is_ascii_digit.ensures.value c.if-not-is_ascii_digit.false) (omega (arith, c.in_err-checked_mul.ensures))
+    ∙ sym l.invariant.1
 
-pub returns-then-not-is_digit : goal.returns-then-not-is_digit
-returns-then-not-is_digit c = number-off c.loop-i.sum c.args.s.now c.loop-i.i c.loop-i-test.true (sym c.is_digit.ensures ∙ c.if-not-is_digit.true) ∙ sym c.loop-i.invariant.1
+pub returns-in_err-sum : goal.returns-in_err-sum
+returns-in_err-sum c =
+    let l = c.loop-b in
+    c.from_residual-in_err-sum.ensures
+    ∙ number_over l.sum c.args.digits.now l.b-index c.loop-b-test.true (digit _ _ _ c.is_ascii_digit.ensures.value c.if-not-is_ascii_digit.false) (omega (arith, c.in_err-sum.ensures, c.in_ok-checked_mul.ensures, c.from.ensures))
+    ∙ sym l.invariant.1
 
-pub overflow_sub-sum : goal.overflow_sub-sum
-overflow_sub-sum c = (range c.args.s.now c.loop-i.i _ c.is_digit.ensures c.if-not-is_digit.false).0
-
-pub returns-then-sum-gt4294967295 : goal.returns-then-sum-gt4294967295
-returns-then-sum-gt4294967295 c =
-    let l = c.loop-i in
-    number-over _ (drop (l.i + 1) c.args.s.now) c.if-sum-gt4294967295.true ∙ sym (on l.sum c.args.s.now l.i _ c.loop-i-test.true c.is_digit.ensures c.if-not-is_digit.false) ∙ sym l.invariant.1
-
-pub loop-i-preserved : goal.loop-i-preserved
-loop-i-preserved c = (omega arith, c.loop-i.invariant.1 ∙ on _ c.args.s.now c.loop-i.i _ c.loop-i-test.true c.is_digit.ensures c.if-not-is_digit.false)
+pub loop-b-preserved : goal.loop-b-preserved
+loop-b-preserved c =
+    let l = c.loop-b in
+    let s = c.args.digits.now in
+    let n : c.in_ok-sum.sum ≡ l.sum * 10 + (get_or s l.b-index 0 - 48) = omega (arith, c.in_ok-sum.ensures, c.in_ok-checked_mul.ensures, c.from.ensures) in (
+      omega (arith, c.in_ok-sum.ensures),
+      l.invariant.1 ∙ number_on l.sum s l.b-index c.loop-b-test.true (digit _ _ _ c.is_ascii_digit.ensures.value c.if-not-is_ascii_digit.false) ∙ ap (λ (k : ℕ). numbered k (drop (l.b-index + 1) s)) (sym n),
+    )
 
 pub returns : goal.returns
 returns c =
-    number-end c.loop-i.sum c.args.s.now c.loop-i.i (omega arith) c.loop-i.invariant.0 ∙ sym c.loop-i.invariant.1
+    number_end c.loop-b.sum c.args.digits.now c.loop-b.b-index (omega arith) c.loop-b.invariant.0 ∙ sym c.loop-b.invariant.1

@@ -1,18 +1,17 @@
 -- `sfdp::small_opcode` meets its contract.
-use borrow.Author.Tests.{eq-eqb, ne_eqb}
+use mathlib.Core.Path.{◌≡◌, ap, ◌∙◌}
+use mathlib.Core.List.{List}
+use Prim.Native.Nat.{ℕ, ◌/◌}
+use borrow.Author.Rules.{rules}
+use lib.ListN.{length, get_or}
+use Rattle.std.specs.Prelude.{Option, unwrap_or, find}
+use Rattle.std.specs.Option.{option_map}
+use Rattle.std.specs.Simd.{first_chunks}
+use Rattle.sfdp.proofs.Writer.{is_small, small_found}
 use Rattle.sfdp.proofs.small_opcode.Goals as goal
 
-pub returns-then-a-eq12 : goal.returns-then-a-eq12
-returns-then-a-eq12 c = rw (eq-eqb _ _ c.if-a-eq12.true)
-
-pub returns-then-b-eq12 : goal.returns-then-b-eq12
-returns-then-b-eq12 c = rw (ne_eqb _ _ c.if-a-eq12.false, eq-eqb _ _ c.if-b-eq12.true)
-
-pub returns-then-c-eq12 : goal.returns-then-c-eq12
-returns-then-c-eq12 c = rw (ne_eqb _ _ c.if-a-eq12.false, ne_eqb _ _ c.if-b-eq12.false, eq-eqb _ _ c.if-c-eq12.true)
-
-pub returns-then-d-eq12 : goal.returns-then-d-eq12
-returns-then-d-eq12 c = rw (ne_eqb _ _ c.if-a-eq12.false, ne_eqb _ _ c.if-b-eq12.false, ne_eqb _ _ c.if-c-eq12.false, eq-eqb _ _ c.if-d-eq12.true)
-
-pub returns : goal.returns
-returns c = rw (ne_eqb _ _ c.if-a-eq12.false, ne_eqb _ _ c.if-b-eq12.false, ne_eqb _ _ c.if-c-eq12.false, ne_eqb _ _ c.if-d-eq12.false)
+pub returns-clause-opcode : goal.returns-clause-opcode
+returns-clause-opcode c =
+    let bs = c.args.slots.now in
+    let found : c.map.result ≡ option_map (λ (z : List ℕ). get_or z 1 0) (find is_small (first_chunks 2 (length bs / 2) bs)) = search rules in
+    ap (λ (o : Option ℕ). unwrap_or o 0xFF) found ∙ small_found bs

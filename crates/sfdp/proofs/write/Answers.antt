@@ -1,39 +1,32 @@
 -- `sfdp::write` meets its contract.
-use mathlib.Core.Bool.{Bool, true, ◌&&◌}
-use mathlib.Core.List.{List}
-use mathlib.Core.Path.{◌≡◌, sym, ap, ◌∙◌}
-use Prim.Native.Nat.{ℕ, ◌^◌}
+use mathlib.Core.Path.{sym, ap, ◌∙◌}
+use mathlib.Core.Bool.{false≢true}
+use Prim.Native.Nat.{ℕ}
 use native.Mathlib.Omega.{arith}
-use lib.Dec.{ltb, leb}
-use lib.ListN.{length}
-use borrow.Rule.Slice.PartMut.{mid_len}
-use Rattle.sfdp.specs.Sfdp.{is_list, takes}
-use Rattle.sfdp.proofs.Writer.{Fit, fit, write-refused, write_done}
+use Rattle.std.proofs.lemmas.List.{length-take-le}
+use Rattle.sfdp.specs.Sfdp.{entry, pairs, image_of}
+use Rattle.sfdp.proofs.Writer.{write-refused, write_done}
 use Rattle.sfdp.proofs.write.Goals as goal
-use Rattle.sfdp.proofs.write.Goals.{Else-not-density-is_list}
+use Rattle.sfdp.proofs.write.Goals.{then-not-is_list-via-then-not-is_list, then-not-is_list-via-else-not-is_list+then-out-lt112}
 
--- the test, in the code's terms
-tested : (density : ℕ) (erases out : List ℕ) (r : Bool) → r ≡ is_list erases → takes density erases (length out) ≡ (ltb density (2 ^ 32) && (r && leb 112 (length out)))
-tested density erases out r e =
-    ap (λ (b : Bool). ltb density (2 ^ 32) && (b && leb 112 (length out))) (sym e)
+pub returns-in_default : goal.returns-in_default
+returns-in_default c = let a = c.args in write-refused a.density a.erases.now a.out.now (λ f. c.in_default.ensures f.density)
 
-passed : (c : Else-not-density-is_list) → (takes c.args.density c.args.erases.now (length c.args.out.now) ≡ true)
-passed c = tested c.args.density c.args.erases.now c.args.out.now _ c.is_list.ensures ∙ c.if-not-density-is_list.false
-
-fitting : (c : Else-not-density-is_list) → (Fit c.args.density c.args.erases.now (length c.args.out.now))
-fitting c =
-    fit c.args.density c.args.erases.now (length c.args.out.now) (tested c.args.density c.args.erases.now c.args.out.now _ c.is_list.ensures ∙ c.if-not-density-is_list.false)
-
-pub returns-then-not-density-is_list : goal.returns-then-not-density-is_list
-returns-then-not-density-is_list c =
-    write-refused c.args.density c.args.erases.now c.args.out.now (tested c.args.density c.args.erases.now c.args.out.now _ c.is_list.ensures ∙ c.if-not-density-is_list.true)
-
-pub overflow_cast-density : goal.overflow_cast-density
-overflow_cast-density c = omega (arith, (fitting (goal.at.overflow_cast-density c).Else-not-density-is_list).density)
+pub returns-then-not-is_list : goal.returns-then-not-is_list
+returns-then-not-is_list c =
+    let a = c.args in
+    write-refused a.density a.erases.now a.out.now (λ f.
+    elim c.then-not-is_list.branch [
+      | then-not-is_list-via-then-not-is_list w ↦ false≢true (sym w.if-not-is_list.true ∙ c.is_list.ensures ∙ f.list.is)
+      | then-not-is_list-via-else-not-is_list+then-out-lt112 w ↦ omega (arith, f.roomy, w.if-out-lt112.true)
+    ])
 
 pub lay_page-requires : goal.lay_page-requires
-lay_page-requires c = ((fitting (goal.at.lay_page-requires c).Else-not-density-is_list).list, mid_len 0 112 c.args.out.now (fitting (goal.at.lay_page-requires c).Else-not-density-is_list).roomy)
+lay_page-requires c = (record { is = sym c.is_list.ensures ∙ c.if-not-is_list.false }, length-take-le 112 c.args.out.now c.if-out-lt112.false)
 
 pub returns : goal.returns
 returns c =
-    write_done c.args.density c.args.erases.now c.args.out.now _ (passed (goal.at.returns c).Else-not-density-is_list) c.lay_page.ensures
+    let a = c.args in
+    let fits = c.in-Ok.ensures in
+    write_done a.density a.erases.now a.out.now _ fits.0 (sym c.is_list.ensures ∙ c.if-not-is_list.false) c.if-out-lt112.false
+    (c.lay_page.ensures ∙ ap (λ (n : ℕ). image_of (entry n (pairs a.erases.now))) fits.1)

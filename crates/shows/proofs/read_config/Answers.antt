@@ -1,7 +1,9 @@
--- `shows::read_config` meets its contract.
+use native.Mathlib.Omega.{arith}
+use lib.ListN.{length}
 use Rattle.effects.specs.Effects.{read_config}
+use Rattle.shows.proofs.Lent.{lent-filled}
 use Rattle.shows.proofs.read_config.Goals as goal
 
 pub returns : goal.returns
 unfolding read_config
-returns c = record { reply = c.driven.ensures; out = c.fill_part.ensures }
+returns c = record { reply = c.driven.ensures; out = lent-filled 1 (length c.args.bytes.now) c.args.out.now _ (omega arith) (omega arith) _ (c.fill.ensures.after (λ y e. e)) }

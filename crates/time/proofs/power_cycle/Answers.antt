@@ -1,49 +1,32 @@
 -- `time::power_cycle` meets its contract.
-use mathlib.Core.Path.{◌≡◌, refl, sym, ◌∙◌}
-use mathlib.Core.Bool.{true, false}
-use Rattle.states.specs.States.{record_ok}
-use Rattle.time.proofs.Time.{idle-fits, busy-fits, no-power-record, no-power-state, no-power-busy, may-cycle, refused-cycle, done-cycle}
+use mathlib.Core.Path.{sym, ◌∙◌}
+use borrow.Author.Tests.{eq-eqb, ne_eqb}
+use Rattle.std.proofs.lemmas.Result.{err_from_is_err_and}
+use Rattle.operations.specs.Operations.{runs}
+use Rattle.time.specs.Time.{fit_refusal}
+use Rattle.time.proofs.Time.{told-refused, told-done, power-record, power-parts, power-refused, power-done}
 use Rattle.time.proofs.power_cycle.Goals as goal
 
 pub returns-then-not-record_ok : goal.returns-then-not-record_ok
 returns-then-not-record_ok c =
-    let given = c.args in
-    refused-cycle given.rec given.st given.page.now (no-power-record given.rec given.st given.page.now (sym c.record_ok.ensures ∙ c.if-not-record_ok.true)) refl c.refused.ensures
+    let a = c.args in
+    power-refused a.rec a.st a.page.now (power-record a.rec a.st a.page.now (sym c.record_ok.ensures ∙ c.if-not-record_ok.true))
 
-pub returns-then-not-idle_ok-page_fits : goal.returns-then-not-idle_ok-page_fits
-returns-then-not-idle_ok-page_fits c =
-    let right : record_ok c.args.rec ≡ true = sym c.record_ok.ensures ∙ c.if-not-record_ok.false in
-    let given = c.args in
-    refused-cycle given.rec given.st given.page.now
-    (no-power-state given.rec given.st given.page.now (right)
-    (idle-fits given.rec given.st given.page.now false c.if-st-eq0.true c.idle_ok.ensures c.page_fits.ensures (c.if-not-idle_ok-page_fits.true)))
-    refl c.refused-then-not-idle_ok-page_fits.ensures
+pub returns-in_err-running : goal.returns-in_err-running
+returns-in_err-running c =
+    let a = c.args in
+    let p = err_from_is_err_and c.from_residual.result c.from_residual.ensures.1 in
+    let e = told-refused (fit_refusal a.rec a.st a.page.now) (runs a.rec.model a.st) (sym c.in_err-running.was ∙ c.running.ensures) in
+    rw (p.1, p.2) (power-refused a.rec a.st a.page.now (power-parts a.rec a.st a.page.now (sym c.record_ok.ensures ∙ c.if-not-record_ok.false) ∙ rw e))
 
-pub returns-then-st-eq0 : goal.returns-then-st-eq0
-returns-then-st-eq0 c =
-    let right : record_ok c.args.rec ≡ true = sym c.record_ok.ensures ∙ c.if-not-record_ok.false in
-    let given = c.args in
-    done-cycle given.rec given.st given.page.now
-    (may-cycle given.rec given.st given.page.now (right)
-    (idle-fits given.rec given.st given.page.now true c.if-st-eq0.true c.idle_ok.ensures c.page_fits.ensures (c.if-not-idle_ok-page_fits.false))
-    c.if-st-eq0.true)
-    refl c.cycle.ensures c.done.ensures
-
-pub returns-then-not-busy_ok-page_fits : goal.returns-then-not-busy_ok-page_fits
-returns-then-not-busy_ok-page_fits c =
-    let right : record_ok c.args.rec ≡ true = sym c.record_ok.ensures ∙ c.if-not-record_ok.false in
-    let given = c.args in
-    refused-cycle given.rec given.st given.page.now
-    (no-power-state given.rec given.st given.page.now (right)
-    (busy-fits given.rec given.st given.page.now false c.if-st-eq0.false c.started_by-op.ensures c.busy_ok.ensures c.page_fits-2.ensures (c.if-not-busy_ok-page_fits.true)))
-    refl c.refused-then-not-busy_ok-page_fits.ensures
+pub returns-then-st-ne0 : goal.returns-then-st-ne0
+returns-then-st-ne0 c =
+    let a = c.args in
+    let d = told-done (fit_refusal a.rec a.st a.page.now) (runs a.rec.model a.st) (sym c.in_ok-running.was ∙ c.running.ensures) in
+    power-refused a.rec a.st a.page.now (power-parts a.rec a.st a.page.now (sym c.record_ok.ensures ∙ c.if-not-record_ok.false) ∙ rw (d.0, ne_eqb _ _ c.if-st-ne0.true))
 
 pub returns : goal.returns
 returns c =
-    let right : record_ok c.args.rec ≡ true = sym c.record_ok.ensures ∙ c.if-not-record_ok.false in
-    let given = c.args in
-    refused-cycle given.rec given.st given.page.now
-    (no-power-busy given.rec given.st given.page.now (right)
-    (busy-fits given.rec given.st given.page.now true c.if-st-eq0.false c.started_by-op.ensures c.busy_ok.ensures c.page_fits-2.ensures (c.if-not-busy_ok-page_fits.false))
-    c.if-st-eq0.false)
-    refl c.refused-2.ensures
+    let a = c.args in
+    let d = told-done (fit_refusal a.rec a.st a.page.now) (runs a.rec.model a.st) (sym c.in_ok-running.was ∙ c.running.ensures) in
+    power-done a.rec a.st a.page.now c.cycle.ensures (power-parts a.rec a.st a.page.now (sym c.record_ok.ensures ∙ c.if-not-record_ok.false) ∙ rw (d.0, eq-eqb _ _ c.if-st-ne0.false))

@@ -2,14 +2,11 @@
 use Rattle.wear_rows.proofs.Laws.{right-room, right-put}
 use Rattle.wear_rows.proofs.put_right.Goals as goal
 
-pub put_all-requires : goal.put_all-requires
-put_all-requires c =
-    let a = c.args in
-    let p = c.put_number-used.ensures in
-    right-room a.width a.n p.0 c.left_of.ensures c.put_run-next.ensures p.1 c.requires
+pub text-requires : goal.text-requires
+text-requires c = let a = c.args in right-room a.width a.n c.digits-digits.ensures.value c.saturating_sub.ensures c.run.ensures.put c.digits-digits.ensures.few c.requires
 
-pub returns : goal.returns
-returns c =
-    let a = c.args in
-    let p = c.put_number-used.ensures in
-    right-put a.width a.n p.0 c.left_of.ensures c.put_run-next.ensures p.1 c.put_all.ensures
+pub returns-clause-put : goal.returns-clause-put
+returns-clause-put c = let a = c.args in (right-put a.width a.n c.digits-digits.ensures.value c.saturating_sub.ensures c.run.ensures.put c.digits-digits.ensures.few c.text.ensures.put).0
+
+pub returns-clause-most : goal.returns-clause-most
+returns-clause-most c = let a = c.args in (right-put a.width a.n c.digits-digits.ensures.value c.saturating_sub.ensures c.run.ensures.put c.digits-digits.ensures.few c.text.ensures.put).1

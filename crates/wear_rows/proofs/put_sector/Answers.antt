@@ -1,35 +1,25 @@
 -- `wear_rows::put_sector` meets its contract.
+use mathlib.Core.Path.{◌∙◌, ap}
 use mathlib.Core.List.{append_assoc}
 use native.Mathlib.Omega.{arith}
-use Rattle.text.proofs.PutLaws.{put_as, put_then, put_same}
-use Rattle.wear_rows.specs.WearSheet.{sector_text}
-use Rattle.wear_rows.proofs.Laws.{bars}
+use Rattle.text.proofs.PutLaws.{put_as, put_then}
+use Rattle.wear_rows.specs.WearSheet.{sector_text, bar_text, right_text}
+use Rattle.wear_rows.proofs.Laws.{bars, sector-joined}
 use Rattle.wear_rows.proofs.put_sector.Goals as goal
 
-pub put_bar-c-requires : goal.put_bar-c-requires
-put_bar-c-requires c =
-    let a = c.args in
-    let b = bars a.largest a.count c.requires.0 in
-    let s = put_same c.put_right-a.ensures.0 in
-    let t = put_same c.put_right-b.ensures.0 in
-    omega (arith, c.marks_of.ensures, b.short, s, t, c.put_right-a.ensures.1, c.put_right-b.ensures.1, c.requires.1)
+pub put_bar-requires : goal.put_bar-requires
+put_bar-requires c = let b = bars c.args.largest c.args.count c.requires.0 in omega (arith, c.marks_of.ensures, b.short, c.requires.1)
 
-pub put_byte-requires : goal.put_byte-requires
-put_byte-requires c =
-    let a = c.args in
-    let b = bars a.largest a.count c.requires.0 in
-    let s = put_same c.put_right-a.ensures.0 in
-    let t = put_same c.put_right-b.ensures.0 in
-    let u = put_same c.put_bar-c.ensures.0 in
-    omega (arith, c.marks_of.ensures, b.short, s, t, u, c.put_right-a.ensures.1, c.put_right-b.ensures.1, c.put_bar-c.ensures.1, c.requires.1)
+pub byte-requires : goal.byte-requires
+byte-requires c = let b = bars c.args.largest c.args.count c.requires.0 in omega (arith, c.marks_of.ensures, b.short, c.requires.1)
 
-pub returns : goal.returns
-unfolding sector_text
-returns c =
+pub returns-clause-put : goal.returns-clause-put
+returns-clause-put c =
     let a = c.args in
-    let b = bars a.largest a.count c.requires.0 in
-    let sector = c.put_right-a.ensures in
-    let count = c.put_right-b.ensures in
-    let bar = c.put_bar-c.ensures in
-    let end = c.put_byte.ensures in
-    (put_as (put_then (put_then (put_then sector.0 count.0) bar.0) end) (rw c.marks_of.ensures (simp append_assoc)), omega (arith, c.marks_of.ensures, b.short, sector.1, count.1, bar.1, end.next))
+    let sector = put_as c.put_right.ensures.put (ap (right_text 6) c.from.ensures) in
+    let count = put_as c.put_right-2.ensures.put (ap (right_text 12) c.from-2.ensures) in
+    let bar = put_as c.put_bar.ensures.put (ap bar_text c.marks_of.ensures) in
+    put_as (put_then (put_then (put_then sector count) bar) c.byte.ensures.put) (sector-joined a.largest a.sector a.count)
+
+pub returns-clause-most : goal.returns-clause-most
+returns-clause-most c = let b = bars c.args.largest c.args.count c.requires.0 in omega (arith, c.marks_of.ensures, b.short, c.byte.ensures.put.next)

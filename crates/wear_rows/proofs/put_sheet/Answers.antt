@@ -4,32 +4,34 @@ use Prim.Native.Nat.{◌+◌, ◌≤◌}
 use native.Mathlib.Omega.{arith}
 use lib.ListN.{length}
 use borrow.Author.Tests.{leb-true}
-use Rattle.text.proofs.PutLaws.{put_same}
+use Rattle.std.proofs.Common.{rules}
 use Rattle.script_log.proofs.Laws.{rowed-yes}
 use Rattle.counts.specs.declared.Figures.{Figures}
 use Rattle.counts.proofs.Laws.{sectors-range}
 use Rattle.wear_rows.specs.WearSheet.{heading_text, sheet_room}
-use Rattle.wear_rows.proofs.Laws.{no-sheet, said-largest, whole-sheet}
+use Rattle.wear_rows.proofs.Laws.{no-sheet, said_yes, said_no, put-lent, whole-sheet}
 use Rattle.wear_rows.proofs.put_sheet.Goals as goal
 
-pub returns-then-not-is_sectors : goal.returns-then-not-is_sectors
-returns-then-not-is_sectors c =
-    let a = c.args in
-    no-sheet a.wear.now a.out.now a.at (sym c.is_sectors.ensures ∙ c.if-not-is_sectors.true)
+pub returns-in_default : goal.returns-in_default
+returns-in_default c = let a = c.args in no-sheet a.wear.now a.out.now a.at (said_no a.wear.now c.in_default.ensures)
 
 pub fits-requires : goal.fits-requires
-fits-requires c = (sectors-range (length c.args.wear.now) (sym c.is_sectors.ensures ∙ c.if-not-is_sectors.false)).1
+fits-requires c = (sectors-range (length c.args.wear.now) (said_yes c.args.wear.now c.in-Ok.ensures).0).1
 
-pub put_sectors-b-requires : goal.put_sectors-b-requires
-put_sectors-b-requires c =
+pub put_sectors-requires : goal.put_sectors-requires
+put_sectors-requires c =
     let a = c.args in
+    let said = said_yes a.wear.now c.in-Ok.ensures in
     let room : a.at + sheet_room (length a.wear.now) ≤ length a.out.now = leb-true _ _ (sym c.fits.ensures ∙ c.if-not-fits.false) in
-    let n = sectors-range (length a.wear.now) (sym c.is_sectors.ensures ∙ c.if-not-is_sectors.false) in
-    let p = c.put_all-a.ensures in
-    (ap (λ (z : Figures). z.largest) c.report-figures.ensures ∙ said-largest a.wear.now (sym c.is_sectors.ensures ∙ c.if-not-is_sectors.false), n.1, omega (arith, p.next, put_same p))
+    let n = sectors-range (length a.wear.now) said.0 in
+    let s = c.new-sheet.ensures in
+    (ap (λ (z : Figures). z.largest) said.1, n.1, omega (arith, c.text.ensures.put.next, c.text.ensures.same_length, ap length s.holds, s.place))
 
 pub returns : goal.returns
 unfolding heading_text
 returns c =
+    let said = said_yes c.args.wear.now c.in-Ok.ensures in
+    let h = c.new-sheet.ensures in
     rowed-yes _ _ _ _ _ _ (sym c.fits.ensures ∙ c.if-not-fits.false)
-    (whole-sheet c.args.wear.now (sym c.is_sectors.ensures ∙ c.if-not-is_sectors.false) c.report-figures.ensures c.put_all-a.ensures c.put_sectors-b.ensures.0 c.put_sums-c.ensures.0 c.put_mean.ensures)
+    (put-lent (whole-sheet c.args.wear.now said.0 said.1 c.text.ensures.put c.put_sectors.ensures.put c.put_sums.ensures.put c.put_mean.ensures.put)
+    h.holds h.place (search rules) c.end.ensures)

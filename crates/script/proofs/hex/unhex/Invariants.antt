@@ -1,14 +1,10 @@
 -- `script::hex::unhex` meets its contract: the first k bytes stand.
 use mathlib.Core.Path.{◌≡◌}
 use mathlib.Core.List.{◌++◌}
-use Prim.Native.Nat.{◌-◌, ◌/◌, ◌≤◌}
+use Prim.Native.Nat.{◌/◌, ◌≤◌}
 use lib.ListN.{length, take, drop}
 use Rattle.script.specs.Hex.{hex_bytes}
 use Rattle.script.proofs.hex.unhex.Given as goal
 
 abbrev pub invariant-loop-k : goal.invariant-loop-k
-invariant-loop-k l =
-    (l.k ≤ l.n) × (l.n ≤ length l.digits / 2) × (l.n ≤ length l.initial.out) × (length l.out ≡ length l.initial.out) × (l.out ≡ take l.k (hex_bytes l.digits) ++ drop l.k l.initial.out)
-
-abbrev pub decreases-loop-k : goal.decreases-loop-k
-decreases-loop-k l = l.n - l.k
+invariant-loop-k l = (l.n ≤ length l.digits / 2) × (l.n ≤ length l.initial.out) × (l.out ≡ take l.k (hex_bytes l.digits) ++ drop l.k l.initial.out)

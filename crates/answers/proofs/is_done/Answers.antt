@@ -1,5 +1,0 @@
--- `answers::is_done` meets its contract.
-use Rattle.answers.proofs.is_done.Goals as goal
-
-pub returns : goal.returns
-returns c = rw c.number_of.ensures

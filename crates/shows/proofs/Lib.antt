@@ -1,0 +1,2 @@
+-- `Lent`: a part of the output that was lent, and came back filled.
+pub mod Lent
