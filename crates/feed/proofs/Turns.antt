@@ -55,7 +55,17 @@ same-clip rec strict x wear number m {handed} whole l e =
 
 -- ---- what is lent stays lent
 pub stays-none : (b : Bench) → StaysLent b b
-stays-none b = record { same_record = refl; same_setting = refl; same_page = refl; same_array = refl; same_wear = refl }
+stays-none b =
+    record {
+      same_record = refl;
+      same_setting = refl;
+      same_page = refl;
+      same_array = refl;
+      same_wear = refl;
+      same_page_length = refl;
+      same_array_length = refl;
+      same_wear_length = refl;
+    }
 
 pub stays-then : {a b c : Bench} → StaysLent a b → StaysLent b c → StaysLent a c
 stays-then p q =
@@ -65,6 +75,9 @@ stays-then p q =
       same_page = q.same_page ∙ p.same_page;
       same_array = q.same_array ∙ p.same_array;
       same_wear = q.same_wear ∙ p.same_wear;
+      same_page_length = q.same_page_length ∙ p.same_page_length;
+      same_array_length = q.same_array_length ∙ p.same_array_length;
+      same_wear_length = q.same_wear_length ∙ p.same_wear_length;
     }
 
 -- ---- what the code does is the turn

@@ -48,16 +48,6 @@ pub fn tear_page(array: &mut [u8], a: Address, bytes: &[u8], pattern: &[u8])
     cells::tear_into(&mut array[start..start + 256], bytes, pattern);
 }
 
-// The cells become the bytes. A loop: the library's copy is a call, and a cut has no stack left for one.
-fn put(cells: &mut [u8], bytes: &[u8])
-    requires { length cells.old ≡ length bytes.now }
-    ensures { cells.new ≡ bytes.now }
-{
-    for (k, cell) in cells.iter_mut().enumerate() {
-        *cell = bytes[k];
-    }
-}
-
 // The cells from an address on become the bytes left in them.
 #[tactic(auto, using(parts::proofs::Lay::put_back))]
 pub fn leave(array: &mut [u8], from: Address, bytes: &[u8])
@@ -65,7 +55,7 @@ pub fn leave(array: &mut [u8], from: Address, bytes: &[u8])
     ensures { array.new ≡ lay array.old from.0 bytes.now }
 {
     let start = from.0 as usize;
-    put(&mut array[start..start + bytes.len()], bytes);
+    parts::copy(&mut array[start..start + bytes.len()], bytes);
 }
 
 // Fills out with the cells from the address on, and after the last address with those from 0 on.

@@ -8,7 +8,7 @@ ghost use Rattle.std.specs.Prelude.{◌≡◌, true, ◌≤◌, length};
 ghost use Rattle.script_log.specs.Row.{longest_row};
 ghost use Rattle.play.specs.Play.{StaysLent};
 ghost use Rattle.feed.specs.Feed.{standing};
-ghost use Rattle.input.specs.Input.{BlockStart, BlockRead, ScriptPlayed};
+ghost use Rattle.input.specs.Input.{first_run, BlockStart, BlockRead, ScriptPlayed};
 
 use blocks::take_block;
 use feed::Run;
@@ -37,7 +37,19 @@ fn read_block(
     take_block(rt, got, bench, run, held, block, log, written)
 }
 
-// Block after block, from power-on. The first line has the number 1.
+// The first line has the number 1, and nothing is held of it.
+fn first_run() -> Run
+    ensures { result ≡ first_run }
+{
+    Run {
+        number: 1,
+        used: 0,
+        at: 0,
+        filled: 0,
+    }
+}
+
+// Block after block, from power-on.
 fn play_blocks(
     rt: &(impl Input + Print + Eprint + Alloc),
     bench: &mut Bench<'_>,
@@ -52,12 +64,7 @@ fn play_blocks(
     let mut held = [0u8; 641];
     let mut block = [0u8; 65536];
     let mut input = rt.reader();
-    let mut run = Run {
-        number: 1,
-        used: 0,
-        at: 0,
-        filled: 0,
-    };
+    let mut run = first_run();
     for _ in 0..u64::MAX {
         match read_block(
             rt, &mut input, bench, run, &mut held, &mut block, log, written,

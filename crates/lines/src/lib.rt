@@ -47,7 +47,7 @@ fn keep(held: &mut [u8], used: usize, part: &[u8]) -> usize
         return used;
     }
     let n = (held.len() - used).min(part.len());
-    held[used..used + n].copy_from_slice(&part[..n]);
+    parts::copy(&mut held[used..used + n], &part[..n]);
     used + n
 }
 

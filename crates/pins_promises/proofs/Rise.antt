@@ -16,16 +16,20 @@ use Rattle.pins.specs.declared.Front.{Front}
 use Rattle.pins.specs.Pins.{Told, select_of, clock_of, hold_of, is_held, silent, refused, handed, answer_of, told_by, idle, fallen, Sampled, sampled, risen_of, clocked_of, step_of, front_ok, stepped_of}
 use Rattle.pins_run.specs.Runs.{Captured, ran_to, ends, run_from, run_of, ran_of}
 use Rattle.pins_promises.specs.Samples.{FallToRise, all_low, last_held, deselected}
-use Rattle.pins_promises.specs.Promises.{Dropped, RefusesHeld, TellsOneThing, OneThing}
+use Rattle.pins_promises.specs.Promises.{AnswersAlone, Dropped, RefusesHeld, TellsOneThing, OneThing}
 use Rattle.units.proofs.Bools.{both}
 use Rattle.pins.proofs.Table.{step-high, step-fall, step-rise, step-low, clocked_silent}
 use Rattle.pins_run.proofs.Going.{run-silent, run_on, run_end, made}
 use Rattle.pins_promises.proofs.Out.{low-front}
 
+-- ---- a refusal tells its answer alone
+refused_alone : (r : Refusal) → AnswersAlone (refused r)
+refused_alone r = record { alone = refl; none = refl; zeros = refl }
+
 -- ---- what a frame comes to when CS# rises
 record Rises (held : Bool) (t : Told) : Type 0 where
   last : ends t ≡ true
-  refuses : (answer_of t ≡ Done → ⊥) → t ≡ told_by (answer_of t) silent
+  refuses : (answer_of t ≡ Done → ⊥) → AnswersAlone t
   is-34 : held ≡ true → t ≡ refused InHold
   only-34 : answer_of t ≡ Err InHold → held ≡ true
 
@@ -36,11 +40,11 @@ abbrev told_at : Bool → Bool → ℕ → ℕ → Bool → Told
 told_at h o bytes tail wp = told_by (answer_by h o) (handed bytes tail wp)
 
 by_tests : (h o : Bool) (bytes tail : ℕ) (wp : Bool) → Rises h (told_at h o bytes tail wp)
-by_tests true o bytes tail wp = record { last = refl; refuses = λ z. refl; is-34 = λ z. refl; only-34 = λ z. refl }
+by_tests true o bytes tail wp = record { last = refl; refuses = λ z. refused_alone InHold; is-34 = λ z. refl; only-34 = λ z. refl }
 by_tests false true bytes tail wp =
     record {
       last = refl;
-      refuses = λ z. refl;
+      refuses = λ z. refused_alone BadFrame;
       is-34 = λ z. absurd (false≢true z);
       only-34 = λ z. absurd (let e : 4 ≡ 34 = ap number_of z in omega arith);
     }
@@ -58,10 +62,10 @@ rise-tells g room = by_tests g.held (g.outgrown || ltb room g.bytes) g.bytes g.b
 
 -- ---- one thing is told
 silent_one : TellsOneThing silent
-silent_one = record { no-frame = λ z. refl; a-frame = λ z. refl }
+silent_one = record { no-frame = λ z. record { alone = refl; none = refl; zeros = refl }; a-frame = λ z. refl }
 
 refused-one : (r : Refusal) → TellsOneThing (refused r)
-refused-one r = record { no-frame = λ z. refl; a-frame = λ z. absurd (false≢true z) }
+refused-one r = record { no-frame = λ z. refused_alone r; a-frame = λ z. absurd (false≢true z) }
 
 one-by : (h o : Bool) (bytes tail : ℕ) (wp : Bool) → TellsOneThing (told_at h o bytes tail wp)
 one-by true o bytes tail wp = refused-one InHold

@@ -5,7 +5,7 @@ use Rattle.answers.specs.Answers.{Done}
 use Rattle.parts.specs.Parts.{Bytes, lay}
 use Rattle.pins.specs.declared.Front.{Front}
 use Rattle.pins.specs.declared.Stepped.{Stepped}
-use Rattle.pins.specs.Pins.{clock_of, wp_of, is_held, frame_limit, Told, silent, refused, handed, answer_of, told_by, is_ready, idle, Sampled, stepped_of, Senses}
+use Rattle.pins.specs.Pins.{clock_of, wp_of, is_held, frame_limit, Told, silent, refused, handed, answer_of, told_by, is_ready, no_frame, frame_told, idle, Sampled, stepped_of, Senses}
 use Rattle.pins_run.specs.declared.Ran.{Ran}
 use Rattle.pins_run.specs.Runs.{Captured, ran_to, ends, run_of, ran_of, Captures}
 use Rattle.pins_promises.specs.Samples.{FallToRise, none_held, last_held, unheld, deselected, bits_at, whole_of, byte_bits, AreBits, samples_for}
@@ -67,12 +67,18 @@ CutAnywhere = (f : Front) (xs ys buffer : List ℕ)
     → ran_of f (xs ++ ys) buffer
     ≡ cond (ends (ran_of f xs buffer).told) (ran_of f xs buffer) (plus (ran_of f xs buffer).used (ran_of (ran_of f xs buffer).front ys (ran_of f xs buffer).buffer))
 
+-- nothing is told but the answer: no frame is handed over, and what is told of one, its bytes, tail and WP#, is zeros
+pub record AnswersAlone (t : Told) : Type 0 where
+  pub alone : t ≡ told_by (answer_of t) silent
+  pub none : is_ready t ≡ false
+  pub zeros : frame_told t ≡ no_frame
+
 -- ---- 5: dropped is dropped. A run that is refused tells its answer and nothing else; and after a rise, 34 and 4 among the answers, the front is as if CS# had stayed high
 abbrev pub Dropped : Type 0
 Dropped = (f : Front) (fall : ℕ) (between : List ℕ) (rise : ℕ) (rest buffer : List ℕ)
     → FallToRise f fall between rise
     → ((answer_of (run_of f (fall ∷ (between ++ (rise ∷ rest))) buffer).told ≡ Done → ⊥)
-    → (run_of f (fall ∷ (between ++ (rise ∷ rest))) buffer).told ≡ told_by (answer_of (run_of f (fall ∷ (between ++ (rise ∷ rest))) buffer).told) silent)
+    → AnswersAlone (run_of f (fall ∷ (between ++ (rise ∷ rest))) buffer).told)
     × ((run_of f (fall ∷ (between ++ (rise ∷ rest))) buffer).front ≡ (run_of f (deselected (fall ∷ (between ++ (rise ∷ [])))) buffer).front)
 
 -- 34 exactly if the last sample before the rise is held
@@ -84,7 +90,7 @@ RefusesHeld = (f : Front) (fall : ℕ) (between : List ℕ) (rise : ℕ) (rest b
 
 -- where no frame is handed over nothing but the answer is told, and a frame that is handed over is answered 0
 pub record TellsOneThing (t : Told) : Type 0 where
-  pub no-frame : is_ready t ≡ false → t ≡ told_by (answer_of t) silent
+  pub no-frame : is_ready t ≡ false → AnswersAlone t
   pub a-frame : is_ready t ≡ true → answer_of t ≡ Done
 
 abbrev pub OneThing : Type 0

@@ -9,6 +9,7 @@ use native.Mathlib.Omega.{arith}
 use lib.Dec.{eqb, ltb}
 use Rattle.std.specs.Prelude.{Option, Some, None, MatchOption, ⊤}
 use Rattle.std.specs.Option.{option_eq}
+use Rattle.std.proofs.lemmas.List.{drop-drop}
 use lib.ListN.{length, take, drop, get_or, set, drop_of_length-le, length-drop}
 use lib.Seq.{drop-cons, take-length}
 use borrow.Author.Tests.{eqb-true, lt-ltb, le-ltb}
@@ -85,13 +86,14 @@ step-bit g l p q t h buffer = step-low g l buffer p q ∙ on-true (takes_bit g l
 
 -- ---- the way
 pub reach-none : (f : Front) (ls b : List ℕ) → Sound f → Reaches f ls b f ls b
-reach-none f ls b s = record { taken = 0; long = omega arith; right = s; same = refl; on = λ n. rw (add-zero n) }
+reach-none f ls b s = record { taken = 0; long = omega arith; rest_is = refl; right = s; same = refl; on = λ n. rw (add-zero n) }
 
 pub reach-then : {f g h : Front} {ls left end b₀ b b' : List ℕ} → Reaches f ls b₀ g left b → Reaches g left b h end b' → Reaches f ls b₀ h end b'
 reach-then {f} {g} {h} {ls} {left} {end} {b₀} {b} {b'} p q =
     record {
       taken = p.taken + q.taken;
       long = omega (arith, p.long, q.long);
+      rest_is = q.rest_is ∙ ap (drop q.taken) p.rest_is ∙ drop-drop q.taken p.taken ls;
       right = q.right;
       same = q.same ∙ p.same;
       on = λ n. p.on n ∙ q.on (n + p.taken) ∙ ap (λ (k : ℕ). run_from k h end b') {x = n + p.taken + q.taken} {y = n + (p.taken + q.taken)} (omega arith);
@@ -103,6 +105,7 @@ one-on g g' x after b b' s e =
     record {
       taken = 1;
       long = omega arith;
+      rest_is = refl;
       right = subst Sound (ap (λ (y : Sampled). y.front) e) (step-sound g x b s);
       same = sym (ap (λ (y : Sampled). length y.buffer) e) ∙ step-length g x b;
       on = λ n. run-silent n g g' x after b e ∙ ap (λ (k : ℕ). run_from k g' after b') (sym (add-one n));
@@ -293,6 +296,7 @@ module _ (f : Front) (ls b₀ : List ℕ) (g : Front) (b : List ℕ) where
         record {
           taken = w.taken + 1;
           long = omega (arith, w.long);
+          rest_is = ap (drop 1) w.rest_is ∙ drop-drop 1 w.taken ls;
           right = subst Sound (sym k.front-is) (step-sound g x b w.right);
           same = way-length;
           on = λ n. w.on n ∙ run_on (n + w.taken) g x after b (ap ends (sym k.told_is) ∙ t)

@@ -1,5 +1,5 @@
 -- A run of samples: single ones, until one of them hands a frame over or drops it, or to the end.
-use Rattle.std.specs.Prelude.{Bool, not, ◌&&◌, cond, List, [], ◌∷◌, ◌≡◌, ℕ, suc, ◌+◌, length}
+use Rattle.std.specs.Prelude.{Bool, not, ◌&&◌, cond, List, [], ◌∷◌, ◌≡◌, ℕ, suc, ◌+◌, length, drop}
 use Rattle.answers.specs.Answers.{is_done}
 use Rattle.answers.specs.declared.Refusal.TheVariants.{BadState}
 use Rattle.pins.specs.declared.Front.{Front}
@@ -40,10 +40,11 @@ pub record Captures (e : Captured) (r : Ran) (after : List ℕ) : Type 0 where
   pub used-is : r.used ≡ e.used
   pub buffer-is : after ≡ e.buffer
 
--- the same run goes on from a later front, over the samples that are left
+-- the same run goes on from a later front, over the samples that are left: those that were lent, after the first `taken`
 pub record Reaches (f : Front) (ls b : List ℕ) (g : Front) (left b' : List ℕ) : Type 0 where
   pub taken : ℕ
   pub long : length ls ≡ taken + length left
+  pub rest_is : left ≡ drop taken ls
   pub right : Sound g
   pub same : length b' ≡ length b
   pub on : (n : ℕ) → run_from n f ls b ≡ run_from (n + taken) g left b'

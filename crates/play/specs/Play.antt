@@ -1,5 +1,5 @@
 -- What a script line does to the chip: 01, "Script and log".
-use Rattle.std.specs.Prelude.{◌≡◌, Bool, false, List, ℕ, drop, take, Option, Some, None, Result, Ok, Err}
+use Rattle.std.specs.Prelude.{◌≡◌, Bool, false, List, ℕ, length, drop, take, Option, Some, None, Result, Ok, Err}
 use Rattle.answers.specs.Answers.{Answer}
 use Rattle.answers.specs.declared.Refusal.{Refusal}
 use Rattle.answers.specs.declared.Refusal.TheVariants.{BadLine}
@@ -92,13 +92,16 @@ pub record Plays (t : Turn) (r : Played) (b : Bench) (os : List ℕ) : Type 0 wh
   pub wear : b.wear.now ≡ t.wear
   pub shown : os ≡ t.shown
 
--- the record and the setting are the same, and what is lent is lent on
+-- the record and the setting are the same, and what is lent is lent on, each as long as it was
 pub record StaysLent (b c : Bench) : Type 0 where
   pub same_record : c.rec ≡ b.rec
   pub same_setting : c.strict ≡ b.strict
   pub same_page : c.page.ghost_name ≡ b.page.ghost_name
   pub same_array : c.array.ghost_name ≡ b.array.ghost_name
   pub same_wear : c.wear.ghost_name ≡ b.wear.ghost_name
+  pub same_page_length : length c.page.now ≡ length b.page.now
+  pub same_array_length : length c.array.now ≡ length b.array.now
+  pub same_wear_length : length c.wear.now ≡ length b.wear.now
 
 -- no second answer
 abbrev pub OnePlays : Type 0

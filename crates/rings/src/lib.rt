@@ -15,12 +15,12 @@ pub fn read_ring(src: &[u8], first: usize, out: &mut [u8])
     let mut done = 0;
     while run.len() < out.len() - done {
         let next = done + run.len();
-        out[done..next].copy_from_slice(run);
+        parts::copy(&mut out[done..next], run);
         done = next;
         run = src;
     }
     let last = out.len() - done;
-    out[done..].copy_from_slice(&run[..last]);
+    parts::copy(&mut out[done..], &run[..last]);
 }
 
 // Fills out with the pattern over and over. A long one is read out of a block of 24 bytes, which 1, 2 and 3 divide.

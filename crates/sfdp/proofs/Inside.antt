@@ -1,5 +1,5 @@
 -- Bytes that are taken hold every header and every table.
-use mathlib.Core.Path.{◌≡◌, refl, sym, ap, ◌∙◌}
+use mathlib.Core.Path.{◌≡◌, refl, sym, ap, ◌∙◌, subst}
 use mathlib.Core.Bool.{Bool, true, false, not, ◌||◌}
 use mathlib.Core.List.{List}
 use Prim.Native.Nat.{ℕ, zero, suc, ◌+◌, ◌*◌, ◌≤◌, ◌<◌}
@@ -71,6 +71,17 @@ taken-inside xs e =
       first = ltb-false (words_of xs 0) 9 (neither (some_below (is_long xs) (headers_of xs)) (ltb (words_of xs 0) 9) k.1).1;
       tables = λ i m. ltb-false n (pointer_of xs i + 4 * words_of xs i) (none-some (is_out xs) (headers_of xs) pointer i m);
     }
+
+-- a table that is longer than the bytes leaves them: where none of n leaves them, none is refused
+pub none-refused : (xs : List ℕ) (n : ℕ) → n ≡ headers_of xs → is_signed xs ≡ true → header_at n ≤ length xs → 9 ≤ words_of xs 0 → some_below (is_out xs) n ≡ false → table_refusal xs ≡ Done
+none-refused xs n e signed headers first out =
+    inside-taken xs
+    (record {
+      signed = signed;
+      headers = subst (λ (m : ℕ). header_at m ≤ length xs) e headers;
+      first = first;
+      tables = λ i m. ltb-false (length xs) (pointer_of xs i + 4 * words_of xs i) (none-some (is_out xs) n out i (omega (arith, e, m)));
+    })
 
 -- so the first table, of nine double words at least, lies in them
 pub first_inside : (xs : List ℕ) (n : ℕ) → some_below (is_out xs) n ≡ false → 0 < n → 9 ≤ words_of xs 0 → pointer_of xs 0 + 36 ≤ length xs

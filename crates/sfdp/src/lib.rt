@@ -110,13 +110,17 @@ fn refusal(bytes: &[u8]) -> Answer
         return Err(Refusal::NoSignature);
     }
     let count = headers(bytes) as usize;
-    if n < 8 + 8 * count || some_long(bytes, count) || words(bytes, 0) < 9 {
+    if n < 8 + 8 * count || words(bytes, 0) < 9 {
         return Err(Refusal::BadHeader);
     }
-    if some_out(bytes, count) {
-        return Err(Refusal::BadPointer);
+    // A table that is longer than the bytes leaves them too: where none does, the headers were gone through once.
+    if !some_out(bytes, count) {
+        return Ok(());
     }
-    Ok(())
+    if some_long(bytes, count) {
+        return Err(Refusal::BadHeader);
+    }
+    Err(Refusal::BadPointer)
 }
 
 // The density field of a table that starts there.

@@ -20,7 +20,7 @@ pub fn write_status(rec: Record, st: State, page: &mut [u8], bytes: &[u8]) -> Re
     ensures { Starts (write_status rec st page.old bytes.now) result page.new }
 {
     let n = bytes.len() - 1;
-    page[..n].copy_from_slice(&bytes[1..]);
+    parts::copy(&mut page[..n], &bytes[1..]);
     let time = states::operation_time(rec, Some(Operation::WritesStatus));
     effects::quiet(
         Ok(()),

@@ -2,6 +2,7 @@
 // Cell i holds i, plus 3 for each page before it and 7 for each block, modulo 256.
 #![tactic(auto)]
 
+use text::Sheet;
 use units::Address;
 
 // The arrays of models 1 and 2, and lengths that no model has.
@@ -13,14 +14,25 @@ const ADDRESSES: [u32; 14] = [
     0x03FFFF, 0x040000, 0x05ABCD, 0xFFFFFF, 0xFFFFFFFF,
 ];
 
-// An address in six hex digits or more; the cells in two each.
+// The cells in two hex digits each, written at once; a view has at most 256.
+fn say_cells(rt: &impl Print, cells: &[u8]) {
+    let mut digits = [0u8; 512];
+    if cells.len() <= 256 {
+        let mut sheet = Sheet::new(&mut digits, 0);
+        sheet.hex(cells);
+        let end = sheet.end();
+        if let Some(text) = digits.get(..end) {
+            let _ = rt.write_all(text);
+        }
+    }
+}
+
+// An address in six hex digits or more.
 fn say_view(rt: &impl Print, array: &[u8], address: u32) {
     let page = flash::page_view(array, Address(address));
     let (length, view) = (array.len(), page.len());
     let _ = print!(rt; "{length}\t{address:06x}\t{view}\t");
-    for cell in page {
-        let _ = print!(rt; "{cell:02X}");
-    }
+    say_cells(rt, page);
     let _ = println!(rt; "");
 }
 

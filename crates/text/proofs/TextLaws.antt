@@ -1,18 +1,16 @@
 -- The laws of hex and decimal text. No contract cites this file.
 use mathlib.Core.Path.{◌≡◌, refl, sym, ap, ◌∙◌}
 use mathlib.Core.Bool.{Bool, true, false}
-use mathlib.Core.List.{List, [], ◌∷◌, ◌++◌, append_assoc}
+use mathlib.Core.List.{List, [], ◌∷◌, ◌++◌, append_assoc, append-nil}
 use Prim.Native.Nat.{ℕ, zero, suc, ◌+◌, ◌-◌, ◌*◌, ◌/◌, ◌%◌, ◌^◌, ◌≤◌, ◌<◌}
 use native.Mathlib.Nat.{pow-suc}
 use native.Mathlib.Numerals.{add-one}
 use native.Mathlib.Omega.{arith}
 use lib.Dec.{ltb}
-use lib.ListN.{length, get_or, take, drop, length-append}
+use lib.ListN.{length, get_or, take, drop, set, length-append, length-drop, length-set, drop_of_length-le}
 use lib.Seq.{take_all, take-suc, take-length}
 use borrow.Author.Tests.{lt-ltb, le-ltb, ltb-false}
-use Rattle.std.specs.Fmt.{decimal}
-use Rattle.std.proofs.lemmas.Fmt.{decimal_by_steps}
-use mathlib.Core.List.{append-nil}
+use Rattle.std.proofs.lemmas.List.{drop-set}
 use Rattle.text.specs.Text.{digit_of, hex_text, decimal_in, decimal_text}
 use Rattle.text.specs.Put.{Put}
 use Rattle.text.proofs.PutLaws.{put_then, put_as}
@@ -75,23 +73,65 @@ pub decimal-more : (n : ℕ) → 10 ≤ n → n < 10 ^ 20 → decimal_text n ≡
 unfolding decimal_text
 decimal-more n l h = rw (le-ltb n 10 l) (ap (λ (z : List ℕ). z ++ ((48 + n % 10) ∷ [])) (sym (enough 19 (n / 10) (omega arith) (omega arith))))
 
--- the digits of the library are those
-pub decimal-is : (n : ℕ) → n < 2 ^ 64 → decimal n ≡ decimal_text n
-decimal-is n l = decimal_by_steps P one more n l (omega arith)
+-- there is at least one
+pub places-some : (n : ℕ) → 1 ≤ length (decimal_text n)
+unfolding decimal_text
+places-some n = go (ltb n 10) refl
   where
-    P : ℕ → List ℕ → Type 0
-    P n ds = n < 10 ^ 20 → ds ≡ decimal_text n
+    go : (t : Bool) → ltb n 10 ≡ t → 1 ≤ length (decimal_in 20 n)
+    go true p = rw p (omega arith)
+    go false p = rw p (simp length-append (omega arith))
 
-    one : (n : ℕ) → n < 10 → P n ((48 + n) ∷ [])
-    one n l h = sym (decimal-one n l)
+-- ---- a number that is written from its last digit back
+-- the last digits of n stand in twenty bytes from `start` on, and those before them are the digits of rest
+pub record Spelt (n rest start : ℕ) (room : List ℕ) : Type 0 where
+  pub twenty : length room ≡ 20
+  pub within : start ≤ 20
+  pub is : decimal_text n ≡ decimal_text rest ++ drop start room
 
-    more : (n : ℕ) (ds : List ℕ) → 10 ≤ n → P (n / 10) ds → P n (ds ++ ((48 + n % 10) ∷ []))
-    more n ds l p h = ap (λ (z : List ℕ). z ++ ((48 + n % 10) ∷ [])) (p (omega arith)) ∙ sym (decimal-more n l h)
+pub spelt-none : (n : ℕ) (room : List ℕ) → length room ≡ 20 → Spelt n n 20 room
+spelt-none n room l = record {
+  twenty = l;
+  within = omega arith;
+  is = sym (ap (λ (z : List ℕ). decimal_text n ++ z) (drop_of_length-le room {i = 20} (omega arith)) ∙ append-nil (decimal_text n));
+}
 
-pub decimal-fits : (n : ℕ) → n < 2 ^ 64 → length (decimal n) ≤ 20
-decimal-fits n l = rw (decimal-is n l) (decimal-few n)
+-- there is room for one more
+pub spelt-room : {n rest start : ℕ} {room : List ℕ} → Spelt n rest start room → 0 < start
+spelt-room {n} {rest} {start} {room} p =
+    let l : length room ≡ 20 = p.twenty in
+    let e : length (decimal_text n) ≡ length (decimal_text rest) + (length room - start) = ap length p.is ∙ simp (length-append, length-drop) in
+    let a : length (decimal_text n) ≤ 20 = decimal-few n in
+    let b : 1 ≤ length (decimal_text rest) = places-some rest in
+    let w : start ≤ 20 = p.within in
+    omega arith
 
--- they stand at the end of twenty bytes
-pub digits-are : (n start : ℕ) (rest now : List ℕ) → n < 2 ^ 64 → start + length (decimal n) ≡ 20 → rest ≡ [] → drop start now ≡ decimal n ++ rest → take (20 - start) (drop start now) ≡ decimal_text n
-digits-are n start rest now l h none e =
-    ap (take (20 - start)) (e ∙ ap (λ (z : List ℕ). decimal n ++ z) none ∙ append-nil (decimal n)) ∙ take_all (20 - start) (decimal n) (omega arith) ∙ decimal-is n l
+-- a digit is written before them
+spelt-one : (start digit : ℕ) (room : List ℕ) → 0 < start → start ≤ length room → drop (start - 1) (set room (start - 1) digit) ≡ digit ∷ drop start room
+spelt-one start digit room some l =
+    let e : start - 1 + 1 ≡ start = omega arith in
+    drop-set room (start - 1) digit (omega arith) ∙ ap (λ (k : ℕ). digit ∷ drop k room) e
+
+-- the last of the rest
+pub spelt_back : {n rest start : ℕ} {room : List ℕ} → Spelt n rest start room → 10 ≤ rest → rest < 10 ^ 20 → Spelt n (rest / 10) (start - 1) (set room (start - 1) (48 + rest % 10))
+spelt_back {n} {rest} {start} {room} p l h =
+    let some : 0 < start = spelt-room p in
+    let w : start ≤ 20 = p.within in
+    let t : length room ≡ 20 = p.twenty in
+    record {
+      twenty = length-set room (start - 1) (48 + rest % 10) ∙ t;
+      within = omega arith;
+      is =
+          p.is ∙ ap (λ (z : List ℕ). z ++ drop start room) (decimal-more rest l h)
+          ∙ append_assoc (decimal_text (rest / 10)) ((48 + rest % 10) ∷ []) (drop start room)
+          ∙ ap (λ (z : List ℕ). decimal_text (rest / 10) ++ z) (sym (spelt-one start (48 + rest % 10) room some (omega arith)));
+    }
+
+-- and the first of all
+pub spelt-all : {n rest start : ℕ} {room : List ℕ} → Spelt n rest start room → rest < 10 → take (20 - (start - 1)) (drop (start - 1) (set room (start - 1) (48 + rest))) ≡ decimal_text n
+spelt-all {n} {rest} {start} {room} p l =
+    let w : start ≤ 20 = p.within in
+    let t : length room ≡ 20 = p.twenty in
+    let is : drop (start - 1) (set room (start - 1) (48 + rest)) ≡ decimal_text n =
+    spelt-one start (48 + rest) room (spelt-room p) (omega arith) ∙ ap (λ (z : List ℕ). z ++ drop start room) (sym (decimal-one rest l)) ∙ sym p.is in
+    take_all (20 - (start - 1)) (drop (start - 1) (set room (start - 1) (48 + rest))) (simp (length-drop, length-set) (omega arith)) ∙ is

@@ -22,11 +22,10 @@ impl<'a> Sheet<'a> {
         Sheet { out, at }
     }
 
-    // The place past what was put.
     pub fn end(&self) -> usize
         ensures { result ≡ self.now.at }
     {
-        self.at
+        self.at // the place past what was put
     }
 
     // One byte.
@@ -93,12 +92,20 @@ impl<'a> Sheet<'a> {
     }
 }
 
-// n in decimal, in a room that is lent for it.
+// n in decimal, from its last digit back, in a room that is lent for it.
 pub fn digits(n: u64, room: &mut [u8; 20]) -> &[u8]
     ensures value { result.now ≡ decimal_text n }
     ensures few { length result.now ≤ 20 }
 {
-    let start = itoa::write_digits(n, room, 20);
+    let mut start = 20;
+    let mut rest = n;
+    while rest >= 10 {
+        start -= 1;
+        room[start] = b'0' + (rest % 10) as u8;
+        rest /= 10;
+    }
+    start -= 1;
+    room[start] = b'0' + rest as u8;
     &room[start..]
 }
 

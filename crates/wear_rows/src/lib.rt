@@ -142,12 +142,16 @@ pub fn put_sheet(wear: &[u32], out: &mut [u8], at: usize) -> usize
     ensures { Rowed (sheet_room (length wear.now)) (sheet_text wear.now) out.old at out.new result }
 {
     let n = wear.len();
-    let Ok(figures) = counts::report(wear) else {
+    if !models::is_sectors(n) {
         return at;
-    };
+    }
+    // Before the report, which takes the whole table.
     if !fits(at, n, out.len()) {
         return at;
     }
+    let Ok(figures) = counts::report(wear) else {
+        return at;
+    };
     let mut sheet = Sheet::new(out, at);
     sheet.text(b"Wear sheet: erases of each sector\nsector      erases\n");
     put_sectors(wear, figures.largest, &mut sheet);

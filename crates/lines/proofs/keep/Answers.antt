@@ -10,4 +10,4 @@ returns-then-held-used c =
 pub returns : goal.returns
 returns c =
     let a = c.args in
-    kept_copied a.held.now a.part.now _ a.used _ c.min-n.ensures c.if-held-used.false c.copy_from_slice.ensures.after
+    kept_copied a.held.now a.part.now _ a.used _ c.min-n.ensures c.if-held-used.false c.copy.ensures

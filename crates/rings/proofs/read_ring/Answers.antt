@@ -7,4 +7,4 @@ pub loop-run-init : goal.loop-run-init
 loop-run-init c = read_none _ _ _ c.requires
 
 pub loop-run-preserved : goal.loop-run-preserved
-loop-run-preserved c = read_run _ _ c.loop-run.invariant refl (omega arith) c.copy_from_slice.ensures.after
+loop-run-preserved c = read_run _ _ c.loop-run.invariant refl (omega arith) c.copy.ensures

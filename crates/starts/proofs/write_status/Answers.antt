@@ -25,5 +25,5 @@ returns c =
           ∙ ap (λ (x : ℕ). starting given.st x n c.operation_time-time.result) c.byte_at.ensures
           ∙ ap (λ (x : ℕ). starting given.st (get_or bytes 0 0) n x) c.operation_time-time.ensures);
       page-is =
-          ap₂ (λ (z : List ℕ) (k : ℕ). z ++ drop k given.page.now) (c.copy_from_slice.ensures.after ∙ tail-drop 1 bytes) size;
+          ap₂ (λ (z : List ℕ) (k : ℕ). z ++ drop k given.page.now) (c.copy.ensures ∙ tail-drop 1 bytes) size;
     }

@@ -1,11 +1,19 @@
--- `text::digits` meets its contract.
+-- `text::digits` meets its contract: the digits from `start` on stand, and those before them are the digits of the rest.
 use native.Mathlib.Omega.{arith}
-use lib.ListN.{drop_of_length-le}
-use Rattle.text.proofs.TextLaws.{decimal-fits, digits-are}
+use Rattle.text.proofs.TextLaws.{spelt-none, spelt-room, spelt_back, spelt-all}
 use Rattle.text.proofs.digits.Goals as goal
 
-pub write_digits-start-requires : goal.write_digits-start-requires
-write_digits-start-requires c = (decimal-fits c.args.n (omega arith), omega arith)
+pub loop-rest-init : goal.loop-rest-init
+loop-rest-init c = spelt-none c.args.n c.args.room.now (omega arith)
+
+pub loop-rest-preserved : goal.loop-rest-preserved
+loop-rest-preserved c = spelt_back c.loop-rest.invariant (omega arith) (omega arith)
+
+pub overflow_sub-start : goal.overflow_sub-start
+overflow_sub-start c = spelt-room c.loop-rest.invariant
+
+pub overflow_sub-start-2 : goal.overflow_sub-start-2
+overflow_sub-start-2 c = spelt-room c.loop-rest.invariant
 
 pub returns-clause-value : goal.returns-clause-value
-returns-clause-value c = let d = c.write_digits-start.ensures in digits-are c.args.n c.write_digits-start.result _ _ (omega arith) d.start (drop_of_length-le c.args.room.now {i = 20} (omega arith)) d.written
+returns-clause-value c = spelt-all c.loop-rest.invariant c.loop-rest-test.false

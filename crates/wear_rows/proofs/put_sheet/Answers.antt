@@ -15,8 +15,11 @@ use Rattle.wear_rows.proofs.put_sheet.Goals as goal
 pub returns-in_default : goal.returns-in_default
 returns-in_default c = let a = c.args in no-sheet a.wear.now a.out.now a.at (said_no a.wear.now c.in_default.ensures)
 
+pub returns-then-not-is_sectors : goal.returns-then-not-is_sectors
+returns-then-not-is_sectors c = let a = c.args in no-sheet a.wear.now a.out.now a.at (sym c.is_sectors.ensures ∙ c.if-not-is_sectors.true)
+
 pub fits-requires : goal.fits-requires
-fits-requires c = (sectors-range (length c.args.wear.now) (said_yes c.args.wear.now c.in-Ok.ensures).0).1
+fits-requires c = (sectors-range (length c.args.wear.now) (sym c.is_sectors.ensures ∙ c.if-not-is_sectors.false)).1
 
 pub put_sectors-requires : goal.put_sectors-requires
 put_sectors-requires c =

@@ -1,8 +1,8 @@
--- `flash::put` meets its contract.
+-- `parts::copy` meets its contract.
 use mathlib.Core.Path.{refl}
 use native.Mathlib.Omega.{arith}
 use Rattle.parts.proofs.Loop.{done_none, done-step, copied}
-use Rattle.flash.proofs.put.Goals as goal
+use Rattle.parts.proofs.copy.Goals as goal
 
 pub loop-k-init : goal.loop-k-init
 loop-k-init c = done_none _ _
